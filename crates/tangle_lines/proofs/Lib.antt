@@ -1,0 +1,6 @@
+pub mod CuttingLemmas
+pub mod TableLemmas
+pub mod StreamLemmas
+pub mod WaitingLemmas
+pub mod ReadingLemmas
+mod WorkedSources

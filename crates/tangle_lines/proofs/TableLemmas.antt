@@ -1,0 +1,116 @@
+-- A look-up in the table is a look-up among the files.
+use Rattle.std.proofs.Common.{◌≡◌, ℕ, zero, suc, ◌+◌, Bool, true, false, cond, not, List, [], ◌∷◌, ◌++◌, map, refl, sym, ap, ◌∙◌, Option, None, Some, is_some, true≢false, arith, length-append}
+use Rattle.indexmap.specs.IndexMap.{insert_entry}
+use Rattle.tangle_lines.specs.Adding.{is_name, has_file, most_files, most_lines, is_too_long, add_refusal, added, IsWithinLimits}
+use Rattle.std.specs.Option.{option_map}
+use Rattle.std.specs.Prelude.{position, nat_lt, nat_le, length, slice_get, ◌≤◌}
+use Rattle.std.specs.List.{position_or_len, list_any, All}
+use Rattle.std.proofs.lemmas.Bool.{leb-false, ltb-false}
+use Rattle.std.proofs.lemmas.List.{length-map}
+use Rattle.std.proofs.lemmas.List.Elements.{All-append}
+use Rattle.std.specs.Map.{lookup}
+use Rattle.std.specs.Str.{bytes_eq}
+use Rattle.std.specs.declared.vec.Vec.{Vec}
+use Rattle.std.specs.Global.{Global}
+use Rattle.tangle_lines.specs.Lines.{FileTable, file_number, lines_of, lines_at, cut}
+use Rattle.tangle_lines.specs.Table.{Table, file_of, files_of}
+
+-- a choice goes through option_map
+option_map-cond : {X Y : Type 0} (f : X → Y) (b : Bool) (x : X) (o : Option X) (p : Option Y) → p ≡ option_map f o → cond b (Some (f x)) p ≡ option_map f (cond b (Some x) o)
+option_map-cond f true x o p e = refl
+option_map-cond f false x o p e = e
+
+pub lines_of-entries : (name : List ℕ) (es : List (Vec ℕ Global × Vec (List ℕ) Global))
+    → lines_of (map file_of es) name ≡ option_map (λ v. v.items) (lookup (λ k. bytes_eq name k.items) es)
+lines_of-entries name [] = refl
+lines_of-entries name (e ∷ es) = option_map-cond (λ v. v.items) (bytes_eq name e.0.items) e.1 _ _ (lines_of-entries name es)
+
+-- what a choice without a value says
+none_from_cond : {X : Type 0} (b : Bool) (x : X) (o : Option X) → cond b (Some x) o ≡ None → (b ≡ false) × (o ≡ None)
+none_from_cond true x o h = absurd (cc)
+none_from_cond false x o h = (refl, h)
+
+none_from_is_some : {X : Type 0} (o : Option X) → is_some o ≡ false → o ≡ None
+none_from_is_some None h = refl
+none_from_is_some (Some x) h = absurd (true≢false h)
+
+-- what is known of an accepted file
+pub record IsAccepted (files : FileTable) (name bytes : List ℕ) : Type 0 where
+  pub absent : lines_of files name ≡ None
+  pub room : nat_le most_files (length files) ≡ false
+  pub short : list_any is_too_long (cut bytes) ≡ false
+  pub few : nat_lt most_lines (length (cut bytes)) ≡ false
+
+pub accepted : (files : FileTable) (name bytes : List ℕ) → None ≡ add_refusal files name bytes → IsAccepted files name bytes
+accepted files name bytes h =
+    let named = none_from_cond (not (is_name name)) _ _ (sym h) in
+    let new = none_from_cond (has_file files name) _ _ named.1 in
+    let room = none_from_cond (nat_le most_files (length files)) _ _ new.1 in
+    let short = none_from_cond (list_any is_too_long (cut bytes)) _ _ room.1 in
+    let few = none_from_cond (nat_lt most_lines (length (cut bytes))) _ _ short.1 in
+    record { absent = none_from_is_some (lines_of files name) new.0; room = room.0; short = short.0; few = few.0 }
+
+-- one file
+last : (f : List ℕ × List (List ℕ)) → length f.1 ≤ most_lines → All (λ (file : List ℕ × List (List ℕ)). length file.1 ≤ most_lines) (f ∷ [])
+last f few zero d h = few
+last f few (suc k) d h = absurd (omega arith)
+
+-- a file of a table has few enough lines, and one that isn't there has none
+few_lines : (files : FileTable) (n : ℕ) → All (λ (file : List ℕ × List (List ℕ)). length file.1 ≤ most_lines) files → length (lines_at files n) ≤ most_lines
+few_lines [] n h = omega arith
+few_lines (f ∷ fs) zero h = h 0 ([], []) (omega arith)
+few_lines (f ∷ fs) (suc n) h = few_lines fs n (λ k d l. h (suc k) d (omega arith))
+
+-- an entry of the table is the file of its number
+lines_at-entries : (es : List (Vec ℕ Global × Vec (List ℕ) Global)) (n : ℕ) (e : Vec ℕ Global × Vec (List ℕ) Global) → Some e ≡ slice_get es n → e.1.items ≡ lines_at (map file_of es) n
+lines_at-entries [] n e h = absurd (cc)
+lines_at-entries (f ∷ es) zero e h = let same : e ≡ f = cc in ap (λ x. x.1.items) same
+lines_at-entries (f ∷ es) (suc n) e h = lines_at-entries es n e h
+
+pub entry-limit : (t : Table) (n : ℕ) (e : Vec ℕ Global × Vec (List ℕ) Global) → IsWithinLimits (files_of t) → Some e ≡ slice_get t.entries n → length e.1.items ≤ most_lines
+entry-limit t n e within h = rw (lines_at-entries t.entries n e h) (few_lines (files_of t) n within.lines)
+
+-- an accepted file keeps the limits
+pub IsWithinLimits-added : (files : FileTable) (name bytes : List ℕ) → None ≡ add_refusal files name bytes → IsWithinLimits files → IsWithinLimits (added files name bytes)
+IsWithinLimits-added files name bytes h within =
+    let a = accepted files name bytes h in
+    let room = leb-false most_files (length files) a.room in
+    let few = ltb-false most_lines (length (cut bytes)) a.few in
+    record {
+      count = omega (arith, length-append files ((name, cut bytes) ∷ []));
+      lines = All-append (λ file. length file.1 ≤ most_lines) files _ within.lines (last (name, cut bytes) few);
+    }
+
+-- a new file goes last
+map-insert_entry : (es : List (Vec ℕ Global × Vec (List ℕ) Global)) (k : Vec ℕ Global) (v : Vec (List ℕ) Global)
+    → lines_of (map file_of es) k.items ≡ None
+    → map file_of (insert_entry (λ x y. bytes_eq x.items y.items) es k v) ≡ map file_of es ++ (k.items, v.items) ∷ []
+map-insert_entry [] k v none = refl
+map-insert_entry (e ∷ es) k v none =
+    let h = none_from_cond (bytes_eq k.items e.0.items) _ _ none in
+    rw h.0 (ap (λ l. file_of e ∷ l) (map-insert_entry es k v h.1))
+
+pub files_of-added : (files : FileTable) (name bytes : List ℕ) (old new : Table) (k : Vec ℕ Global) (v : Vec (List ℕ) Global)
+    → None ≡ add_refusal files name bytes → files_of old ≡ files → k.items ≡ name → v.items ≡ cut bytes
+    → new.entries ≡ insert_entry (λ x y. bytes_eq x.items y.items) old.entries k v → files_of new ≡ added files name bytes
+files_of-added files name bytes old new k v none is key value inserted =
+    ap (map file_of) inserted
+    ∙ map-insert_entry old.entries k v (rw (key, is) (accepted files name bytes none).absent)
+    ∙ (λ i. is i ++ (key i, value i) ∷ [])
+
+place-entries : (name : List ℕ) (es : List (Vec ℕ Global × Vec (List ℕ) Global))
+    → position_or_len (λ (f : List ℕ × List (List ℕ)). bytes_eq name f.0) (map file_of es) ≡ position_or_len (λ (k : Vec ℕ Global). bytes_eq name k.items) (map (λ e. e.0) es)
+place-entries name [] = refl
+place-entries name (e ∷ es) = ap (λ n. cond (not (bytes_eq name e.0.items)) (1 + n) 0) (place-entries name es)
+
+-- a name stands at the same place in the table as among the files
+pub position-entries : (name : List ℕ) (es : List (Vec ℕ Global × Vec (List ℕ) Global))
+    → position (λ (f : List ℕ × List (List ℕ)). bytes_eq name f.0) (map file_of es) ≡ position (λ (k : Vec ℕ Global). bytes_eq name k.items) (map (λ e. e.0) es)
+position-entries name es =
+    let at = place-entries name es in
+    let len : length (map file_of es) ≡ length (map (λ e. e.0) es) = length-map es file_of ∙ sym (length-map es (λ e. e.0)) in
+    λ i. cond (nat_lt (at i) (len i)) (Some (at i)) None
+
+pub file_number-entries : (t : Table) (files : FileTable) (name : List ℕ) → files_of t ≡ files
+    → file_number files name ≡ position (λ (k : Vec ℕ Global). bytes_eq name k.items) (map (λ e. e.0) t.entries)
+file_number-entries t files name is = rw (← is) (position-entries name t.entries)

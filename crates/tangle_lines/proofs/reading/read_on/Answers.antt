@@ -1,0 +1,44 @@
+use Rattle.std.proofs.Common.{arith, ◌+◌, ◌∷◌, [], ◌++◌, List, ap, sym, ◌∙◌}
+use Rattle.tangle_lines.specs.declared.faults.FaultKind.TheVariants.{SourceTooLong}
+use Rattle.tangle_lines.specs.Faults.{Finding, fault_at}
+use Rattle.tangle_lines.specs.Reading.{Raw, Line, Reads, named, reads_from, before_reads}
+use Rattle.tangle_lines.proofs.ReadingLemmas.{at, so_far-end, so_far-stop, so_far-plain, so_far-used}
+use Rattle.tangle_lines.proofs.reading.read_on.Goals as goal
+
+pub returns-then-taken-ge-LINE_LIMIT-clause-read : goal.returns-then-taken-ge-LINE_LIMIT-clause-read
+returns-then-taken-ge-LINE_LIMIT-clause-read c =
+    let place = ap (λ (r : Raw). r.place) c.line.view_is in
+    let read : List Line = c.loop-line.lines.items in
+    let noted : List Finding = c.loop-line.faults.items in
+    so_far-stop c.args.files.now c.args.change_file _ _ _ _ _ _ c.loop-line.invariant.read c.in-Some.line c.take.new.self c.in-Some.ensures.front c.if-taken-ge-LINE_LIMIT.true
+    ∙ ap (λ (fs : List Finding). let r : Reads = record { lines = read; faults = fs } in r)
+    (ap (λ p. noted ++ fault_at SourceTooLong (named c.args.files.now p) ∷ []) (sym place)
+    ∙ ap (λ n. noted ++ fault_at SourceTooLong (record { file = n; line = c.line.inside.place.line }) ∷ []) (sym c.name_at-file.ensures)
+    ∙ ap (λ (f : Finding). noted ++ f ∷ []) (sym c.in_ok-at.ensures)
+    ∙ sym c.in_ok-push.ensures.items)
+
+pub loop-line-preserved-in-Some-change_at : goal.loop-line-preserved-in-Some-change_at
+loop-line-preserved-in-Some-change_at c = record {
+  read =
+      ap (λ cs. before_reads (record { lines = c.loop-line.lines.items; faults = c.use_change.new.faults.items }) (reads_from c.args.files.now c.args.change_file (at c.use_change.new.waiting cs (c.loop-line.taken + c.in_ok-taken-in-Some-change_at.field-0)))) c.after_first-changes.ensures
+      ∙ so_far-used c.args.files.now c.args.change_file _ _ _ _ _ _ c.loop-line.invariant.read c.in-Some.line c.take.new.self c.in-Some.ensures.front
+      c.in-Some-change_at.change.now c.use_change.new.waiting c.use_change.new.faults.items _ (omega (arith, c.if-taken-ge-LINE_LIMIT.false))
+      c.in-Some-change_at.ensures c.in_ok-taken-in-Some-change_at.ensures.used c.in_ok-taken-in-Some-change_at.ensures.taken;
+  few = omega (arith, c.loop-line.invariant.few);
+  limit = c.loop-line.invariant.limit;
+}
+
+pub loop-line-preserved : goal.loop-line-preserved
+loop-line-preserved c = record {
+  read =
+      so_far-plain c.args.files.now c.args.change_file _ _ _ _ _ _ c.loop-line.invariant.read c.in-Some.line c.take.new.self c.in-Some.ensures.front
+      c.read_plain.new.waiting c.read_plain.new.lines.items c.read_plain.new.faults.items (omega (arith, c.if-taken-ge-LINE_LIMIT.false))
+      c.in-None.ensures c.in_ok-read_plain-in-None.ensures.read;
+  few = omega (arith, c.loop-line.invariant.few, c.in_ok-read_plain-in-None.ensures.one);
+  limit = omega (arith, c.loop-line.invariant.few, c.in_ok-read_plain-in-None.ensures.one, c.if-taken-ge-LINE_LIMIT.false);
+}
+
+pub returns-clause-read : goal.returns-clause-read
+returns-clause-read c =
+    so_far-end c.args.files.now c.args.change_file _ _ _ _ _ _ c.loop-line.invariant.read c.in_default.ensures.none.0
+    ∙ (λ i. record { lines = c.loop-line.lines.items; faults = sym c.in_ok-note_unused.ensures i })

@@ -1,0 +1,91 @@
+-- The changes of a change file, by recursion on its lines.
+use Rattle.std.specs.Prelude.{ℕ, ◌+◌, ◌==◌, List, [], ◌∷◌, ◌++◌, if◌then◌else◌}
+use Rattle.std.specs.List.{list_all}
+use Rattle.tangle_lines.specs.declared.faults.FaultKind.{FaultKind}
+use Rattle.tangle_lines.specs.declared.faults.FaultKind.TheVariants.{StrayMark, MissingY, MissingZ, EmptyOld}
+use Rattle.tangle_lines.specs.Bytes.{at_sign, letter_x, letter_y, letter_z, is_white, is_letter}
+use Rattle.tangle_lines.specs.Change.{Change}
+use Rattle.tangle_lines.specs.declared.changes.Part.{Part}
+use Rattle.tangle_lines.specs.declared.changes.Part.TheVariants.{Outside, InOld, InNew}
+use Rattle.tangle_lines.specs.declared.changes.LineKind.{LineKind}
+use Rattle.tangle_lines.specs.declared.changes.LineKind.TheVariants.{BeginsChange, BeginsNew, EndsChange, IsText}
+use Rattle.tangle_lines.specs.Faults.{Finding, fault_at}
+
+-- what a line of a change file is
+abbrev pub kind_of : List ℕ → LineKind
+kind_of [] = IsText
+kind_of (a ∷ []) = IsText
+kind_of (a ∷ b ∷ bs) =
+    if a == at_sign then (if is_letter letter_x b then BeginsChange else if is_letter letter_y b then BeginsNew else if is_letter letter_z b then EndsChange else IsText)
+    else IsText
+
+-- the changes and the faults that were found
+pub record Found : Type 0 where
+  pub changes : List Change
+  pub faults : List Finding
+
+abbrev pub nothing : Found
+nothing = record { changes = []; faults = [] }
+
+abbrev pub before : Found → Found → Found
+before first rest = record { changes = first.changes ++ rest.changes; faults = first.faults ++ rest.faults }
+
+-- a change of which no line was read
+abbrev pub begun : ℕ → Change
+begun n = record { at = n; old_lines = []; new_lines = [] }
+
+-- a change that has come to its end: without old lines it is dropped
+abbrev pub closed_by : List (List ℕ) → Change → List Change
+closed_by [] c = []
+closed_by (o ∷ os) c = c ∷ []
+
+abbrev pub closed : Change → List Change
+closed c = closed_by c.old_lines c
+
+module _ (file : List ℕ) where
+  abbrev pub fault_on : FaultKind → ℕ → Found
+  fault_on kind n = record { changes = []; faults = fault_at kind (record { file = file; line = n }) ∷ [] }
+
+  -- the end of an old part
+  abbrev pub old_ended : ℕ → List (List ℕ) → Found
+  old_ended at [] = fault_on EmptyOld at
+  old_ended at (o ∷ os) = nothing
+
+  -- an old line: blank ones directly after the @x line are skipped
+  abbrev pub with_old : List (List ℕ) → List ℕ → List (List ℕ)
+  with_old [] line = if list_all is_white line then [] else line ∷ []
+  with_old (o ∷ os) line = (o ∷ os) ++ line ∷ []
+
+  -- a fault, and the changes that come with it
+  abbrev pub fault_with : FaultKind → ℕ → List Change → Found
+  fault_with kind n changes = record { changes = changes; faults = fault_at kind (record { file = file; line = n }) ∷ [] }
+
+  -- what the line of number n makes: the part after it, and what is found there
+  abbrev pub next_part : Part → ℕ → List ℕ → LineKind → Part × Found
+  next_part Outside n line BeginsChange = (InOld (begun n), nothing)
+  next_part Outside n line BeginsNew = (Outside, fault_on StrayMark n)
+  next_part Outside n line EndsChange = (Outside, fault_on StrayMark n)
+  next_part Outside n line IsText = (Outside, nothing)
+  next_part (InOld c) n line BeginsChange = (InOld (begun n), fault_on MissingY c.at)
+  next_part (InOld c) n line BeginsNew = (InNew c, old_ended c.at c.old_lines)
+  next_part (InOld c) n line EndsChange = (Outside, fault_on MissingY c.at)
+  next_part (InOld c) n line IsText = (InOld (record c { old_lines = with_old c.old_lines line }), nothing)
+  next_part (InNew c) n line BeginsChange = (InOld (begun n), fault_with MissingZ c.at (closed c))
+  next_part (InNew c) n line BeginsNew = (InNew c, fault_on StrayMark n)
+  next_part (InNew c) n line EndsChange = (Outside, record { changes = closed c; faults = [] })
+  next_part (InNew c) n line IsText = (InNew (record c { new_lines = c.new_lines ++ (n, line) ∷ [] }), nothing)
+
+  -- what the end of the file makes
+  abbrev pub at_end : Part → Found
+  at_end Outside = nothing
+  at_end (InOld c) = fault_on MissingY c.at
+  at_end (InNew c) = fault_with MissingZ c.at (closed c)
+
+  abbrev pub changes_from : Part → ℕ → List (List ℕ) → Found
+  changes_from part n [] = at_end part
+  changes_from part n (line ∷ lines) =
+      before (next_part part n line (kind_of line)).1 (changes_from (next_part part n line (kind_of line)).0 (n + 1) lines)
+
+  -- the changes of the change file with these lines, and its faults in the order in which they are found
+  abbrev pub changes_of : List (List ℕ) → Found
+  changes_of lines = changes_from Outside 1 lines

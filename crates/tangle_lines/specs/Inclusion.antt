@@ -1,0 +1,22 @@
+-- The name that a line includes.
+use Rattle.std.specs.Prelude.{ℕ, ◌==◌, ◌&&◌, ◌||◌, List, [], ◌∷◌, if◌then◌else◌, Option, None, Some}
+use Rattle.std.specs.List.{before_first}
+use Rattle.tangle_lines.specs.Bytes.{at_sign, double_quote, letter_i, is_white, is_letter}
+
+-- the bytes from the first one on that isn't white space
+abbrev pub after_white : List ℕ → List ℕ
+after_white [] = []
+after_white (b ∷ bs) = if is_white b then after_white bs else b ∷ bs
+
+-- the name in what follows @i: up to the next quote if it begins with one, else up to white space or a quote
+abbrev pub name_in : List ℕ → List ℕ
+name_in [] = []
+name_in (b ∷ bs) =
+    if b == double_quote then before_first (λ c. c == double_quote) bs
+    else before_first (λ c. is_white c || (c == double_quote)) (b ∷ bs)
+
+-- the name of an inclusion, which may be empty; no other line has one
+abbrev pub included_name : List ℕ → Option (List ℕ)
+included_name [] = None
+included_name (a ∷ []) = None
+included_name (a ∷ b ∷ bs) = if (a == at_sign) && is_letter letter_i b then Some (name_in (after_white bs)) else None

@@ -1,0 +1,14 @@
+pub mod Bytes
+pub mod Lines
+pub mod Adding
+pub mod Roles
+pub mod Faults
+pub mod FaultText
+pub mod Streams
+pub mod Change
+pub mod Changes
+pub mod Inclusion
+pub mod Reading
+pub mod ReadingLaw
+pub mod Waiting
+pub mod Table

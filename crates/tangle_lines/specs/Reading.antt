@@ -1,0 +1,192 @@
+-- Reading: the source lines and the faults of files, a web and a change file.
+use Rattle.std.specs.Prelude.{ℕ, ◌+◌, ◌-◌, Bool, true, false, ◌==◌, ◌&&◌, not, nat_lt, min, length, drop, List, [], ◌∷◌, ◌++◌, if◌then◌else◌, suc, zero, Option, None, Some}
+use Rattle.std.specs.Str.{bytes_eq}
+use Rattle.tangle_lines.specs.declared.faults.FaultKind.TheVariants.{IncludeNoName, IncludeMissing, IncludeTooDeep, ChangeMismatch, SourceTooLong, ChangeUnused}
+use Rattle.tangle_lines.specs.declared.faults.Origin.{Origin}
+use Rattle.tangle_lines.specs.Lines.{FileTable, file_number, number_of, name_at, lines_at}
+use Rattle.tangle_lines.specs.Roles.{RoleNames}
+use Rattle.tangle_lines.specs.Faults.{Spot, Finding, fault_at, fault_about, fault_counting}
+use Rattle.tangle_lines.specs.Change.{Change}
+use Rattle.tangle_lines.specs.Changes.{Found, nothing, changes_of}
+use Rattle.tangle_lines.specs.Inclusion.{included_name}
+
+-- the most files that may be open at once, the web counted
+abbrev pub depth_limit : ℕ
+depth_limit = 10
+
+-- the most lines that are taken
+abbrev pub line_limit : ℕ
+line_limit = 2000000
+
+-- a place with its file's name
+abbrev pub named : FileTable → Origin → Spot
+named files origin = record { file = name_at files origin.file; line = origin.line }
+
+-- a line that waits to be read; it is marked if it comes from the change file, or from a file that a marked line includes
+pub record Raw : Type 0 where
+  pub bytes : List ℕ
+  pub place : Origin
+  pub marked : Bool
+  pub depth : ℕ
+
+-- a source line
+pub record Line : Type 0 where
+  pub bytes : List ℕ
+  pub place : Origin
+  pub marked : Bool
+
+-- what is read: source lines, and the faults of change file and reading
+pub record Reads : Type 0 where
+  pub lines : List Line
+  pub faults : List Finding
+
+abbrev pub before_reads : Reads → Reads → Reads
+before_reads first rest = record { lines = first.lines ++ rest.lines; faults = first.faults ++ rest.faults }
+
+-- the lines of a file, numbered from n on
+abbrev pub numbered : ℕ → Bool → ℕ → ℕ → List (List ℕ) → List Raw
+numbered file marked depth n [] = []
+numbered file marked depth n (l ∷ ls) =
+    record { bytes = l; place = record { file = file; line = n }; marked = marked; depth = depth } ∷ numbered file marked depth (n + 1) ls
+
+-- the new lines of a change
+abbrev pub change_lines : ℕ → ℕ → List (ℕ × List ℕ) → List Raw
+change_lines file depth [] = []
+change_lines file depth (l ∷ ls) =
+    record { bytes = l.1; place = record { file = file; line = l.0 }; marked = true; depth = depth } ∷ change_lines file depth ls
+
+-- the line equals the first old line
+abbrev pub begins : List (List ℕ) → List ℕ → Bool
+begins [] line = false
+begins (o ∷ os) line = bytes_eq line o
+
+-- the first change that isn't used yet, if it is used at this line
+abbrev pub change_here : List Change → Raw → Option Change
+change_here [] w = None
+change_here (c ∷ cs) w = if not w.marked && begins c.old_lines w.bytes then Some c else None
+
+-- 1 if the old line has no line or an unequal one
+abbrev pub unequal_front : List ℕ → List Raw → ℕ
+unequal_front o [] = 1
+unequal_front o (w ∷ ws) = if bytes_eq w.bytes o then 0 else 1
+
+-- how many of the old lines have no line or an unequal one
+abbrev pub unequal_lines : List (List ℕ) → List Raw → ℕ
+unequal_lines [] ws = 0
+unequal_lines (o ∷ os) ws = unequal_front o ws + unequal_lines os (drop 1 ws)
+
+abbrev pub mismatch_faults : Spot → ℕ → List Finding
+mismatch_faults spot n = if n == 0 then [] else fault_counting ChangeMismatch spot n ∷ []
+
+-- where reading stands: the lines that wait, the changes not yet used, and how many lines were taken
+pub record State : Type 0 where
+  pub waiting : List Raw
+  pub changes : List Change
+  pub taken : ℕ
+
+-- one step of reading: it ends, or puts out source lines and faults and goes on
+pub data Step : Type 0 where
+  Ends : List Finding → Step
+  Goes : Reads → State → Step
+
+module _ (files : FileTable) where
+  -- the lines that stand in place of an inclusion of the file of this name and number, or the first fault that applies
+  abbrev pub included : Raw → List ℕ → Option ℕ → (List Raw × List Finding)
+  included w name None = ([], fault_about IncludeMissing (named files w.place) name ∷ [])
+  included w name (Some n) =
+      if nat_lt w.depth depth_limit then (numbered n w.marked (w.depth + 1) 1 (lines_at files n), [])
+      else ([], fault_at IncludeTooDeep (named files w.place) ∷ [])
+
+  abbrev pub inclusion : Raw → List ℕ → (List Raw × List Finding)
+  inclusion w [] = ([], fault_at IncludeNoName (named files w.place) ∷ [])
+  inclusion w (b ∷ bs) = included w (b ∷ bs) (file_number files (b ∷ bs))
+
+  -- a line that no change takes is a source line or an inclusion
+  abbrev pub plain_step : Raw → List Raw → List Change → ℕ → Option (List ℕ) → Step
+  plain_step w ws changes taken None =
+      Goes (record { lines = record { bytes = w.bytes; place = w.place; marked = w.marked } ∷ []; faults = [] })
+      (record { waiting = ws; changes = changes; taken = taken + 1 })
+  plain_step w ws changes taken (Some name) =
+      Goes (record { lines = []; faults = (inclusion w name).1 })
+      (record { waiting = (inclusion w name).0 ++ ws; changes = changes; taken = taken + 1 })
+
+module _ (files : FileTable) (change_file : ℕ) where
+  -- the place of a change
+  abbrev pub change_spot : Change → Spot
+  change_spot c = named files (record { file = change_file; line = c.at })
+
+  -- the first of the changes that are left was not used
+  abbrev pub unused_faults : List Change → List Finding
+  unused_faults [] = []
+  unused_faults (c ∷ cs) = fault_at ChangeUnused (change_spot c) ∷ []
+
+  -- a change that is used takes as many lines as it has old lines, and its new lines wait in their place
+  abbrev pub change_step : Change → List Change → Raw → List Raw → ℕ → Step
+  change_step c cs w ws taken =
+      let lines = min (length c.old_lines) (length (w ∷ ws)) in
+      Goes (record { lines = []; faults = mismatch_faults (change_spot c) (unequal_lines (drop 1 c.old_lines) ws) })
+      (record { waiting = change_lines change_file w.depth c.new_lines ++ drop lines (w ∷ ws); changes = cs; taken = taken + lines })
+
+  -- a change that is used here comes before inclusion
+  abbrev pub line_step : Raw → List Raw → List Change → ℕ → Option Change → Step
+  line_step w ws changes taken None = plain_step files w ws changes taken (included_name w.bytes)
+  line_step w ws changes taken (Some c) = change_step c (drop 1 changes) w ws taken
+
+  -- the end comes when no line waits, or at the limit
+  abbrev pub step_of : List Raw → List Change → ℕ → Step
+  step_of [] changes taken = Ends (unused_faults changes)
+  step_of (w ∷ ws) changes taken =
+      if nat_lt taken line_limit then line_step w ws changes taken (change_here changes w)
+      else Ends (fault_at SourceTooLong (named files w.place) ∷ [])
+
+  -- what a step puts out, and then what the rest puts out
+  abbrev pub after : Step → (State → Reads) → Reads
+  after (Ends faults) rest = record { lines = []; faults = faults }
+  after (Goes out s) rest = before_reads out (rest s)
+
+  -- reading by at most this many steps
+  unfoldable pub reads_in : ℕ → State → Reads
+  reads_in zero s = record { lines = []; faults = [] }
+  reads_in (suc n) s = after (step_of s.waiting s.changes s.taken) (λ t. reads_in n t)
+
+  -- reading to its end: each step takes a line at least, and the step at the limit is the last,
+  -- so that these are enough (reads_from-step in proofs/ReadingLemmas)
+  abbrev pub reads_from : State → Reads
+  reads_from s = reads_in (suc (line_limit - s.taken)) s
+
+-- reading of the web with these changes, of the change file of this number
+abbrev pub reads_web : FileTable → ℕ → ℕ → Found → Reads
+reads_web files web change found =
+    before_reads (record { lines = []; faults = found.faults })
+    (reads_from files change (record { waiting = numbered web false 1 1 (lines_at files web); changes = found.changes; taken = 0 }))
+
+-- the number of the change file, if there is one
+abbrev pub change_number : FileTable → Option (List ℕ) → ℕ
+change_number files None = 0
+change_number files (Some name) = number_of files name
+
+-- what the change file says, if there is one
+abbrev pub changes_in : FileTable → Option (List ℕ) → Found
+changes_in files None = nothing
+changes_in files (Some name) = changes_of (name_at files (number_of files name)) (lines_at files (number_of files name))
+
+-- what reading of the files gives, by the names of the web and the change file
+abbrev pub reads : FileTable → List ℕ → Option (List ℕ) → Reads
+reads files web change = reads_web files (number_of files web) (change_number files change) (changes_in files change)
+
+-- a source: the files, its lines and its faults
+pub record SourceRead : Type 0 where
+  pub files : FileTable
+  pub lines : List Line
+  pub faults : List Finding
+
+abbrev pub with_files : FileTable → Reads → SourceRead
+with_files files r = record { files = files; lines = r.lines; faults = r.faults }
+
+-- the source that the files and the roles make
+abbrev pub source_of : FileTable → RoleNames → SourceRead
+source_of files roles = with_files files (reads files roles.web roles.change)
+
+-- what is read from a source without that line
+abbrev pub no_line : Line
+no_line = record { bytes = []; place = record { file = 0; line = 0 }; marked = false }

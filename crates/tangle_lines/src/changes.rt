@@ -1,0 +1,309 @@
+//! The changes of a change file.
+ghost use Rattle.std.specs.Prelude.{◌≡◌, ◌+◌, ◌≤◌, [], ◌∷◌, ◌++◌, length, map, IfOk, OnOk, IsTrue, ◌↔◌};
+ghost use Rattle.std.specs.List.{list_all};
+ghost use Rattle.tangle_lines.specs.Adding.{most_lines};
+ghost use Rattle.tangle_lines.specs.Bytes.{is_white};
+ghost use Rattle.tangle_lines.specs.Changes.{kind_of, next_part, closed, at_end, changes_of as changes_found};
+ghost use Rattle.tangle_lines.specs.declared.changes.Part.TheVariants.{Outside, InOld, InNew};
+
+use crate::cutting::Line;
+use crate::faults::{Fault, FaultKind};
+use crate::inclusion::is_white_byte;
+use crate::refusal::NoMemory;
+use std::alloc::Global;
+use std::marker::Model;
+
+/// What a line of a change file is, by its first two bytes.
+#[derive(Clone, Copy, Debug, PartialEq, Eq)]
+pub enum LineKind {
+    /// `@x`
+    BeginsChange,
+    /// `@y`
+    BeginsNew,
+    /// `@z`
+    EndsChange,
+    IsText,
+}
+
+/// A change, from its `@x` line on. Its lines are those of the change file.
+#[derive(Drop)]
+pub struct Change<'a> {
+    at: u32,
+    old_lines: Vec<&'a Line>,
+    new_lines: Vec<(u32, &'a Line)>,
+}
+
+impl<'a> Model for Change<'a> {
+    ghost use Rattle.std.specs.Prelude.{map};
+    ghost use Rattle.tangle_lines.specs.Change.{Change as ChangeFound};
+
+    ghost Value = { ChangeFound };
+
+    ghost view = { λ c. record {
+      at = c.at;
+      old_lines = map (λ l. l.now) c.old_lines.items;
+      new_lines = map (λ l. (l.0, l.1.now)) c.new_lines.items;
+    } };
+}
+
+impl<'a> Change<'a> {
+    /// A change without lines.
+    fn new(alloc: Global, at: u32) -> Self
+        ensures { result ≡ record { at = at; old_lines = []; new_lines = [] } }
+    {
+        Change {
+            at,
+            old_lines: Vec::new(alloc),
+            new_lines: Vec::new(alloc),
+        }
+    }
+
+    /// Adds an old line.
+    fn add_old(&mut self, line: &'a Line) -> Result<(), NoMemory>
+        ensures { OnOk result (self.new ≡ record self.old { old_lines = self.old.old_lines ++ line.entry.now ∷ [] }) }
+    {
+        self.old_lines.push(line)?;
+        Ok(())
+    }
+
+    /// Adds a new line with its number.
+    fn add_new(&mut self, number: u32, line: &'a Line) -> Result<(), NoMemory>
+        ensures { OnOk result (self.new ≡ record self.old { new_lines = self.old.new_lines ++ (number, line.entry.now) ∷ [] }) }
+    {
+        self.new_lines.push((number, line))?;
+        Ok(())
+    }
+
+    /// The number of its `@x` line.
+    pub(crate) fn at(&self) -> u32
+        ensures { result ≡ self.now.at }
+    {
+        self.at
+    }
+
+    /// The old lines.
+    pub(crate) fn old_lines(&self) -> &[&'a Line]
+        ensures { map (λ l. l.now) result.now ≡ self.now.old_lines }
+    {
+        self.old_lines.as_slice()
+    }
+
+    /// The new lines, with their numbers.
+    pub(crate) fn new_lines(&self) -> &[(u32, &'a Line)]
+        ensures { map (λ l. (l.0, l.1.now)) result.now ≡ self.now.new_lines }
+    {
+        self.new_lines.as_slice()
+    }
+
+    /// Whether there is no old line.
+    fn is_empty(&self) -> bool
+        ensures { IsTrue result ↔ (self.now.old_lines ≡ []) }
+    {
+        self.old_lines.is_empty()
+    }
+}
+
+/// Where in the change file a line stands.
+#[derive(Drop)]
+pub enum Part<'a> {
+    Outside,
+    InOld(Change<'a>),
+    InNew(Change<'a>),
+}
+
+/// The changes of the change file of this name, whose faults are added to the others as they are found.
+pub(crate) fn changes_of<'a>(
+    alloc: Global,
+    file: &[u8],
+    lines: &'a [Line],
+    faults: &mut Vec<Fault>,
+) -> Result<Vec<Change<'a>>, NoMemory>
+    requires { length lines.now ≤ most_lines }
+    ensures changes { IfOk result (λ cs. cs.items ≡ (changes_found file.now lines.entry.now).changes) }
+    ensures faults { OnOk result (faults.new.items ≡ faults.old.items ++ (changes_found file.now lines.entry.now).faults) }
+{
+    let mut changes = Vec::new(alloc);
+    let mut part = Part::Outside;
+    let mut number = 0u32;
+    let mut rest = lines;
+    while let [line, others @ ..] = rest {
+        number += 1;
+        part = next(alloc, file, part, number, line, &mut changes, faults)?;
+        rest = others;
+    }
+    finish(alloc, file, part, &mut changes, faults)?;
+    Ok(changes)
+}
+
+/// What a line makes: the part that goes on after it, and what is found there.
+fn next<'a>(
+    alloc: Global,
+    file: &[u8],
+    part: Part<'a>,
+    number: u32,
+    line: &'a Line,
+    changes: &mut Vec<Change<'a>>,
+    faults: &mut Vec<Fault>,
+) -> Result<Part<'a>, NoMemory>
+    ensures part { IfOk result (λ p. p ≡ (next_part file.now part.entry number line.entry.now (kind_of line.entry.now)).0) }
+    ensures changes { OnOk result (changes.new.items ≡ changes.old.items ++ (next_part file.now part.entry number line.entry.now (kind_of line.entry.now)).1.changes) }
+    ensures faults { OnOk result (faults.new.items ≡ faults.old.items ++ (next_part file.now part.entry number line.entry.now (kind_of line.entry.now)).1.faults) }
+{
+    let kind = line_kind(line.bytes());
+    match part {
+        Part::Outside => next_outside(alloc, file, number, kind, faults),
+        Part::InOld(change) => next_in_old(alloc, file, change, number, line, kind, faults),
+        Part::InNew(change) => next_in_new(
+            alloc, file, change, number, line, kind, changes, faults,
+        ),
+    }
+}
+
+/// What a line outside of changes makes.
+fn next_outside<'a>(
+    alloc: Global,
+    file: &[u8],
+    number: u32,
+    kind: LineKind,
+    faults: &mut Vec<Fault>,
+) -> Result<Part<'a>, NoMemory>
+    ensures part { IfOk result (λ p. p ≡ (next_part file.now Outside number [] kind).0) }
+    ensures faults { OnOk result (faults.new.items ≡ faults.old.items ++ (next_part file.now Outside number [] kind).1.faults) }
+{
+    match kind {
+        LineKind::BeginsChange => Ok(Part::InOld(Change::new(alloc, number))),
+        LineKind::IsText => Ok(Part::Outside),
+        LineKind::BeginsNew | LineKind::EndsChange => {
+            faults.push(Fault::at(alloc, FaultKind::StrayMark, file, number)?)?;
+            Ok(Part::Outside)
+        }
+    }
+}
+
+/// What a line in the old part of a change makes.
+fn next_in_old<'a>(
+    alloc: Global,
+    file: &[u8],
+    change: Change<'a>,
+    number: u32,
+    line: &'a Line,
+    kind: LineKind,
+    faults: &mut Vec<Fault>,
+) -> Result<Part<'a>, NoMemory>
+    ensures part { IfOk result (λ p. p ≡ (next_part file.now (InOld change.entry) number line.entry.now kind).0) }
+    ensures faults { OnOk result (faults.new.items ≡ faults.old.items ++ (next_part file.now (InOld change.entry) number line.entry.now kind).1.faults) }
+{
+    let mut change = change;
+    match kind {
+        LineKind::BeginsChange => {
+            faults.push(Fault::at(alloc, FaultKind::MissingY, file, change.at)?)?;
+            Ok(Part::InOld(Change::new(alloc, number)))
+        }
+        LineKind::EndsChange => {
+            faults.push(Fault::at(alloc, FaultKind::MissingY, file, change.at)?)?;
+            Ok(Part::Outside)
+        }
+        LineKind::BeginsNew => {
+            if change.is_empty() {
+                faults.push(Fault::at(alloc, FaultKind::EmptyOld, file, change.at)?)?;
+            }
+            Ok(Part::InNew(change))
+        }
+        LineKind::IsText => {
+            if !change.is_empty() || !is_blank(line.bytes()) {
+                change.add_old(line)?;
+            }
+            Ok(Part::InOld(change))
+        }
+    }
+}
+
+/// What a line in the new part of a change makes.
+fn next_in_new<'a>(
+    alloc: Global,
+    file: &[u8],
+    change: Change<'a>,
+    number: u32,
+    line: &'a Line,
+    kind: LineKind,
+    changes: &mut Vec<Change<'a>>,
+    faults: &mut Vec<Fault>,
+) -> Result<Part<'a>, NoMemory>
+    ensures part { IfOk result (λ p. p ≡ (next_part file.now (InNew change.entry) number line.entry.now kind).0) }
+    ensures changes { OnOk result (changes.new.items ≡ changes.old.items ++ (next_part file.now (InNew change.entry) number line.entry.now kind).1.changes) }
+    ensures faults { OnOk result (faults.new.items ≡ faults.old.items ++ (next_part file.now (InNew change.entry) number line.entry.now kind).1.faults) }
+{
+    let mut change = change;
+    match kind {
+        LineKind::BeginsChange => {
+            faults.push(Fault::at(alloc, FaultKind::MissingZ, file, change.at)?)?;
+            keep(change, changes)?;
+            Ok(Part::InOld(Change::new(alloc, number)))
+        }
+        LineKind::BeginsNew => {
+            faults.push(Fault::at(alloc, FaultKind::StrayMark, file, number)?)?;
+            Ok(Part::InNew(change))
+        }
+        LineKind::EndsChange => {
+            keep(change, changes)?;
+            Ok(Part::Outside)
+        }
+        LineKind::IsText => {
+            change.add_new(number, line)?;
+            Ok(Part::InNew(change))
+        }
+    }
+}
+
+/// What the end of the change file makes.
+fn finish<'a>(
+    alloc: Global,
+    file: &[u8],
+    part: Part<'a>,
+    changes: &mut Vec<Change<'a>>,
+    faults: &mut Vec<Fault>,
+) -> Result<(), NoMemory>
+    ensures changes { OnOk result (changes.new.items ≡ changes.old.items ++ (at_end file.now part.entry).changes) }
+    ensures faults { OnOk result (faults.new.items ≡ faults.old.items ++ (at_end file.now part.entry).faults) }
+{
+    match part {
+        Part::Outside => Ok(()),
+        Part::InOld(change) => {
+            faults.push(Fault::at(alloc, FaultKind::MissingY, file, change.at)?)?;
+            Ok(())
+        }
+        Part::InNew(change) => {
+            faults.push(Fault::at(alloc, FaultKind::MissingZ, file, change.at)?)?;
+            keep(change, changes)
+        }
+    }
+}
+
+/// Adds a change that has come to its end, unless it has no old lines.
+fn keep<'a>(change: Change<'a>, changes: &mut Vec<Change<'a>>) -> Result<(), NoMemory>
+    ensures { OnOk result (changes.new.items ≡ changes.old.items ++ closed change.entry) }
+{
+    if !change.is_empty() {
+        changes.push(change)?;
+    }
+    Ok(())
+}
+
+/// What the line is.
+fn line_kind(line: &[u8]) -> LineKind
+    ensures { result ≡ kind_of line.now }
+{
+    match line {
+        [b'@', b'x' | b'X', ..] => LineKind::BeginsChange,
+        [b'@', b'y' | b'Y', ..] => LineKind::BeginsNew,
+        [b'@', b'z' | b'Z', ..] => LineKind::EndsChange,
+        _ => LineKind::IsText,
+    }
+}
+
+/// Whether the line is empty or of white space alone.
+fn is_blank(line: &[u8]) -> bool
+    ensures { result ≡ list_all is_white line.now }
+{
+    line.iter().all(|b| is_white_byte(*b))
+}

@@ -1,0 +1,182 @@
+//! The table of files.
+ghost use Rattle.std.specs.Prelude.{◌≡◌, ◌≤◌, [], length, slice_get, OnOk, OnErr, IsOkUnless, IfSome, IfNone, Err};
+ghost use Rattle.std.specs.Option.{option_copied, option_map};
+ghost use Rattle.tangle_lines.specs.Lines.{file_number, number_of, name_at as name_in_table, lines_at as lines_in_table, lines_of};
+ghost use Rattle.tangle_lines.specs.Adding.{added, add_refusal, has_file, is_name, most_files, most_lines};
+
+use crate::cutting::{Line, cut_lines, measure_lines};
+use crate::refusal::Refusal;
+use indexmap::IndexMap;
+use std::alloc::Global;
+use std::marker::Model;
+
+/// The most bytes of a file's name.
+const LONGEST_NAME: usize = 255;
+
+/// The most files of a table.
+const MOST_FILES: usize = 256;
+
+/// The most lines of a file.
+const MOST_LINES: usize = 1_000_000;
+
+/// Files with distinct names and their lines, in the order in which they were added: at most 256 files, each of
+/// at most 1,000,000 lines. A file's number is its place in that order, from 0.
+#[derive(Drop)]
+pub struct Files {
+    table: IndexMap<Vec<u8>, Vec<Line>>,
+}
+
+impl Model for Files {
+    ghost use Rattle.tangle_lines.specs.Lines.{FileTable};
+
+    ghost Value = { FileTable };
+
+    ghost use Rattle.tangle_lines.specs.Adding.{IsWithinLimits};
+    ghost use Rattle.tangle_lines.specs.Table.{files_of};
+
+    ghost view = { λ f. files_of f.table };
+
+    ghost invariant = { λ f. IsWithinLimits (files_of f.table) };
+}
+
+impl Files {
+    /// A table without files. It takes no memory yet.
+    pub fn new(alloc: Global) -> Self
+        ensures { result ≡ [] }
+    {
+        Files {
+            table: IndexMap::new(alloc),
+        }
+    }
+
+    /// Adds a file as the last one. Its bytes are cut at line feeds: a last line without one is a line, and no bytes
+    /// give no lines. Trailing spaces of a line are dropped.
+    ///
+    /// # Errors
+    ///
+    /// The first of these that applies, and then the table stays as it was: `BadName` for a name that is empty, longer
+    /// than 255 bytes or has a line feed; `FileExists`; `TooManyFiles` at 256 files; `LineTooLong` for a line of more
+    /// than 65,535 bytes; `TooManyLines` for more than 1,000,000 lines; `NoMemory`.
+    pub fn add(&mut self, name: &[u8], bytes: &[u8]) -> Result<(), Refusal>
+        ensures ok { OnOk result (self.new ≡ added self.old name.now bytes.now) }
+        ensures refused { IfSome (add_refusal self.old name.now bytes.now) (λ e. result ≡ Err e) }
+        ensures only { IfNone (add_refusal self.old name.now bytes.now) (IsOkUnless result Refusal.NoMemory) }
+        ensures err { OnErr result (self.new ≡ self.old) }
+    {
+        match self.refusal_to_add(name, bytes) {
+            Some(refusal) => return Err(refusal),
+            None => {}
+        }
+        let alloc = *self.table.allocator();
+        let lines = cut_lines(alloc, bytes)?;
+        let name = Vec::from_slice(alloc, name)?;
+        self.table.insert(name, lines)?;
+        Ok(())
+    }
+
+    /// Why a file is not to be added, but for want of memory.
+    fn refusal_to_add(&self, name: &[u8], bytes: &[u8]) -> Option<Refusal>
+        ensures { result ≡ add_refusal self.now name.now bytes.now }
+    {
+        if !is_file_name(name) {
+            return Some(Refusal::BadName);
+        }
+        if self.has(name) {
+            return Some(Refusal::FileExists);
+        }
+        if self.count() >= MOST_FILES {
+            return Some(Refusal::TooManyFiles);
+        }
+        let lines = measure_lines(bytes);
+        if lines.is_too_long {
+            return Some(Refusal::LineTooLong);
+        }
+        if lines.count > MOST_LINES {
+            return Some(Refusal::TooManyLines);
+        }
+        None
+    }
+
+    /// How many files there are: at most 256.
+    pub fn count(&self) -> usize
+        ensures count { result ≡ length self.now }
+        ensures limit { result ≤ most_files }
+    {
+        self.table.len()
+    }
+
+    /// The name of the file of this number, from 0 on.
+    pub fn name(&self, number: usize) -> Option<&[u8]>
+        ensures { option_copied result ≡ option_map (λ f. f.0) (slice_get self.now number) }
+    {
+        match self.table.get_index(number) {
+            Some((name, _)) => Some(name.as_slice()),
+            None => None,
+        }
+    }
+
+    /// The lines of the file of this name.
+    pub fn lines(&self, name: &[u8]) -> Option<&[Line]>
+        ensures { option_copied result ≡ lines_of self.now name.now }
+    {
+        match self.table.get(name) {
+            Some(lines) => Some(lines.as_slice()),
+            None => None,
+        }
+    }
+
+    /// Whether there is a file of this name.
+    fn has(&self, name: &[u8]) -> bool
+        ensures { result ≡ has_file self.now name.now }
+    {
+        self.lines(name).is_some()
+    }
+
+    /// The number of the file of this name.
+    pub(crate) fn find(&self, name: &[u8]) -> Option<u16>
+        ensures { result ≡ file_number self.now name.now }
+    {
+        match self.table.get_index_of(name) {
+            Some(number) => Some(number as u16),
+            None => None,
+        }
+    }
+
+    /// The number of the file of this name, or the count of files, which is no file's number.
+    pub(crate) fn find_or_count(&self, name: &[u8]) -> u16
+        ensures { result ≡ number_of self.now name.now }
+    {
+        match self.find(name) {
+            Some(number) => number,
+            None => self.count() as u16,
+        }
+    }
+
+    /// The name of the file of this number: no bytes if there is none.
+    pub(crate) fn name_at(&self, number: u16) -> &[u8]
+        ensures { result.now ≡ name_in_table self.now number }
+    {
+        match self.table.get_index(number as usize) {
+            Some((name, _)) => name.as_slice(),
+            None => &[],
+        }
+    }
+
+    /// The lines of the file of this number: none if there is none.
+    pub(crate) fn lines_at(&self, number: u16) -> &[Line]
+        ensures lines { result.now ≡ lines_in_table self.now number }
+        ensures limit { length result.now ≤ most_lines }
+    {
+        match self.table.get_index(number as usize) {
+            Some((_, lines)) => lines.as_slice(),
+            None => &[],
+        }
+    }
+}
+
+/// Whether the bytes are a file's name.
+pub(crate) fn is_file_name(name: &[u8]) -> bool
+    ensures { result ≡ is_name name.now }
+{
+    0 < name.len() && name.len() <= LONGEST_NAME && !name.contains(&b'\n')
+}

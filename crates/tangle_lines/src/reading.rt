@@ -1,0 +1,336 @@
+//! Reading of a web over open files.
+ghost use Rattle.std.specs.Prelude.{◌≡◌, ℕ, ◌+◌, ◌^◌, ◌<◌, ◌≤◌, [], ◌∷◌, ◌++◌, length, min, drop, map, true, IfOk, OnOk};
+ghost use Rattle.std.specs.Option.{option_copied};
+ghost use Rattle.tangle_lines.specs.Lines.{FileTable};
+ghost use Rattle.tangle_lines.specs.Roles.{fits};
+ghost use Rattle.tangle_lines.specs.ReadingLaw.{ReadsByStep};
+ghost use Rattle.tangle_lines.specs.Reading.{State, line_limit, inclusion, reads_from, before_reads, change_number, changes_in, source_of, begins, change_here, unequal_front, unequal_lines, mismatch_faults, unused_faults};
+ghost use Rattle.tangle_lines.specs.Waiting.{IsPlain, IsUsed};
+
+use crate::changes::{Change, changes_of};
+use crate::cutting::Line;
+use crate::faults::{Fault, FaultKind};
+use crate::files::Files;
+use crate::inclusion::included_name;
+use crate::refusal::NoMemory;
+use crate::roles::Roles;
+use crate::source::{Source, SourceLine};
+use crate::waiting::{OpenFile, RawLine, Waiting};
+use std::alloc::Global;
+
+/// The most files that may be open at once, the web counted.
+const DEPTH_LIMIT: u8 = 10;
+
+/// The most lines that are taken.
+const LINE_LIMIT: usize = 2_000_000;
+
+/// Reads the web of these roles with its change file: each inclusion is replaced by the lines of its file, and the
+/// lines that a change takes by its new lines. A change is used where a line equals its first old line, in the order of
+/// the change file, and before that line is looked at as an inclusion.
+///
+/// # Errors
+///
+/// `NoMemory`. What is wrong in the files is a fault of the source.
+pub fn read_source<'a>(
+    alloc: Global,
+    files: &'a Files,
+    roles: &Roles,
+) -> Result<Source<'a>, NoMemory>
+    requires { fits files.now roles.now ≡ true }
+    ensures { IfOk result (λ s. s ≡ source_of files.entry.now roles.now) }
+{
+    let mut found = Vec::new(alloc);
+    let (change_file, changes) = changes_of_file(alloc, files, roles.change(), &mut found)?;
+    let web = files.find_or_count(roles.web());
+    let mut waiting = Waiting::new(alloc);
+    waiting.open(OpenFile::new(web, files.lines_at(web), false, 1))?;
+    let (lines, faults) = read_on(
+        alloc,
+        files,
+        change_file,
+        changes.as_slice(),
+        waiting,
+        found,
+    )?;
+    Ok(Source {
+        files,
+        lines,
+        faults,
+    })
+}
+
+/// Reading is its first step, and then the reading of what that step leaves. So the bound on the count of steps in its
+/// definition is no part of its meaning: it is never used up.
+pub fn reading_goes_step_by_step()
+    ensures { (files : FileTable) (change_file : ℕ) (state : State) → ReadsByStep files change_file state }
+{}
+
+/// Opens the file that an inclusion names, or notes why not.
+fn include<'a, 'c>(
+    alloc: Global,
+    files: &'a Files,
+    waiting: &mut Waiting<'a, 'c>,
+    faults: &mut Vec<Fault>,
+    line: &RawLine<'a>,
+    name: &[u8],
+) -> Result<(), NoMemory>
+    ensures opened { OnOk result (waiting.new ≡ (inclusion files.entry.now line.now name.now).0 ++ waiting.old) }
+    ensures noted { OnOk result (faults.new.items ≡ faults.old.items ++ (inclusion files.entry.now line.now name.now).1) }
+{
+    let file = files.name_at(line.place.file);
+    if name.is_empty() {
+        faults.push(Fault::at(alloc, FaultKind::IncludeNoName, file, line.place.line)?)?;
+        return Ok(());
+    }
+    match files.find(name) {
+        None => {
+            let kind = FaultKind::IncludeMissing;
+            faults.push(Fault::about(alloc, kind, file, line.place.line, name)?)?;
+        }
+        Some(number) => {
+            if line.depth < DEPTH_LIMIT {
+                let lines = files.lines_at(number);
+                waiting.open(OpenFile::new(number, lines, line.marked, line.depth + 1))?;
+            } else {
+                faults.push(Fault::at(alloc, FaultKind::IncludeTooDeep, file, line.place.line)?)?;
+            }
+        }
+    }
+    Ok(())
+}
+
+/// Reads a line that no change takes: a source line or an inclusion.
+fn read_plain<'a, 'c>(
+    alloc: Global,
+    files: &'a Files,
+    line: &RawLine<'a>,
+    waiting: &mut Waiting<'a, 'c>,
+    lines: &mut Vec<SourceLine<'a>>,
+    faults: &mut Vec<Fault>,
+) -> Result<(), NoMemory>
+    ensures read { OnOk result (IsPlain files.entry.now line.now waiting.old waiting.new lines.old.items lines.new.items faults.old.items faults.new.items) }
+    ensures one { OnOk result (length lines.new.items ≤ length lines.old.items + 1) }
+{
+    match included_name(line.text.bytes()) {
+        Some(name) => include(alloc, files, waiting, faults, line, name),
+        None => {
+            lines.push(SourceLine {
+                text: line.text,
+                place: line.place,
+                marked: line.marked,
+            })?;
+            Ok(())
+        }
+    }
+}
+
+/// Whether the line is the first old line of the change.
+fn begins_change(change: &Change<'_>, line: &[u8]) -> bool
+    ensures { result ≡ begins change.now.old_lines line.now }
+{
+    match change.old_lines() {
+        [] => false,
+        [first, ..] => line == first.bytes(),
+    }
+}
+
+/// The next change, if it is used at this line.
+fn change_at<'a, 'c>(changes: &'c [Change<'a>], line: &RawLine<'a>) -> Option<&'c Change<'a>>
+    ensures { option_copied result ≡ change_here changes.entry.now line.now }
+{
+    match changes {
+        [] => None,
+        [change, ..] => {
+            if !line.marked && begins_change(change, line.text.bytes()) {
+                Some(change)
+            } else {
+                None
+            }
+        }
+    }
+}
+
+/// What was taken for old lines of a change.
+#[derive(Clone, Copy)]
+struct Taken {
+    /// How many lines there were.
+    lines: usize,
+    /// How many of the old lines had no line, or an unequal one.
+    unequal: usize,
+}
+
+/// Takes the line that stands for an old line.
+fn take_one<'a, 'c>(old: &Line, waiting: &mut Waiting<'a, 'c>) -> Taken
+    ensures lines { result.lines ≡ min 1 (length waiting.old) }
+    ensures unequal { result.unequal ≡ unequal_front old.now waiting.old }
+    ensures rest { waiting.new ≡ drop 1 waiting.old }
+{
+    match waiting.take() {
+        None => Taken {
+            lines: 0,
+            unequal: 1,
+        },
+        Some(line) => Taken {
+            lines: 1,
+            unequal: if line.text.bytes() == old.bytes() {
+                0
+            } else {
+                1
+            },
+        },
+    }
+}
+
+/// Takes the lines that stand for old lines.
+fn take_old<'a, 'c>(old_lines: &[&'a Line], waiting: &mut Waiting<'a, 'c>) -> Taken
+    ensures lines { result.lines ≡ min (length old_lines.now) (length waiting.old) }
+    ensures unequal { result.unequal ≡ unequal_lines (map (λ l. l.now) old_lines.now) waiting.old }
+    ensures rest { waiting.new ≡ drop (length old_lines.now) waiting.old }
+{
+    let mut lines = 0;
+    let mut unequal = 0;
+    let mut rest = old_lines;
+    while let [old, others @ ..] = rest {
+        let taken = take_one(old, waiting);
+        lines += taken.lines;
+        unequal += taken.unequal;
+        rest = others;
+    }
+    Taken { lines, unequal }
+}
+
+/// All but the first one.
+fn after_first<T>(items: &[T]) -> &[T]
+    ensures { result.now ≡ drop 1 items.now }
+{
+    match items {
+        [] => items,
+        [_, others @ ..] => others,
+    }
+}
+
+/// Notes how many old lines of a change did not match.
+fn note_mismatch(
+    alloc: Global,
+    file: &[u8],
+    at: u32,
+    unequal: usize,
+    faults: &mut Vec<Fault>,
+) -> Result<(), NoMemory>
+    ensures { OnOk result (faults.new.items ≡ faults.old.items ++ mismatch_faults (record { file = file.now; line = at }) unequal) }
+{
+    if unequal != 0 {
+        faults.push(Fault::counting(alloc, FaultKind::ChangeMismatch, file, at, unequal)?)?;
+    }
+    Ok(())
+}
+
+/// Puts the new lines of a change in place of the lines that it takes, from this one on: how many it took.
+fn use_change<'a, 'c>(
+    alloc: Global,
+    files: &'a Files,
+    change_file: u16,
+    change: &'c Change<'a>,
+    line: &RawLine<'a>,
+    waiting: &mut Waiting<'a, 'c>,
+    faults: &mut Vec<Fault>,
+) -> Result<usize, NoMemory>
+    requires { 0 < length change.now.old_lines }
+    ensures used { OnOk result (IsUsed files.entry.now change_file change.entry.now line.now waiting.old waiting.new faults.old.items faults.new.items) }
+    ensures taken { IfOk result (λ n. n ≡ min (length change.entry.now.old_lines) (length (line.now ∷ waiting.old))) }
+    ensures small { IfOk result (λ n. n < 2 ^ 63) }
+{
+    let taken = take_old(after_first(change.old_lines()), waiting);
+    let file = files.name_at(change_file);
+    note_mismatch(alloc, file, change.at(), taken.unequal, faults)?;
+    waiting.open(OpenFile::of_change(change_file, change.new_lines(), line.depth))?;
+    Ok(taken.lines + 1)
+}
+
+/// Notes the first of the changes that were not used.
+fn note_unused(
+    alloc: Global,
+    files: &Files,
+    change_file: u16,
+    changes: &[Change<'_>],
+    faults: &mut Vec<Fault>,
+) -> Result<(), NoMemory>
+    ensures { OnOk result (faults.new.items ≡ faults.old.items ++ unused_faults files.now change_file changes.now) }
+{
+    match changes {
+        [] => Ok(()),
+        [change, ..] => {
+            let file = files.name_at(change_file);
+            faults.push(Fault::at(alloc, FaultKind::ChangeUnused, file, change.at())?)?;
+            Ok(())
+        }
+    }
+}
+
+/// Reads the lines that wait, after these faults.
+fn read_on<'a, 'c>(
+    alloc: Global,
+    files: &'a Files,
+    change_file: u16,
+    changes: &'c [Change<'a>],
+    mut waiting: Waiting<'a, 'c>,
+    mut faults: Vec<Fault>,
+) -> Result<(Vec<SourceLine<'a>>, Vec<Fault>), NoMemory>
+    ensures read { IfOk result (λ r. before_reads (record { lines = []; faults = faults.items })
+        (reads_from files.entry.now change_file (record { waiting = waiting.entry; changes = changes.entry.now; taken = 0 }))
+        ≡ record { lines = r.0.items; faults = r.1.items }) }
+    ensures limit { IfOk result (λ r. length r.0.items ≤ line_limit) }
+{
+    let mut lines = Vec::new(alloc);
+    let mut changes = changes;
+    let mut taken = 0usize;
+    while let Some(line) = waiting.take() {
+        if taken >= LINE_LIMIT {
+            let file = files.name_at(line.place.file);
+            faults.push(Fault::at(alloc, FaultKind::SourceTooLong, file, line.place.line)?)?;
+            return Ok((lines, faults));
+        }
+        match change_at(changes, &line) {
+            Some(change) => {
+                taken += use_change(
+                    alloc,
+                    files,
+                    change_file,
+                    change,
+                    &line,
+                    &mut waiting,
+                    &mut faults,
+                )?;
+                changes = after_first(changes);
+            }
+            None => {
+                read_plain(alloc, files, &line, &mut waiting, &mut lines, &mut faults)?;
+                taken += 1;
+            }
+        }
+    }
+    note_unused(alloc, files, change_file, changes, &mut faults)?;
+    Ok((lines, faults))
+}
+
+/// The changes of the change file, if there is one, and its number.
+fn changes_of_file<'a>(
+    alloc: Global,
+    files: &'a Files,
+    name: Option<&[u8]>,
+    faults: &mut Vec<Fault>,
+) -> Result<(u16, Vec<Change<'a>>), NoMemory>
+    ensures number { IfOk result (λ r. r.0 ≡ change_number files.entry.now (option_copied name.entry)) }
+    ensures changes { IfOk result (λ r. r.1.items ≡ (changes_in files.entry.now (option_copied name.entry)).changes) }
+    ensures faults { OnOk result (faults.new.items ≡ faults.old.items ++ (changes_in files.entry.now (option_copied name.entry)).faults) }
+{
+    match name {
+        None => Ok((0, Vec::new(alloc))),
+        Some(name) => {
+            let number = files.find_or_count(name);
+            let lines = files.lines_at(number);
+            let changes = changes_of(alloc, files.name_at(number), lines, faults)?;
+            Ok((number, changes))
+        }
+    }
+}

@@ -1,0 +1,116 @@
+//! The source: what reading gives.
+ghost use Rattle.std.specs.Prelude.{◌≡◌, ◌<◌, ◌≤◌, length, get_or};
+ghost use Rattle.tangle_lines.specs.Lines.{name_at};
+ghost use Rattle.tangle_lines.specs.Adding.{longest_line, most_files};
+ghost use Rattle.tangle_lines.specs.Reading.{no_line, line_limit};
+
+use crate::cutting::Line;
+use crate::faults::{Fault, Origin};
+use crate::files::Files;
+use std::marker::Model;
+
+/// A source line, with its place, and whether it is from the change file.
+#[derive(Drop)]
+pub(crate) struct SourceLine<'a> {
+    pub(crate) text: &'a Line,
+    pub(crate) place: Origin,
+    pub(crate) marked: bool,
+}
+
+impl<'a> Model for SourceLine<'a> {
+    ghost use Rattle.tangle_lines.specs.Reading.{Line as LineRead};
+
+    ghost Value = { LineRead };
+
+    ghost view = { λ l. record { bytes = l.text.now; place = l.place; marked = l.marked } };
+}
+
+/// The source lines of a web, and the faults of its change file and of reading. It borrows its lines from the table
+/// of files, and has at most 2,000,000.
+#[derive(Drop)]
+pub struct Source<'a> {
+    pub(crate) files: &'a Files,
+    pub(crate) lines: Vec<SourceLine<'a>>,
+    pub(crate) faults: Vec<Fault>,
+}
+
+impl<'a> Model for Source<'a> {
+    ghost use Rattle.std.specs.Prelude.{◌≤◌, length};
+    ghost use Rattle.tangle_lines.specs.Reading.{SourceRead, line_limit};
+
+    ghost Value = { SourceRead };
+
+    ghost view = { λ s. record { files = s.files.now; lines = s.lines.items; faults = s.faults.items } };
+
+    ghost invariant = { λ s. length s.lines.items ≤ line_limit };
+}
+
+impl<'a> Source<'a> {
+    /// How many lines there are: at most 2,000,000.
+    pub fn count(&self) -> usize
+        ensures count { result ≡ length self.now.lines }
+        ensures limit { result ≤ line_limit }
+    {
+        self.lines.len()
+    }
+
+    /// The bytes of the line of this number, from 0: at most 65,535.
+    pub fn line(&self, number: usize) -> &'a [u8]
+        ensures bytes { result.now ≡ (get_or self.now.lines number no_line).bytes }
+        ensures short { length result.now ≤ longest_line }
+    {
+        match self.lines.get(number) {
+            Some(line) => line.text.bytes(),
+            None => &[],
+        }
+    }
+
+    /// Where the line of this number stands in the files.
+    pub fn origin(&self, number: usize) -> Origin
+        ensures { result ≡ (get_or self.now.lines number no_line).place }
+    {
+        match self.lines.get(number) {
+            Some(line) => line.place,
+            None => Origin { file: 0, line: 0 },
+        }
+    }
+
+    /// Whether the line of this number is from the change file, or from a file that such a line includes.
+    pub fn is_marked(&self, number: usize) -> bool
+        ensures { result ≡ (get_or self.now.lines number no_line).marked }
+    {
+        match self.lines.get(number) {
+            Some(line) => line.marked,
+            None => false,
+        }
+    }
+
+    /// How many files there are in the table of files: at most 256.
+    pub fn file_count(&self) -> usize
+        ensures count { result ≡ length self.now.files }
+        ensures limit { result ≤ most_files }
+    {
+        self.files.count()
+    }
+
+    /// The name of the file of a place.
+    pub fn file_name(&self, origin: Origin) -> &'a [u8]
+        ensures { result.now ≡ name_at self.now.files origin.file }
+    {
+        self.files.name_at(origin.file)
+    }
+
+    /// The faults of the change file, and then those of reading, as they were found.
+    pub fn faults(&self) -> &[Fault]
+        ensures { result.now ≡ self.now.faults }
+    {
+        self.faults.as_slice()
+    }
+
+    /// The same faults, for one who is done with the lines.
+    pub fn into_faults(self) -> Vec<Fault>
+        ensures { result.items ≡ self.entry.faults }
+    {
+        self.faults
+    }
+}

@@ -1,0 +1,193 @@
+//! The open files, seen as the one list of the lines that wait to be read.
+ghost use Rattle.std.specs.Prelude.{◌≡◌, ◌+◌, ◌≤◌, [], ◌∷◌, ◌++◌, length, drop, map, true, IfSome, IfNone, OnOk};
+ghost use Rattle.tangle_lines.specs.Adding.{most_lines};
+ghost use Rattle.tangle_lines.specs.Reading.{numbered, change_lines};
+
+use crate::cutting::Line;
+use crate::faults::Origin;
+use crate::refusal::NoMemory;
+use std::alloc::Global;
+use std::marker::Model;
+
+/// A line that waits to be read. It is marked if it is from the change file, or from a file that such a line includes;
+/// the web's lines have depth 1, and those of an included file one more than the line that includes it.
+#[derive(Drop)]
+pub(crate) struct RawLine<'a> {
+    pub(crate) text: &'a Line,
+    pub(crate) place: Origin,
+    pub(crate) marked: bool,
+    pub(crate) depth: u8,
+}
+
+impl<'a> Model for RawLine<'a> {
+    ghost use Rattle.tangle_lines.specs.Reading.{Raw};
+
+    ghost Value = { Raw };
+
+    ghost view = { λ r. record {
+      bytes = r.text.now;
+      place = r.place;
+      marked = r.marked;
+      depth = r.depth;
+    } };
+}
+
+/// The lines that an open file still gives.
+#[derive(Clone, Copy)]
+pub enum Rest<'a, 'c> {
+    /// The lines of a file, but for so many that were read.
+    OfFile(&'a [Line], u32),
+    /// The new lines of a change, with their numbers.
+    OfChange(&'c [(u32, &'a Line)]),
+}
+
+/// An open file.
+#[derive(Drop)]
+pub(crate) struct OpenFile<'a, 'c> {
+    file: u16,
+    rest: Rest<'a, 'c>,
+    marked: bool,
+    depth: u8,
+}
+
+impl<'a, 'c> Model for OpenFile<'a, 'c> {
+    ghost use Rattle.std.specs.Prelude.{List};
+    ghost use Rattle.tangle_lines.specs.Reading.{Raw};
+    ghost use Rattle.tangle_lines.specs.Waiting.{coming, IsShort};
+
+    ghost Value = { List Raw };
+
+    ghost view = { λ f. coming f.file f.marked f.depth f.rest };
+
+    ghost invariant = { λ f. IsShort f.rest };
+}
+
+impl<'a, 'c> OpenFile<'a, 'c> {
+    /// A file of which no line was read.
+    pub(crate) fn new(file: u16, lines: &'a [Line], marked: bool, depth: u8) -> Self
+        requires { length lines.now ≤ most_lines }
+        ensures { result ≡ numbered file marked depth 1 lines.entry.now }
+    {
+        OpenFile {
+            file,
+            rest: Rest::OfFile(lines, 0),
+            marked,
+            depth,
+        }
+    }
+
+    /// The new lines of a change.
+    pub(crate) fn of_change(file: u16, lines: &'c [(u32, &'a Line)], depth: u8) -> Self
+        ensures { result ≡ change_lines file depth (map (λ l. (l.0, l.1.now)) lines.entry.now) }
+    {
+        OpenFile {
+            file,
+            rest: Rest::OfChange(lines),
+            marked: true,
+            depth,
+        }
+    }
+
+    /// Takes the next line.
+    fn take(&mut self) -> Option<RawLine<'a>>
+        ensures front { IfSome result (λ w. self.old ≡ w ∷ self.new) }
+        ensures none { IfNone result ((self.old ≡ []) × (self.new ≡ [])) }
+    {
+        match self.rest {
+            Rest::OfFile(lines, read) => match line_after(lines, read) {
+                None => None,
+                Some((text, number)) => {
+                    self.rest = Rest::OfFile(lines, number);
+                    Some(RawLine {
+                        text,
+                        place: Origin {
+                            file: self.file,
+                            line: number,
+                        },
+                        marked: self.marked,
+                        depth: self.depth,
+                    })
+                }
+            },
+            Rest::OfChange(lines) => match lines {
+                [] => None,
+                [(line, text), others @ ..] => {
+                    self.rest = Rest::OfChange(others);
+                    Some(RawLine {
+                        text,
+                        place: Origin {
+                            file: self.file,
+                            line: *line,
+                        },
+                        marked: true,
+                        depth: self.depth,
+                    })
+                }
+            },
+        }
+    }
+}
+
+/// The line after so many lines, with its number.
+fn line_after<'a>(lines: &'a [Line], read: u32) -> Option<(&'a Line, u32)>
+    requires { length lines.now ≤ most_lines }
+    ensures line { IfSome result (λ r. (r.1 ≡ read + 1) × (drop read lines.entry.now ≡ r.0.now ∷ drop (read + 1) lines.entry.now)) }
+    ensures none { IfNone result (drop read lines.entry.now ≡ []) }
+{
+    if read as usize >= lines.len() {
+        return None;
+    }
+    Some((&lines[read as usize], read + 1))
+}
+
+/// The open files: the last one is read first.
+#[derive(Drop)]
+pub(crate) struct Waiting<'a, 'c> {
+    files: Vec<OpenFile<'a, 'c>>,
+}
+
+impl<'a, 'c> Model for Waiting<'a, 'c> {
+    ghost use Rattle.std.specs.Prelude.{List};
+    ghost use Rattle.tangle_lines.specs.Reading.{Raw};
+    ghost use Rattle.tangle_lines.specs.Waiting.{stacked};
+
+    ghost Value = { List Raw };
+
+    ghost view = { λ w. stacked w.files.items };
+}
+
+impl<'a, 'c> Waiting<'a, 'c> {
+    /// No file is open.
+    pub(crate) fn new(alloc: Global) -> Self
+        ensures { result ≡ [] }
+    {
+        Waiting {
+            files: Vec::new(alloc),
+        }
+    }
+
+    /// Opens a file in front of the others.
+    pub(crate) fn open(&mut self, file: OpenFile<'a, 'c>) -> Result<(), NoMemory>
+        ensures { OnOk result (self.new ≡ file.entry ++ self.old) }
+    {
+        self.files.push(file)?;
+        Ok(())
+    }
+
+    /// Takes the first line that waits.
+    pub(crate) fn take(&mut self) -> Option<RawLine<'a>>
+        ensures front { IfSome result (λ w. self.old ≡ w ∷ self.new) }
+        ensures none { IfNone result ((self.old ≡ []) × (self.new ≡ [])) }
+    {
+        while !self.files.is_empty() {
+            let last = self.files.len() - 1;
+            let top = &mut self.files[last];
+            match top.take() {
+                Some(line) => return Some(line),
+                None => {}
+            }
+            self.files.pop();
+        }
+        None
+    }
+}
