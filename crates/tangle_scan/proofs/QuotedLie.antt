@@ -1,0 +1,304 @@
+-- Quoted and verbatim texts: their pieces lie in them.
+use Rattle.std.proofs.Common.{◌≡◌, ℕ, suc, ◌+◌, ◌<◌, ◌≤◌, Bool, true, false, List, [], ◌∷◌, ◌++◌, drop, Option, Some, None, inl, inr, refl, ap, sym, ◌∙◌, arith, subst, cond, nat_eq, ◌&&◌, ◌||◌, ◌⊎◌, append_assoc, append-nil}
+use Rattle.std.specs.Prelude.{nat_lt}
+use Rattle.std.proofs.lemmas.Bool.Decides.{eqb_tells}
+use Rattle.tangle_lines.specs.declared.faults.FaultKind.TheVariants as fault
+use Rattle.tangle_scan.specs.declared.items.Span.{Span}
+use Rattle.tangle_scan.specs.declared.events.Event.{Event}
+use Rattle.tangle_scan.specs.declared.events.Event.TheVariants as event
+use Rattle.tangle_scan.specs.declared.modes.ScanState.{ScanState}
+use Rattle.tangle_scan.specs.declared.regions.Region.{Region}
+use Rattle.tangle_scan.specs.declared.regions.Region.TheVariants as region
+use Rattle.tangle_scan.specs.declared.regions.Unit.{Unit as Unit-of}
+use Rattle.tangle_scan.specs.declared.regions.Unit.TheVariants as unit
+use Rattle.tangle_scan.specs.Bytes.{at_sign, backslash, greater_sign, double_quote, apostrophe, holds, is_line_end}
+use Rattle.tangle_scan.specs.Text.{Cell, byte_at, span_at}
+use Rattle.tangle_scan.specs.Regions.{unit_by, quoted_unit, unit_of, unit_at, count_before}
+use Rattle.tangle_scan.specs.Lexemes.{fault_if}
+use Rattle.tangle_scan.specs.Comments.{ends_mark, two_if}
+use Rattle.tangle_scan.specs.Quoted.{piece_event, cut_piece, unit_events, next_start, cut_events, quote_stop, quote_end, one_if, quoted_text, verbatim_stop, verbatim_end, empty_end, verbatim_events, verbatim_text}
+use Rattle.tangle_scan.proofs.Points.{Point, spot, PrecedesOnLine, IsByte, behind_by, behind, walked, HoldsBytes, IsCellAt, IsTextAt, text-walked, text-within, behind-byte, walked-bytes}
+use Rattle.tangle_scan.proofs.Lies.{Lies, IsFrom, span_end, lies-after}
+use Rattle.tangle_scan.proofs.RegionsLie.{walked-more, walked-add, holds-byte, are-bytes, goes-byte, faults-lie, end-precedes}
+
+-- a backslash is no @
+no-at_sign : (b : Option ℕ) → holds backslash b ≡ true → holds at_sign b ≡ false
+no-at_sign None h = cc
+no-at_sign (Some b) h =
+    elim (eqb_tells b backslash) [
+      | inl same ↦ ap (λ x. holds at_sign (Some x)) same.1
+      | inr other ↦ let none : false ≡ true = sym other.0 ∙ h in cc
+    ]
+
+-- where two cells belong together of which the second is a line end, the first is a backslash
+
+quoted-takes : (close : ℕ) (b : Option ℕ) → quoted_unit close b None ≡ unit.Two → holds backslash b ≡ true
+quoted-takes close None e = cc
+quoted-takes close (Some b) e = by (nat_eq b close) (nat_eq b at_sign) (nat_eq b backslash) e
+  where
+    by : (ends sign back : Bool) → unit_by (ends || false) ((sign && false) || (back && true)) ≡ unit.Two → back ≡ true
+    by ends sign true e = refl
+    by true true false e = cc
+    by true false false e = cc
+    by false true false e = cc
+    by false false false e = cc
+
+include-takes : (b : Option ℕ) → unit_of region.IncludeName b None ≡ unit.Two → holds backslash b ≡ true
+include-takes None e = cc
+include-takes (Some b) e = absurd (by (nat_eq b greater_sign) (nat_eq b at_sign) e)
+  where
+    by : (ends sign : Bool) → unit_by (ends || false) (sign && false) ≡ unit.Two → ⊥
+    by true true e = cc
+    by true false e = cc
+    by false true e = cc
+    by false false e = cc
+
+verbatim-takes : (b : Option ℕ) → unit_of region.Verbatim b None ≡ unit.Two → holds backslash b ≡ true
+verbatim-takes None e = cc
+verbatim-takes (Some b) e = absurd (by (nat_eq b at_sign) e)
+  where
+    by : (sign : Bool) → unit_by (sign && false) (sign && false) ≡ unit.Two → ⊥
+    by true e = cc
+    by false e = cc
+
+module _ (width : ℕ → ℕ) (count : ℕ) where
+  -- a piece before other events
+  made-lies : (r : Region) (at : Point) (s : Span) (es : List Event) (to : Point) → IsFrom width count at s → Lies width count true (span_end s) es true to
+      → Lies width count true at (piece_event r s ∷ es) true to
+  made-lies region.Verbatim at s es to is lie = (is, lie)
+  made-lies _ at s es to is lie = (is, lie)
+
+  -- a piece, from its start to where the text goes on
+  piece-lies : (r : Region) (line start end : ℕ) (es : List Event) (to : Point) → line < count → start ≤ end → end ≤ width line
+      → Lies width count true (spot line end) es true to → Lies width count true (spot line start) (cut_piece r line start end ++ es) true to
+  piece-lies r line start end es to real h inside lie = by (nat_lt start end)
+    where
+      by : (b : Bool) → Lies width count true (spot line start) (cond b (piece_event r (record { line = line; start = start; end = end }) ∷ []) [] ++ es) true to
+      by true = made-lies r (spot line start) (record { line = line; start = start; end = end }) es to (record { line = refl; real = real; start = omega arith; order = h; end = inside }) lie
+      by false = lies-after width count true true (spot line start) (spot line end) es true to (refl, h) lie
+
+  last-lies : (r : Region) (line start end : ℕ) (to : Point) → line < count → start ≤ end → end ≤ width line → PrecedesOnLine (spot line end) to
+      → Lies width count true (spot line start) (cut_piece r line start end) true to
+  last-lies r line start end to real h inside goes =
+      subst (λ es. Lies width count true (spot line start) es true to) (append-nil (cut_piece r line start end))
+      (piece-lies r line start end [] to real h inside goes)
+
+  -- a text that is cut, in a region; `ends` and `final` say what comes at its end
+  module _ (r : Region) (stops : (n : Option ℕ) → unit_of r None n ≡ unit.Stop) (takes : (b : Option ℕ) → unit_of r b None ≡ unit.Two → holds backslash b ≡ true)
+      (ends : ℕ → List Cell → List Event) (final : Point → List Cell → Point)
+      (nothing : (at : Point) (start : ℕ) → start ≤ at.column → Lies width count true (spot at.line start) (ends start []) true (final at []))
+      (stop : (at : Point) (start : ℕ) (c : Cell) (cs : List Cell) → start ≤ at.column → IsTextAt width count at (c ∷ cs) → Lies width count true (spot at.line start) (ends start (c ∷ cs)) true (final at (c ∷ cs))) where
+    abbrev reached : Point → ℕ → List Cell → Point
+    reached at n text = final (walked at n text) (drop n text)
+
+    reached-more : (at : Point) (c : Cell) (cs : List Cell) (n : ℕ) → reached at (1 + n) (c ∷ cs) ≡ reached (behind c) n cs
+    reached-more at c cs n = let e : 1 + n ≡ suc n = omega arith in rw e refl
+
+    abbrev CutLies : Point → ℕ → List Cell → Type 0
+    CutLies at start text = Lies width count true (spot at.line start) (cut_events ends r 0 start text) true (reached at (count_before r 0 text) text)
+
+    one-lies : (at : Point) (start : ℕ) (c : Cell) (cs : List Cell) → start ≤ at.column → IsTextAt width count at (c ∷ cs) → unit_at r (c ∷ cs) ≡ unit.One
+        → ((p : Point) (s : ℕ) → s ≤ p.column → IsTextAt width count p cs → CutLies p s cs) → CutLies at start (c ∷ cs)
+    one-lies at start c cs h is e next =
+        let goes = behind-byte c (goes-byte r stops c.byte (byte_at 0 cs) unit.One e (λ k. cc)) in
+        let text = subst (λ p. IsTextAt width count p cs) goes is.1 in
+        let n : ℕ = count_before r 0 cs in
+        let lie = next (spot c.line (c.column + 1)) start (omega (arith, h, is.0.column)) text in
+        let to : reached at (1 + n) (c ∷ cs) ≡ reached (spot c.line (c.column + 1)) n cs = reached-more at c cs n ∙ ap (λ p. reached p n cs) goes in
+        let events : cut_events ends r 0 start (c ∷ cs) ≡ fault_if (holds at_sign c.byte) fault.StringAt c.line ++ cut_events ends r 0 start cs = rw e refl in
+        let counts : count_before r 0 (c ∷ cs) ≡ 1 + n = rw e refl in
+        rw (events, counts, to)
+        (by (holds at_sign c.byte) (subst (λ l. Lies width count true (spot l start) (cut_events ends r 0 start cs) true (reached (spot c.line (c.column + 1)) n cs)) is.0.line lie))
+      where
+        by : (b : Bool) → Lies width count true (spot at.line start) (cut_events ends r 0 start cs) true (reached (spot c.line (c.column + 1)) (count_before r 0 cs) cs)
+            → Lies width count true (spot at.line start) (fault_if b fault.StringAt c.line ++ cut_events ends r 0 start cs) true (reached (spot c.line (c.column + 1)) (count_before r 0 cs) cs)
+        by true lie = lie
+        by false lie = lie
+
+    -- both of @@, and a backslash with what it takes, a line end too
+    two-lies : (at : Point) (start : ℕ) (c d : Cell) (cs : List Cell) → start ≤ at.column → IsTextAt width count at (c ∷ d ∷ cs) → unit_at r (c ∷ d ∷ cs) ≡ unit.Two
+        → ((p : Point) (s : ℕ) → s ≤ p.column → IsTextAt width count p cs → CutLies p s cs) → CutLies at start (c ∷ d ∷ cs)
+    two-lies at start c d cs h is e next =
+        let goes = behind-byte c (goes-byte r stops c.byte d.byte unit.Two e (λ k. cc)) in
+        let after : IsTextAt width count (spot c.line (c.column + 1)) (d ∷ cs) = subst (λ p. IsTextAt width count p (d ∷ cs)) goes is.1 in
+        let n : ℕ = count_before r 0 cs in
+        let to : reached at (1 + (1 + n)) (c ∷ d ∷ cs) ≡ reached (behind d) n cs = reached-more at c (d ∷ cs) (1 + n) ∙ reached-more (behind c) d cs n in
+        let events : cut_events ends r 0 start (c ∷ d ∷ cs) ≡ unit_events r unit.Two start c d.byte ++ cut_events ends r 0 (next_start unit.Two start c d.byte) cs = rw e refl in
+        let counts : count_before r 0 (c ∷ d ∷ cs) ≡ 1 + (1 + n) = rw e refl in
+        rw (events, counts, to, ← is.0.line)
+        (by (holds at_sign c.byte) (holds backslash c.byte) d.byte (second c.byte d.byte e) after.0 after.1)
+      where
+        second : (b x : Option ℕ) → unit_of r b x ≡ unit.Two → (IsByte x) ⊎ ((holds at_sign b ≡ false) × (holds backslash b ≡ true))
+        second b (Some x) e = inl tt
+        second b None e = inr (no-at_sign b (takes b e), takes b e)
+
+        plain : (b : ℕ) → IsCellAt width count (spot c.line (c.column + 1)) d → IsTextAt width count (spot d.line (d.column + 1)) cs
+            → Lies width count true (spot c.line start) (cut_events ends r 0 start cs) true (reached (spot d.line (d.column + 1)) (count_before r 0 cs) cs)
+        plain b cell text =
+            subst (λ l. Lies width count true (spot l start) (cut_events ends r 0 start cs) true (reached (spot d.line (d.column + 1)) (count_before r 0 cs) cs)) cell.line
+            (next (spot d.line (d.column + 1)) start (omega (arith, h, is.0.column, cell.column)) text)
+
+        by : (sign back : Bool) (x : Option ℕ) → (IsByte x) ⊎ ((sign ≡ false) × (back ≡ true)) → IsCellAt width count (spot c.line (c.column + 1)) d → IsTextAt width count (behind_by x d) cs
+            → Lies width count true (spot c.line start)
+            (cond sign (cut_piece r c.line start (c.column + 1)) (cond (back && is_line_end x) (cut_piece r c.line start (c.column + 1) ++ event.QuoteBreak ∷ []) [])
+            ++ cut_events ends r 0 (cond sign (c.column + 2) (cond (back && is_line_end x) 0 start)) cs)
+            true (reached (behind_by x d) (count_before r 0 cs) cs)
+        by true back None (inl k) cell text = absurd k
+        by true back None (inr k) cell text = absurd (let e = k.0 in cc)
+        by true back (Some b) k cell text =
+            let es : List Event = cut_events ends r 0 (c.column + 2) cs in
+            let to : Point = reached (spot d.line (d.column + 1)) (count_before r 0 cs) cs in
+            let lie = next (spot d.line (d.column + 1)) (c.column + 2) (omega (arith, cell.column)) text in
+            piece-lies r c.line start (c.column + 1) es to cell.real (omega (arith, h, is.0.column)) cell.inside
+            (lies-after width count true true (spot c.line (c.column + 1)) (spot d.line (c.column + 2)) es true to (sym cell.line, omega arith) lie)
+        by false false None (inl k) cell text = absurd k
+        by false false None (inr k) cell text = absurd (let e = k.1 in cc)
+        by false true None k cell text =
+            let es : List Event = cut_events ends r 0 0 cs in
+            let to : Point = reached (spot (d.line + 1) 0) (count_before r 0 cs) cs in
+            let lie = next (spot (d.line + 1) 0) 0 (omega arith) text in
+            rw append_assoc
+            (piece-lies r c.line start (c.column + 1) (event.QuoteBreak ∷ es) to cell.real (omega (arith, h, is.0.column)) cell.inside
+            (subst (λ l. Lies width count true (spot (l + 1) 0) es true to) cell.line lie))
+        by false false (Some b) k cell text = plain b cell text
+        by false true (Some b) k cell text = plain b cell text
+
+    pub cut-lies : (at : Point) (start : ℕ) (text : List Cell) → start ≤ at.column → IsTextAt width count at text → CutLies at start text
+    cut-lies at start [] h is = nothing at start h
+    cut-lies at start (c ∷ []) h is = by (unit_at r (c ∷ [])) refl (λ p s k t. cut-lies p s [] k t)
+      where
+        by : (u : Unit-of) → unit_at r (c ∷ []) ≡ u → ((p : Point) (s : ℕ) → s ≤ p.column → IsTextAt width count p [] → CutLies p s []) → CutLies at start (c ∷ [])
+        by unit.Stop e next = rw e (stop at start c [] h is)
+        by unit.One e next = one-lies at start c [] h is e next
+        by unit.Two e next =
+            let goes = behind-byte c (goes-byte r stops c.byte None unit.Two e (λ k. cc)) in
+            let end : IsTextAt width count (spot c.line (c.column + 1)) [] = subst (λ p. IsTextAt width count p []) goes is.1 in
+            absurd (omega (arith, end))
+    cut-lies at start (c ∷ d ∷ cs) h is = by (unit_at r (c ∷ d ∷ cs)) refl (λ p s k t. cut-lies p s (d ∷ cs) k t) (λ p s k t. cut-lies p s cs k t)
+      where
+        by : (u : Unit-of) → unit_at r (c ∷ d ∷ cs) ≡ u
+            → ((p : Point) (s : ℕ) → s ≤ p.column → IsTextAt width count p (d ∷ cs) → CutLies p s (d ∷ cs))
+            → ((p : Point) (s : ℕ) → s ≤ p.column → IsTextAt width count p cs → CutLies p s cs)
+            → CutLies at start (c ∷ d ∷ cs)
+        by unit.Stop e one two = rw e (stop at start c (d ∷ cs) h is)
+        by unit.One e one two = one-lies at start c (d ∷ cs) h is e one
+        by unit.Two e one two = two-lies at start c d cs h is e two
+
+  -- quoted texts
+
+  abbrev quote-final : ℕ → Point → List Cell → Point
+  quote-final close at text = walked at (one_if (holds close (byte_at 0 text))) text
+
+  quote_stop-lies : (r : Region) (close : ℕ) (at : Point) (start : ℕ) (c : Cell) (cs : List Cell) → start ≤ at.column → IsTextAt width count at (c ∷ cs)
+      → Lies width count true (spot at.line start) (quote_stop r close start c) true (quote-final close at (c ∷ cs))
+  quote_stop-lies r close at start c cs h is =
+      subst (λ l. Lies width count true (spot l start) (quote_stop r close start c) true (quote-final close at (c ∷ cs))) is.0.line
+      (by (holds close c.byte) (holds-byte close c.byte))
+    where
+      by : (b : Bool) → (b ≡ true → IsByte c.byte)
+          → Lies width count true (spot c.line start) (cond b (cut_piece r c.line start (c.column + 1)) (cut_piece r c.line start c.column ++ event.Fault fault.StringEnd c.line ∷ [])) true (walked at (cond b 1 0) (c ∷ cs))
+      by true byte =
+          let goes = behind-byte c (byte refl) in
+          let within = subst (λ (p : Point). p.column ≤ width p.line) goes (text-within width count (behind c) cs is.1) in
+          rw goes
+          (last-lies r c.line start (c.column + 1) (spot c.line (c.column + 1)) (omega (arith, is.0.line, is.0.real)) (omega (arith, h, is.0.column)) within (refl, omega arith))
+      by false byte =
+          piece-lies r c.line start c.column (event.Fault fault.StringEnd c.line ∷ []) at
+          (omega (arith, is.0.line, is.0.real)) (omega (arith, h, is.0.column)) (rw is.0.line (omega (arith, is.0.column, is.0.inside))) (is.0.line, omega (arith, is.0.column))
+
+  quoted-lies : (r : Region) → ((n : Option ℕ) → unit_of r None n ≡ unit.Stop) → ((b : Option ℕ) → unit_of r b None ≡ unit.Two → holds backslash b ≡ true) → (close : ℕ) (s : ScanState) (at : Point) (c : Cell) (cs : List Cell)
+      → IsTextAt width count at (c ∷ cs) → IsByte c.byte
+      → Lies width count true at (quoted_text r close s (c ∷ cs)).events true (walked at (1 + (quoted_text r close s (c ∷ cs)).more) (c ∷ cs))
+  quoted-lies r stops takes close s at c cs is byte =
+      let goes = behind-byte c byte in
+      let front : Point = spot c.line (c.column + 1) in
+      let text = subst (λ p. IsTextAt width count p cs) goes is.1 in
+      let n : ℕ = count_before r 0 cs in
+      let last : ℕ = one_if (holds close (byte_at 0 (drop n cs))) in
+      let es : List Event = cut_events (quote_end r close s.last) r 0 c.column cs in
+      let lie = cut-lies r stops takes (quote_end r close s.last) (quote-final close) (λ p start h. (refl, h)) (quote_stop-lies r close) front c.column cs (omega arith) text in
+      let to : walked at (1 + (n + last)) (c ∷ cs) ≡ walked (walked front n cs) last (drop n cs) =
+      walked-more at c cs (n + last) ∙ ap (λ p. walked p (n + last) cs) goes ∙ walked-add front n last cs in
+      subst (λ p. Lies width count true at es true p) (sym to)
+      (lies-after width count true true at (spot c.line c.column) es true (walked (walked front n cs) last (drop n cs)) (sym is.0.line, omega (arith, is.0.column)) lie)
+
+  pub double_quoted-lies : (s : ScanState) (at : Point) (c : Cell) (cs : List Cell) → IsTextAt width count at (c ∷ cs) → IsByte c.byte
+      → Lies width count true at (quoted_text region.DoubleQuote double_quote s (c ∷ cs)).events true (walked at (1 + (quoted_text region.DoubleQuote double_quote s (c ∷ cs)).more) (c ∷ cs))
+  double_quoted-lies = quoted-lies region.DoubleQuote (λ n. refl) (quoted-takes double_quote) double_quote
+
+  pub apostrophe-lies : (s : ScanState) (at : Point) (c : Cell) (cs : List Cell) → IsTextAt width count at (c ∷ cs) → IsByte c.byte
+      → Lies width count true at (quoted_text region.Apostrophe apostrophe s (c ∷ cs)).events true (walked at (1 + (quoted_text region.Apostrophe apostrophe s (c ∷ cs)).more) (c ∷ cs))
+  apostrophe-lies = quoted-lies region.Apostrophe (λ n. refl) (quoted-takes apostrophe) apostrophe
+
+  pub include_name-lies : (s : ScanState) (at : Point) (c : Cell) (cs : List Cell) → IsTextAt width count at (c ∷ cs) → IsByte c.byte
+      → Lies width count true at (quoted_text region.IncludeName greater_sign s (c ∷ cs)).events true (walked at (1 + (quoted_text region.IncludeName greater_sign s (c ∷ cs)).more) (c ∷ cs))
+  include_name-lies = quoted-lies region.IncludeName (λ n. refl) include-takes greater_sign
+
+  -- verbatim texts
+
+  abbrev verbatim-final : Point → List Cell → Point
+  verbatim-final at text = walked at (two_if (ends_mark text)) text
+
+  final-precedes : (at : Point) (text : List Cell) → IsTextAt width count at text → PrecedesOnLine at (verbatim-final at text)
+  final-precedes at text is = end-precedes width count (ends_mark text) at text is (are-bytes at_sign greater_sign text)
+
+  verbatim_stop-lies : (at : Point) (start : ℕ) (c : Cell) (cs : List Cell) → start ≤ at.column → IsTextAt width count at (c ∷ cs)
+      → Lies width count true (spot at.line start) (verbatim_stop start c) true (verbatim-final at (c ∷ cs))
+  verbatim_stop-lies at start c cs h is =
+      let goes = final-precedes at (c ∷ cs) is in
+      let to : Point = verbatim-final at (c ∷ cs) in
+      let from : PrecedesOnLine (spot c.line c.column) to = (is.0.line ∙ goes.0, omega (arith, is.0.column, goes.1)) in
+      subst (λ l. Lies width count true (spot l start) (verbatim_stop start c) true to) is.0.line
+      (piece-lies region.Verbatim c.line start c.column (fault_if (is_line_end c.byte) fault.VerbatimEnd c.line) to
+      (omega (arith, is.0.line, is.0.real)) (omega (arith, h, is.0.column)) (rw is.0.line (omega (arith, is.0.column, is.0.inside)))
+      (faults-lie width count (is_line_end c.byte) fault.VerbatimEnd c.line (spot c.line c.column) to from))
+
+  -- an empty one
+  empty-lies : (at : Point) (text : List Cell) → IsTextAt width count at text → 0 < at.column
+      → Lies width count true at (event.Verbatim (span_at 0 text) ∷ empty_end text) true (verbatim-final at text)
+  empty-lies at [] is h = absurd (omega (arith, is, h))
+  empty-lies at (c ∷ cs) is h =
+      let goes = final-precedes at (c ∷ cs) is in (
+        record {
+          line = is.0.line;
+          real = is.0.real;
+          start = omega (arith, is.0.column);
+          order = omega arith;
+          end = omega (arith, is.0.column, is.0.inside);
+        },
+        faults-lie width count (is_line_end c.byte) fault.VerbatimEnd c.line (spot c.line (c.column + 0)) (verbatim-final at (c ∷ cs)) (is.0.line ∙ goes.0, omega (arith, is.0.column, goes.1)),
+      )
+
+  verbatim_events-lies : (at : Point) (text : List Cell) → 0 < at.column → IsTextAt width count at text
+      → Lies width count true at (verbatim_events text) true (verbatim-final (walked at (count_before region.Verbatim 0 text) text) (drop (count_before region.Verbatim 0 text) text))
+  verbatim_events-lies at [] behind_code is = absurd (omega (arith, is.0, behind_code))
+  verbatim_events-lies at (c ∷ cs) behind_code is =
+      elim (eqb_tells (count_before region.Verbatim 0 (c ∷ cs)) 0) [
+        | inl none ↦ rw none.1 (empty-lies at (c ∷ cs) is behind_code)
+        | inr some ↦
+            let text : List Cell = c ∷ cs in
+            let to : Point = verbatim-final (walked at (count_before region.Verbatim 0 text) text) (drop (count_before region.Verbatim 0 text) text) in
+            rw some.0
+            (subst (λ start. Lies width count true at (cut_events verbatim_end region.Verbatim 0 start text) true to) (sym is.0.column)
+            (cut-lies region.Verbatim (λ n. refl) verbatim-takes verbatim_end verbatim-final (λ p start h. (refl, h)) verbatim_stop-lies at at.column text (omega arith) is))
+      ]
+
+  pub verbatim_text-lies : (s : ScanState) (at : Point) (c : Cell) (cs : List Cell) → IsTextAt width count at (c ∷ cs) → HoldsBytes 2 (c ∷ cs)
+      → Lies width count true at (verbatim_text s (c ∷ cs)).events true (walked at (1 + (verbatim_text s (c ∷ cs)).more) (c ∷ cs))
+  verbatim_text-lies s at c cs is h =
+      let rest : List Cell = drop 1 cs in
+      let front : Point = walked at 2 (c ∷ cs) in
+      let there : front ≡ spot at.line (at.column + 2) = walked-bytes width count at 2 (c ∷ cs) is h in
+      let text : IsTextAt width count front rest = text-walked width count at 2 (c ∷ cs) is in
+      let n : ℕ = count_before region.Verbatim 0 rest in
+      let last : ℕ = two_if (ends_mark (drop n rest)) in
+      let es : List Event = verbatim_events rest in
+      let line : at.line ≡ front.line = sym (ap (λ (p : Point). p.line) there) in
+      let column : front.column ≡ at.column + 2 = ap (λ (p : Point). p.column) there in
+      let lie : Lies width count true front es true (walked (walked front n rest) last (drop n rest)) =
+      verbatim_events-lies front rest (omega (arith, column)) text in
+      let sum : 1 + (1 + n + last) ≡ 2 + (n + last) = omega arith in
+      let to : walked at (1 + (1 + n + last)) (c ∷ cs) ≡ walked (walked front n rest) last (drop n rest) =
+      ap (λ k. walked at k (c ∷ cs)) sum ∙ walked-add at 2 (n + last) (c ∷ cs) ∙ walked-add front n last rest in
+      subst (λ p. Lies width count true at es true p) (sym to)
+      (lies-after width count true true at front es true (walked (walked front n rest) last (drop n rest)) (line, omega (arith, column)) lie)

@@ -1,0 +1,33 @@
+use Rattle.std.proofs.Common.{arith, ◌∙◌}
+use Rattle.tangle_lines.specs.Reading.{SourceRead}
+use Rattle.tangle_scan.specs.Web.{web_of}
+use Rattle.tangle_scan.specs.WellFormed.{IsWellFormed}
+use Rattle.tangle_scan.proofs.ScanLemmas.{web-whole}
+use Rattle.tangle_scan.proofs.WebLaws.{web-in-range, web-in-order, web-line-truth}
+use Rattle.tangle_scan.proofs.NamesKept.{names-in-range}
+use Rattle.tangle_scan.proofs.scanning.scan.Goals as goal
+
+web-well-formed : (source : SourceRead) → IsWellFormed (web_of source)
+web-well-formed source = record { spans = web-in-range source; names = names-in-range source }
+
+pub gather-requires : goal.gather-requires
+gather-requires c = omega (arith, c.byte_count.ensures)
+
+pub new-requires : goal.new-requires
+new-requires c =
+    let gathered = c.in_ok-gathering.ensures in
+    rw (web-whole c.args.source.now _ _ _ _ c.in_ok-lines.ensures c.in_ok-file_names.ensures gathered.gathered gathered.names) (web-well-formed c.args.source.now)
+
+pub returns-clause-web : goal.returns-clause-web
+returns-clause-web c =
+    let gathered = c.in_ok-gathering.ensures in
+    c.new.ensures ∙ web-whole c.args.source.now _ _ _ _ c.in_ok-lines.ensures c.in_ok-file_names.ensures gathered.gathered gathered.names
+
+pub returns-clause-well_formed : goal.returns-clause-well_formed
+returns-clause-well_formed c = rw (returns-clause-web c) (web-well-formed c.args.source.now)
+
+pub returns-clause-order : goal.returns-clause-order
+returns-clause-order c = rw (returns-clause-web c) (web-in-order c.args.source.now)
+
+pub returns-clause-line_truth : goal.returns-clause-line_truth
+returns-clause-line_truth c = rw (returns-clause-web c) (web-line-truth c.args.source.now)

@@ -1,0 +1,99 @@
+-- The compiler's place in a piece, and that the piece's texts stand there on their own lines.
+use Rattle.std.specs.Prelude.{◌≡◌, ◌<◌, ℕ, length, Bool, true, false, List, [], ◌∷◌, flat_map, if◌then◌else◌, Option, Some, None}
+use Rattle.std.specs.List.{AllZip}
+use Rattle.tangle_lines.specs.declared.faults.Origin.{Origin}
+use Rattle.tangle_scan.specs.declared.events.Event.{Event}
+use Rattle.tangle_scan.specs.declared.events.Event.TheVariants as event
+use Rattle.tangle_scan.specs.declared.items.Item.{Item}
+use Rattle.tangle_scan.specs.declared.items.Item.TheVariants as item
+use Rattle.tangle_lines.specs.Reading.{Line, SourceRead}
+use Rattle.tangle_scan.specs.Steps.{all_events}
+use Rattle.tangle_scan.specs.Web.{WebRead, PartKind, parts}
+use Rattle.tangle_scan.specs.Web.PartKind.{OfMacro, OfPiece}
+use Rattle.tangle_scan.specs.Rules.{place_at, next_line, without_faults}
+
+-- Items with a text of their own are words, signs, quoted and verbatim texts, and ASCII codes.
+
+-- an item with a text, and the compiler's place there, where it is known
+pub record Placed : Type 0 where
+  pub item : Item
+  pub place : Option Origin
+
+abbrev pub with_line_end : Option Origin → Option Origin
+with_line_end None = None
+with_line_end (Some p) = Some (next_line p)
+
+-- The items with a text, each with the compiler's place. A mark sets the place, and a line end in the output adds one line. The place
+-- isn't known behind a use and behind the macros, until the next mark.
+abbrev pub placed_items : Option Origin → List Item → List Placed
+placed_items place [] = []
+placed_items place (item.Word s ∷ items) = record { item = item.Word s; place = place } ∷ placed_items place items
+placed_items place (item.Sign s ∷ items) = record { item = item.Sign s; place = place } ∷ placed_items place items
+placed_items place (item.Quoted s ∷ items) = record { item = item.Quoted s; place = place } ∷ placed_items place items
+placed_items place (item.Verbatim s ∷ items) = record { item = item.Verbatim s; place = place } ∷ placed_items place items
+placed_items place (item.Code b ∷ items) = record { item = item.Code b; place = place } ∷ placed_items place items
+placed_items place (item.LineMark p ∷ items) = placed_items (Some p) items
+placed_items place (item.LineEnd ∷ items) = placed_items (with_line_end place) items
+placed_items place (item.QuoteBreak ∷ items) = placed_items (with_line_end place) items
+placed_items place (item.UseOf name ∷ items) = placed_items None items
+placed_items place (item.Defs ∷ items) = placed_items None items
+placed_items place (item.Blank ∷ items) = placed_items place items
+
+-- An item with a text, the source line that the text stands on, and whether it is in a stretch, where the compiler's place is another.
+-- The item of an ASCII code doesn't tell its line, and a run that was removed has no item: so these come from the events of the part.
+pub record Standing : Type 0 where
+  pub item : Item
+  pub line : ℕ
+  pub in_stretch : Bool
+
+-- whether a stretch is on behind a run of joins, white space and line ends: with a line end the run begins one, if a join removes it,
+-- and else ends it
+abbrev pub is_on : Bool → Bool → Bool → Bool
+is_on stretch joined broken = if broken then joined else stretch
+
+-- What the events with a text are as items, and where they stand. A stretch begins at a line end that a quoted text takes with it, and
+-- where a run with a line end is removed; it ends at a line end that stays and at a mark. The flags say whether a stretch is on before
+-- the run that stands directly before, and whether this run has a join and a line end.
+abbrev pub standings : Bool → Bool → Bool → List Event → List Standing
+standings stretch joined broken [] = []
+standings stretch joined broken (event.Join ∷ es) = standings stretch true broken es
+standings stretch joined broken (event.White ∷ es) = standings stretch joined broken es
+standings stretch joined broken (event.LineEnd line ∷ es) = standings stretch joined true es
+standings stretch joined broken (event.QuoteBreak ∷ es) = standings true false false es
+standings stretch joined broken (event.UseOf name line ∷ es) = standings false false false es
+standings stretch joined broken (event.Defs line ∷ es) = standings false false false es
+standings stretch joined broken (event.Word s ∷ es) =
+    record { item = item.Word s; line = s.line; in_stretch = is_on stretch joined broken } ∷ standings (is_on stretch joined broken) false false es
+standings stretch joined broken (event.Sign s ∷ es) =
+    record { item = item.Sign s; line = s.line; in_stretch = is_on stretch joined broken } ∷ standings (is_on stretch joined broken) false false es
+standings stretch joined broken (event.Quoted s ∷ es) =
+    record { item = item.Quoted s; line = s.line; in_stretch = is_on stretch joined broken } ∷ standings (is_on stretch joined broken) false false es
+standings stretch joined broken (event.Verbatim s ∷ es) =
+    record { item = item.Verbatim s; line = s.line; in_stretch = is_on stretch joined broken } ∷ standings (is_on stretch joined broken) false false es
+standings stretch joined broken (event.Code b line ∷ es) =
+    record { item = item.Code b; line = line; in_stretch = is_on stretch joined broken } ∷ standings (is_on stretch joined broken) false false es
+standings stretch joined broken (_ ∷ es) = standings (is_on stretch joined broken) false false es
+
+-- Both are the same item, which stands on a line of the source; outside a stretch the compiler's place is that of this line.
+pub record IsOwn (lines : List Line) (p : Placed) (s : Standing) : Type 0 where
+  pub item : p.item ≡ s.item
+  pub line : s.line < length lines
+  pub place : s.in_stretch ≡ false → p.place ≡ Some (place_at lines s.line)
+
+-- The items with a text of a piece whose opening mark has this place, and which comes from these events: outside stretches each stands
+-- at the compiler's place that is its own.
+abbrev pub StandsAtItsLine : List Line → Origin → List Item → List Event → Type 0
+StandsAtItsLine lines mark items events = AllZip (IsOwn lines) (placed_items (Some mark) items) (standings false false false (without_faults events))
+
+abbrev pub kind_events : PartKind → List Event → List (List Event)
+kind_events (OfMacro line) events = []
+kind_events (OfPiece name line) events = events ∷ []
+
+-- the events of each C part of the source, in order
+abbrev pub piece_events : List Line → List (List Event)
+piece_events lines = flat_map (λ p. kind_events p.kind p.events) (parts 0 (all_events lines))
+
+-- the texts of each piece stand at their lines
+abbrev pub PiecesStandAtTheirLines : SourceRead → WebRead → Type 0
+PiecesStandAtTheirLines source web =
+    AllZip (λ p events. StandsAtItsLine source.lines p.place p.items events) web.pieces (piece_events source.lines)

@@ -1,0 +1,44 @@
+-- Where the texts of items stand: in lines of the source, and in its order.
+use Rattle.std.specs.Prelude.{◌≡◌, ◌≤◌, ◌<◌, ℕ, List, [], ◌∷◌, length, get_or, flat_map}
+use Rattle.std.specs.List.{All, AllPairs}
+use Rattle.tangle_scan.specs.declared.items.Span.{Span}
+use Rattle.tangle_scan.specs.declared.items.Item.{Item}
+use Rattle.tangle_scan.specs.declared.items.Item.TheVariants as item
+use Rattle.tangle_scan.specs.Web.{WebRead}
+
+-- a span is a range of a source line
+pub record IsSpan (texts : List (List ℕ)) (s : Span) : Type 0 where
+  pub line : s.line < length texts
+  pub start : s.start ≤ s.end
+  pub end : s.end ≤ length (get_or texts s.line [])
+
+-- so is that of an item which has one
+abbrev pub IsInRange : List (List ℕ) → Item → Type 0
+IsInRange texts (item.Word s) = IsSpan texts s
+IsInRange texts (item.Sign s) = IsSpan texts s
+IsInRange texts (item.Quoted s) = IsSpan texts s
+IsInRange texts (item.Verbatim s) = IsSpan texts s
+IsInRange texts _ = Unit {0}
+
+-- each span of an item is a range of a source line
+pub record SpansAreInRange (web : WebRead) : Type 0 where
+  pub pieces : All (λ p. All (IsInRange web.texts) p.items) web.pieces
+  pub macros : All (All (IsInRange web.texts)) web.macros
+
+-- the spans of items, in the order of the items
+abbrev pub item_spans : List Item → List Span
+item_spans [] = []
+item_spans (item.Word s ∷ items) = s ∷ item_spans items
+item_spans (item.Sign s ∷ items) = s ∷ item_spans items
+item_spans (item.Quoted s ∷ items) = s ∷ item_spans items
+item_spans (item.Verbatim s ∷ items) = s ∷ item_spans items
+item_spans (_ ∷ items) = item_spans items
+
+-- one span ends before the other begins: it stands on an earlier line, or further left on the same line
+abbrev pub IsBefore : Span → Span → Type 0
+IsBefore s t = (s.line ≤ t.line) × (s.line ≡ t.line → s.end ≤ t.start)
+
+-- Of the spans of all pieces, one piece after another, each stands before all later ones; so do those of all macros.
+pub record SpansAreInOrder (web : WebRead) : Type 0 where
+  pub pieces : AllPairs IsBefore (flat_map (λ p. item_spans p.items) web.pieces)
+  pub macros : AllPairs IsBefore (flat_map item_spans web.macros)
