@@ -1,0 +1,9 @@
+mod KeyLemmas
+mod LawLemmas
+mod MeaningLemmas
+mod NumberLemmas
+mod OrderLemmas
+mod ResolvingLemmas
+mod Rows
+mod SortedLemmas
+mod TableLemmas

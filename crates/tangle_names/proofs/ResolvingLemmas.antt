@@ -1,0 +1,137 @@
+-- What is meant has its name among the names, and its number stays.
+use Rattle.std.proofs.Common.{◌≡◌, ◌+◌, ◌∙◌, ◌||◌, ℕ, Bool, true, false, cond, not, List, [], ◌∷◌, ◌++◌, length, map, take, fold, get_or, refl, ap, sym, arith, inl, inr, ◌<◌, Contains}
+use Rattle.std.specs.List.{list_any, position_or_len}
+use Rattle.std.specs.Str.{bytes_eq}
+use Rattle.std.proofs.lemmas.Cmp.{nat_list_eq_equiv}
+use Rattle.std.proofs.lemmas.List.{map_push, take_more}
+use Rattle.std.proofs.lemmas.List.Folds.{list_any-append}
+use Rattle.tangle_names.specs.declared.Resolved.{Resolved}
+use Rattle.tangle_names.specs.declared.Resolved.TheVariants.{Name}
+use Rattle.tangle_names.specs.Names.{Text, Meaning, Nothing, One, Several}
+use Rattle.tangle_names.specs.Resolving.{names_of, numbered, with_name}
+use Rattle.tangle_names.specs.Sorted.{meaning_of}
+use Rattle.tangle_names.specs.declared.sorted.Meaning.{Meaning as Found}
+use Rattle.tangle_names.proofs.MeaningLemmas.{cons_cases, here, there}
+
+-- what is meant is among the names
+either : (a b : Bool) → a ≡ true → (a || b) ≡ true
+either true b h = refl
+either false b h = absurd (cc)
+
+kept-with : (q : Text → Bool) (ts : List Text) (m : Meaning) → list_any q ts ≡ true → list_any q (with_name ts m) ≡ true
+kept-with q ts Nothing h = h
+kept-with q ts (One t) h = by (list_any (bytes_eq t) ts)
+  where
+    by : (b : Bool) → list_any q (cond b ts (ts ++ t ∷ [])) ≡ true
+    by true = h
+    by false = list_any-append q ts (t ∷ []) ∙ either (list_any q ts) (list_any q (t ∷ [])) h
+kept-with q ts Several h = h
+
+kept-fold : (q : Text → Bool) (ms : List Meaning) (ts : List Text) → list_any q ts ≡ true → list_any q (fold with_name ts ms) ≡ true
+kept-fold q [] ts h = h
+kept-fold q (m ∷ ms) ts h = kept-fold q ms (with_name ts m) (kept-with q ts m h)
+
+last_or : (a b : Bool) → b ≡ true → (a || (b || false)) ≡ true
+last_or true b h = refl
+last_or false true h = refl
+last_or false false h = absurd (cc)
+
+added : (ts : List Text) (t : Text) → list_any (bytes_eq t) (with_name ts (One t)) ≡ true
+added ts t = by (list_any (bytes_eq t) ts) refl
+  where
+    by : (b : Bool) → list_any (bytes_eq t) ts ≡ b → list_any (bytes_eq t) (cond (list_any (bytes_eq t) ts) ts (ts ++ t ∷ [])) ≡ true
+    by true is = ap (λ b. list_any (bytes_eq t) (cond b ts (ts ++ t ∷ []))) is ∙ is
+    by false is = ap (λ b. list_any (bytes_eq t) (cond b ts (ts ++ t ∷ []))) is ∙ (list_any-append (bytes_eq t) ts (t ∷ []) ∙ last_or (list_any (bytes_eq t) ts) (bytes_eq t t) (nat_list_eq_equiv.refl t))
+
+pub meant-fold : (t : Text) (ms : List Meaning) (ts : List Text) → Contains ms (One t) → list_any (bytes_eq t) (fold with_name ts ms) ≡ true
+meant-fold t [] ts c = absurd (omega (arith, c.1))
+meant-fold t (m ∷ ms) ts c = elim (cons_cases m ms (One t) c) [
+  | inl e ↦ kept-fold (bytes_eq t) ms (with_name ts m) (ap (λ n. list_any (bytes_eq t) (with_name ts n)) e ∙ added ts t)
+  | inr d ↦ meant-fold t ms (with_name ts m) d
+]
+
+-- a name keeps its number when another goes last
+found-append : (q : Text → Bool) (xs ys : List Text) → list_any q xs ≡ true → position_or_len q (xs ++ ys) ≡ position_or_len q xs
+found-append q [] ys h = absurd (cc)
+found-append q (x ∷ xs) ys h = by (q x) refl (found-append q xs ys)
+  where
+    by : (b : Bool) → q x ≡ b → (list_any q xs ≡ true → position_or_len q (xs ++ ys) ≡ position_or_len q xs)
+        → cond (not (q x)) (1 + position_or_len q (xs ++ ys)) 0 ≡ cond (not (q x)) (1 + position_or_len q xs) 0
+    by true is rest = ap (λ b. cond (not b) (1 + position_or_len q (xs ++ ys)) 0) is ∙ sym (ap (λ b. cond (not b) (1 + position_or_len q xs) 0) is)
+    by false is rest = ap (λ n. cond (not (q x)) (1 + n) 0) (rest (ap (λ b. b || list_any q xs) (sym is) ∙ h))
+
+neither : (a b : Bool) → (a || b) ≡ false → (a ≡ false) × (b ≡ false)
+neither true b h = absurd (cc)
+neither false b h = (refl, h)
+
+last-append : (q : Text → Bool) (xs : List Text) (y : Text) → q y ≡ true → list_any q xs ≡ false → position_or_len q (xs ++ y ∷ []) ≡ position_or_len q xs
+last-append q [] y is h = ap (λ b. cond (not b) (1 + 0) 0) is
+last-append q (x ∷ xs) y is h =
+    let both = neither (q x) (list_any q xs) h in
+    ap (λ n. cond (not (q x)) (1 + n) 0) (last-append q xs y is both.1)
+
+number-with : (ts : List Text) (m : Meaning) (t : Text) → list_any (bytes_eq t) ts ≡ true → position_or_len (bytes_eq t) (with_name ts m) ≡ position_or_len (bytes_eq t) ts
+number-with ts Nothing t h = refl
+number-with ts (One u) t h = by (list_any (bytes_eq u) ts)
+  where
+    by : (b : Bool) → position_or_len (bytes_eq t) (cond b ts (ts ++ u ∷ [])) ≡ position_or_len (bytes_eq t) ts
+    by true = refl
+    by false = found-append (bytes_eq t) ts (u ∷ []) h
+number-with ts Several t h = refl
+
+number-own : (ts : List Text) (t : Text) → position_or_len (bytes_eq t) (with_name ts (One t)) ≡ position_or_len (bytes_eq t) ts
+number-own ts t = by (list_any (bytes_eq t) ts) refl
+  where
+    by : (b : Bool) → list_any (bytes_eq t) ts ≡ b → position_or_len (bytes_eq t) (cond (list_any (bytes_eq t) ts) ts (ts ++ t ∷ [])) ≡ position_or_len (bytes_eq t) ts
+    by true is = ap (λ b. position_or_len (bytes_eq t) (cond b ts (ts ++ t ∷ []))) is
+    by false is = ap (λ b. position_or_len (bytes_eq t) (cond b ts (ts ++ t ∷ []))) is ∙ last-append (bytes_eq t) ts t (nat_list_eq_equiv.refl t) is
+
+numbered-own : (ts : List Text) (m : Meaning) → numbered (with_name ts m) m ≡ numbered ts m
+numbered-own ts Nothing = refl
+numbered-own ts (One t) = ap Name (number-own ts t)
+numbered-own ts Several = refl
+
+numbered-kept : (ms : List Meaning) (m n : Meaning) → Contains ms n → numbered (with_name (names_of ms) m) n ≡ numbered (names_of ms) n
+numbered-kept ms m Nothing c = refl
+numbered-kept ms m (One t) c = ap Name (number-with (names_of ms) m t (meant-fold t ms [] c))
+numbered-kept ms m Several c = refl
+
+map-agree : (f g : Meaning → Resolved) (ms : List Meaning) → ((m : Meaning) → Contains ms m → f m ≡ g m) → map f ms ≡ map g ms
+map-agree f g [] same = refl
+map-agree f g (m ∷ ms) same =
+    let first = same m (here m ms) in
+    let rest = map-agree f g ms (λ n c. same n (there m ms n c)) in
+    λ i. first i ∷ rest i
+
+fold-push : (ts : List Text) (ms : List Meaning) (m : Meaning) → fold with_name ts (ms ++ m ∷ []) ≡ with_name (fold with_name ts ms) m
+fold-push ts [] m = refl
+fold-push ts (n ∷ ms) m = fold-push (with_name ts n) ms m
+
+-- one more meaning
+pub names-more : (ms : List Found) (i : ℕ) (d : Found) → i < length ms
+    → names_of (map meaning_of (take (i + 1) ms)) ≡ with_name (names_of (map meaning_of (take i ms))) (meaning_of (get_or ms i d))
+names-more ms i d h =
+    ap (λ xs. names_of (map meaning_of xs)) (take_more ms i d h) ∙ ap names_of (map_push meaning_of (take i ms) (get_or ms i d))
+    ∙ fold-push [] (map meaning_of (take i ms)) (meaning_of (get_or ms i d))
+
+pub numbered-more : (ms : List Found) (i : ℕ) (d : Found) → i < length ms
+    → map (numbered (names_of (map meaning_of (take (i + 1) ms)))) (map meaning_of (take (i + 1) ms))
+    ≡ map (numbered (names_of (map meaning_of (take i ms)))) (map meaning_of (take i ms)) ++ numbered (names_of (map meaning_of (take i ms))) (meaning_of (get_or ms i d)) ∷ []
+numbered-more ms i d h =
+    let before = map meaning_of (take i ms) in
+    let last = meaning_of (get_or ms i d) in
+    let all : map meaning_of (take (i + 1) ms) ≡ before ++ last ∷ [] = ap (map meaning_of) (take_more ms i d h) ∙ map_push meaning_of (take i ms) (get_or ms i d) in
+    let named = names-more ms i d h in
+    (λ j. map (numbered (named j)) (all j)) ∙ map_push (numbered (with_name (names_of before) last)) before last
+    ∙ (λ j. map-agree (numbered (with_name (names_of before) last)) (numbered (names_of before)) before (λ n c. numbered-kept before last n c) j
+    ++ numbered-own (names_of before) last j ∷ [])
+
+pub names-step : (ms : List Found) (i : ℕ) (d : Found) (old new : List Text) → i < length ms → old ≡ names_of (map meaning_of (take i ms))
+    → new ≡ with_name old (meaning_of (get_or ms i d)) → new ≡ names_of (map meaning_of (take (i + 1) ms))
+names-step ms i d old new h sofar is = is ∙ (ap (λ ts. with_name ts (meaning_of (get_or ms i d))) sofar ∙ sym (names-more ms i d h))
+
+pub numbers-step : (ms : List Found) (i : ℕ) (d : Found) (names : List Text) (old new : List Resolved) (r : Resolved) → i < length ms → names ≡ names_of (map meaning_of (take i ms))
+    → old ≡ map (numbered (names_of (map meaning_of (take i ms)))) (map meaning_of (take i ms)) → r ≡ numbered names (meaning_of (get_or ms i d)) → new ≡ old ++ r ∷ []
+    → new ≡ map (numbered (names_of (map meaning_of (take (i + 1) ms)))) (map meaning_of (take (i + 1) ms))
+numbers-step ms i d names old new r h named sofar number is =
+    is ∙ ((λ j. sofar j ++ (number ∙ ap (λ ts. numbered ts (meaning_of (get_or ms i d))) named) j ∷ []) ∙ sym (numbered-more ms i d h))

@@ -1,0 +1,261 @@
+-- The sorted full names: how they come from a sort, and where those stand that begin with a prefix.
+use Rattle.std.proofs.Common.{◌≡◌, ◌≢◌, ◌≤◌, ◌<◌, ◌+◌, ◌∙◌, ℕ, zero, suc, Bool, true, false, cond, not, ◌&&◌, List, [], ◌∷◌, length, get_or, filter, refl, ap, sym, subst, inl, inr, arith, Contains}
+use Rattle.std.specs.Borrow.{Bor}
+use Rattle.std.specs.BTreeMap.Comparable.{le_lt_trans}
+use Rattle.std.specs.List.{dedup, dedup_from}
+use Rattle.std.specs.Ordering.{nat_cmp, is_lt, is_le, is_gt, ordering_reverse}
+use Rattle.std.specs.declared.cmp.Ordering.{Ordering}
+use Rattle.std.specs.declared.cmp.Ordering.TheVariants.{Less, Equal, Greater}
+use Rattle.std.specs.Cmp.Lexicographic.{slice_cmp, texts_ties}
+use Rattle.std.specs.List.Sorted.{IsPartitionedBy, IsPartitionPoint, IsSorted, IsPermutation}
+use Rattle.std.specs.Str.{bytes_eq}
+use Rattle.std.proofs.lemmas.Bool.{cases_lt}
+use Rattle.std.proofs.lemmas.Cmp.{nat_list_cmp_total, nat_list_eq_equiv}
+use Rattle.std.proofs.lemmas.List.{get_or-map, length-map, get_or_default}
+use Rattle.std.proofs.lemmas.List.Elements.{All-contains, Contains-get_or}
+use Rattle.std.proofs.lemmas.List.Kept.{Contains-dedup, Contains-from_dedup, IsStrictlySortedBy-dedup}
+use Rattle.std.proofs.lemmas.List.Sorted.{IsPermutation-map, IsPermutation-sym, Contains-permutation}
+use Rattle.std.proofs.lemmas.Map.Keys.{sorted_tail}
+use Rattle.std.proofs.lemmas.Map.Views.{All-after_first}
+use Rattle.std.proofs.lemmas.Slice.Eq.{bytes_eq-Decides}
+use Rattle.tangle_names.specs.Names.{Text, Nothing, One, Several, only_with, begins_with}
+use Rattle.tangle_names.specs.Faults.{begins_another}
+use Rattle.tangle_names.specs.Sorted.{BeginsAt, IsInOrder, SameTexts, texts_of}
+use Rattle.tangle_names.proofs.MeaningLemmas.{into_filter, list_any-none, list_any-some, only-nothing, only-one, only-several, out_of_filter}
+use Rattle.tangle_names.proofs.OrderLemmas.{begins-above, begins-between}
+
+size : (sorted : List (Bor Text)) → length (texts_of sorted) ≡ length sorted
+size sorted = length-map sorted (λ (b : Bor Text). b.now)
+
+pub at_text : (sorted : List (Bor Text)) (k : ℕ) (d : Bor Text) → k < length sorted → get_or (texts_of sorted) k [] ≡ (get_or sorted k d).now
+at_text sorted k d h = get_or-map (λ (b : Bor Text). b.now) sorted k d [] h
+
+-- of two names the one that stands first is below the other
+pub rising : (texts : List Text) → IsInOrder texts → (i j : ℕ) → i < j → j < length texts → slice_cmp nat_cmp (get_or texts i []) (get_or texts j []) ≡ Less
+rising [] up i j low high = absurd (omega arith)
+rising (t ∷ ts) up zero zero low high = absurd (omega arith)
+rising (t ∷ ts) up zero (suc j) low high =
+    let inside : j < length ts = omega arith in
+    All-contains (λ u. slice_cmp nat_cmp t u ≡ Less) ts (get_or ts j []) (All-after_first (slice_cmp nat_cmp) t ts up) (Contains-get_or ts j [] inside)
+rising (t ∷ ts) up (suc i) zero low high = absurd (omega arith)
+rising (t ∷ ts) up (suc i) (suc j) low high =
+    let before : i < j = omega arith in
+    let inside : j < length ts = omega arith in
+    rising ts (sorted_tail (slice_cmp nat_cmp) t ts up) i j before inside
+
+alike : (t : Text) → slice_cmp nat_cmp t t ≡ Equal
+alike t = by (slice_cmp nat_cmp t t) refl
+  where
+    by : (r : Ordering) → slice_cmp nat_cmp t t ≡ r → slice_cmp nat_cmp t t ≡ Equal
+    by Less is = absurd (let clash : Less ≡ Greater = sym is ∙ (nat_list_cmp_total.antisymm t t ∙ ap ordering_reverse is) in cc)
+    by Equal is = is
+    by Greater is = absurd (let clash : Greater ≡ Less = sym is ∙ (nat_list_cmp_total.antisymm t t ∙ ap ordering_reverse is) in cc)
+
+-- nor is it above it
+pub no_higher : (texts : List Text) → IsInOrder texts → (i j : ℕ) → i ≤ j → j < length texts → is_gt (slice_cmp nat_cmp (get_or texts i []) (get_or texts j [])) ≡ false
+no_higher texts up i j low high = elim (cases_lt i j) [
+  | inl before ↦ ap is_gt (rising texts up i j before high)
+  | inr after ↦ (let same : i ≡ j = omega arith in
+      ap (λ k. is_gt (slice_cmp nat_cmp (get_or texts i []) (get_or texts k []))) (sym same) ∙ ap is_gt (alike (get_or texts i [])))
+]
+
+-- the names that begin with a prefix stand together, from one place on
+pub record Gathers (texts : List Text) (p : Text) (first : ℕ) : Type 0 where
+  pub below : (k : ℕ) → k < first → k < length texts → begins_with p (get_or texts k []) ≡ false
+  pub together : (j k : ℕ) → first ≤ j → j ≤ k → k < length texts → begins_with p (get_or texts k []) ≡ true → begins_with p (get_or texts j []) ≡ true
+
+is_not : (b : Bool) → (b ≡ true → ⊥) → b ≡ false
+is_not true h = absurd (h refl)
+is_not false h = refl
+
+pub gathers : (texts : List Text) (p : Text) (first : ℕ) → IsInOrder texts
+    → ((k : ℕ) → k < first → k < length texts → is_lt (slice_cmp nat_cmp (get_or texts k []) p) ≡ true)
+    → ((k : ℕ) → first ≤ k → k < length texts → is_lt (slice_cmp nat_cmp (get_or texts k []) p) ≡ false)
+    → Gathers texts p first
+gathers texts p first up lower upper = record {
+  below = λ k h inside. is_not _ (λ begun. let clash : true ≡ false = sym (lower k h inside) ∙ begins-above p (get_or texts k []) begun in cc);
+  together = λ j k low high inside begun.
+      let within : j < length texts = omega (arith, high, inside) in
+      begins-between p (get_or texts j []) (get_or texts k []) (upper j low within) (no_higher texts up j k high inside) begun;
+}
+
+-- a name of the table that begins with the prefix stands at this place or behind it
+found_at : (texts : List Text) (p : Text) (first : ℕ) → Gathers texts p first → (t : Text) → Contains texts t → begins_with p t ≡ true
+    → (k : ℕ) × (first ≤ k) × (k < length texts) × (get_or texts k [] ≡ t)
+found_at texts p first g t c begun =
+    let at : get_or texts c.0 [] ≡ t = get_or_default texts c.0 [] t c.1 ∙ c.2 in
+    elim (cases_lt c.0 first) [
+      | inl less ↦ absurd (let clash : true ≡ false = sym (ap (begins_with p) at ∙ begun) ∙ g.below c.0 less c.1 in cc)
+      | inr more ↦ (c.0, more, c.1, at)
+    ]
+
+pub nothing_found : (full texts : List Text) (p : Text) (first : ℕ) → SameTexts full texts → Gathers texts p first
+    → (BeginsAt texts p first → ⊥) → Nothing ≡ only_with full p
+nothing_found full texts p first same g missing = only-nothing (filter (begins_with p) full) (λ t c.
+    let member = out_of_filter (begins_with p) full t c in
+    let at = found_at texts p first g t (same.over t member.0) member.1 in
+    let inside : first < length texts = omega (arith, at.1, at.2) in
+    missing (inside, g.together first at.0 (omega arith) at.1 at.2 (ap (begins_with p) at.3 ∙ member.1)))
+
+inside_full : (full texts : List Text) (p : Text) (k : ℕ) → SameTexts full texts → BeginsAt texts p k → Contains (filter (begins_with p) full) (get_or texts k [])
+inside_full full texts p k same begun = into_filter (begins_with p) full (get_or texts k []) (same.back (get_or texts k []) (Contains-get_or texts k [] begun.0)) begun.1
+
+pub one_found : (full texts : List Text) (p : Text) (first : ℕ) → SameTexts full texts → Gathers texts p first
+    → BeginsAt texts p first → (BeginsAt texts p (first + 1) → ⊥) → One (get_or texts first []) ≡ only_with full p
+one_found full texts p first same g begun alone =
+    only-one (filter (begins_with p) full) (get_or texts first []) (inside_full full texts p first same begun) (λ u c.
+    let member = out_of_filter (begins_with p) full u c in
+    let at = found_at texts p first g u (same.over u member.0) member.1 in
+    elim (cases_lt first at.0) [
+      | inl behind ↦ absurd (
+          let inside : first + 1 < length texts = omega (arith, behind, at.2) in
+          alone (inside, g.together (first + 1) at.0 (omega arith) (omega (arith, behind)) at.2 (ap (begins_with p) at.3 ∙ member.1)))
+      | inr here ↦ (let same_place : at.0 ≡ first = omega (arith, here, at.1) in sym at.3 ∙ ap (λ k. get_or texts k []) same_place)
+    ])
+
+-- names at different places differ
+pub apart : (texts : List Text) → IsInOrder texts → (i j : ℕ) → i < j → j < length texts → get_or texts i [] ≢ get_or texts j []
+apart texts up i j low high same =
+    let clash : Less ≡ Equal = sym (rising texts up i j low high) ∙ (ap (slice_cmp nat_cmp (get_or texts i [])) (sym same) ∙ alike (get_or texts i [])) in
+    cc
+
+pub several_found : (full texts : List Text) (p : Text) (first : ℕ) → SameTexts full texts → IsInOrder texts
+    → BeginsAt texts p first → BeginsAt texts p (first + 1) → Several ≡ only_with full p
+several_found full texts p first same up begun more =
+    only-several (filter (begins_with p) full) (get_or texts first []) (get_or texts (first + 1) [])
+    (inside_full full texts p first same begun) (inside_full full texts p (first + 1) same more) (apart texts up first (first + 1) (omega arith) more.0)
+
+-- a name begins another where it begins the next one
+gathers_at : (texts : List Text) (i : ℕ) → IsInOrder texts → i < length texts → Gathers texts (get_or texts i []) i
+gathers_at texts i up inside = gathers texts (get_or texts i []) i up
+    (λ k low h. ap is_lt (rising texts up k i low inside))
+    (λ k low h. turned (slice_cmp nat_cmp (get_or texts i []) (get_or texts k [])) _ (nat_list_cmp_total.antisymm (get_or texts k []) (get_or texts i [])) (no_higher texts up i k low h))
+  where
+    turned : (r s : Ordering) → s ≡ ordering_reverse r → is_gt r ≡ false → is_lt s ≡ false
+    turned Less s e h = ap is_lt e
+    turned Equal s e h = ap is_lt e
+    turned Greater s e h = absurd (cc)
+
+pub begins-next : (texts : List Text) (i : ℕ) → IsInOrder texts → i < length texts → BeginsAt texts (get_or texts i []) (i + 1)
+    → begins_another texts (get_or texts i []) ≡ true
+begins-next texts i up inside next =
+    list_any-some (λ other. begins_with (get_or texts i []) other && not (bytes_eq (get_or texts i []) other)) texts (get_or texts (i + 1) []) (Contains-get_or texts (i + 1) [] next.0)
+    (λ j. next.1 j && not (differ j))
+  where
+    differ : bytes_eq (get_or texts i []) (get_or texts (i + 1) []) ≡ false
+    differ = is_not _ (λ same. apart texts up i (i + 1) (omega arith) next.0 ((bytes_eq-Decides (get_or texts i []) (get_or texts (i + 1) [])).0 same))
+
+pub begins-none : (texts : List Text) (i : ℕ) → IsInOrder texts → i < length texts → (BeginsAt texts (get_or texts i []) (i + 1) → ⊥)
+    → begins_another texts (get_or texts i []) ≡ false
+begins-none texts i up inside alone =
+    list_any-none (λ other. begins_with (get_or texts i []) other && not (bytes_eq (get_or texts i []) other)) texts (λ v c. is_not _ (λ passes.
+    let begun = left _ _ passes in
+    let at = found_at texts (get_or texts i []) i (gathers_at texts i up inside) v c begun in
+    elim (cases_lt i at.0) [
+      | inl behind ↦ (
+          let within : i + 1 < length texts = omega (arith, behind, at.2) in
+          alone (within, (gathers_at texts i up inside).together (i + 1) at.0 (omega arith) (omega (arith, behind)) at.2 (ap (begins_with (get_or texts i [])) at.3 ∙ begun)))
+      | inr here ↦ (
+          let same_place : i ≡ at.0 = omega (arith, here, at.1) in
+          let same : get_or texts i [] ≡ v = ap (λ k. get_or texts k []) same_place ∙ at.3 in
+          let clash : true ≡ false = sym (right _ _ passes) ∙ ap not ((bytes_eq-Decides (get_or texts i []) v).1 same) in
+          cc)
+    ]))
+  where
+    left : (a b : Bool) → (a && b) ≡ true → a ≡ true
+    left true b h = refl
+    left false b h = h
+
+    right : (a b : Bool) → (a && b) ≡ true → b ≡ true
+    right true b h = h
+    right false b h = absurd (cc)
+
+-- what a sort and a `dedup` leave
+sorted_texts : (sorted : List (Bor Text)) → IsSorted (λ (x y : Bor Text). slice_cmp nat_cmp x.now y.now) sorted → IsSorted (slice_cmp nat_cmp) (texts_of sorted)
+sorted_texts [] up k d low high = absurd (omega arith)
+sorted_texts (b ∷ bs) up k d low high =
+    let count : k + 1 < length (b ∷ bs) = omega (arith, size (b ∷ bs)) in
+    let lower : k < length (b ∷ bs) = omega arith in
+    let is = up k b low count in
+    rw (get_or-map (λ (b : Bor Text). b.now) (b ∷ bs) (k + 1) b d count, get_or-map (λ (b : Bor Text). b.now) (b ∷ bs) k b d lower) is
+
+texts_of-cond : (test : Bool) (xs ys : List (Bor Text)) (us vs : List Text) → texts_of xs ≡ us → texts_of ys ≡ vs → texts_of (cond test xs ys) ≡ cond test us vs
+texts_of-cond true xs ys us vs e f = e
+texts_of-cond false xs ys us vs e f = f
+
+texts_of-dedup_from : (b : Bor Text) (bs : List (Bor Text)) → texts_of (dedup_from (λ (x y : Bor Text). bytes_eq x.now y.now) b bs) ≡ dedup_from bytes_eq b.now (texts_of bs)
+texts_of-dedup_from b [] = refl
+texts_of-dedup_from b (c ∷ cs) = texts_of-cond (bytes_eq c.now b.now) _ _ _ _ (texts_of-dedup_from b cs) (ap (λ (ts : List Text). b.now ∷ ts) (texts_of-dedup_from c cs))
+
+pub texts_of-dedup : (bs : List (Bor Text)) → texts_of (dedup (λ (x y : Bor Text). bytes_eq x.now y.now) bs) ≡ dedup bytes_eq (texts_of bs)
+texts_of-dedup [] = refl
+texts_of-dedup (b ∷ bs) = texts_of-dedup_from b bs
+
+pub order_of : (sorted left : List (Bor Text)) → IsSorted (λ (x y : Bor Text). slice_cmp nat_cmp x.now y.now) sorted
+    → left ≡ dedup (λ (x y : Bor Text). bytes_eq x.now y.now) sorted → IsInOrder (texts_of left)
+order_of sorted left up is =
+    rw (ap texts_of is ∙ texts_of-dedup sorted) (IsStrictlySortedBy-dedup nat_list_cmp_total texts_ties (texts_of sorted) (sorted_texts sorted up))
+
+pub same_of : (full : List Text) (names sorted left : List (Bor Text)) → texts_of names ≡ full → IsPermutation names sorted
+    → left ≡ dedup (λ (x y : Bor Text). bytes_eq x.now y.now) sorted → SameTexts full (texts_of left)
+same_of full names sorted left e moved is =
+    let texts : IsPermutation (texts_of names) (texts_of sorted) = IsPermutation-map (λ (b : Bor Text). b.now) names sorted moved in
+    let once : texts_of left ≡ dedup bytes_eq (texts_of sorted) = ap texts_of is ∙ texts_of-dedup sorted in
+    record {
+      over = λ t c. subst (λ xs. Contains xs t) (sym once)
+          (Contains-dedup nat_list_eq_equiv (λ x y h. (bytes_eq-Decides x y).0 h) (texts_of sorted) t (Contains-permutation (texts_of names) (texts_of sorted) t texts (rw e c)));
+      back = λ t c. subst (λ xs. Contains xs t) e (Contains-permutation (texts_of sorted) (texts_of names) t (IsPermutation-sym (texts_of names) (texts_of sorted) texts)
+          (Contains-from_dedup bytes_eq (texts_of sorted) t (subst (λ xs. Contains xs t) once c)));
+    }
+
+-- the place where the names begin that aren't below a prefix
+pub is_parted : (sorted : List (Bor Text)) (p : Text) → IsInOrder (texts_of sorted) → IsPartitionedBy (λ (b : Bor Text). is_lt (slice_cmp nat_cmp b.now p)) sorted
+is_parted sorted p up i j d low high is =
+    let before : i < length sorted = omega (arith, low, high) in
+    let within : j < length (texts_of sorted) = omega (arith, high, size sorted) in
+    let first = at_text sorted i d before in
+    let second = at_text sorted j d high in
+    let no_more : is_le (slice_cmp nat_cmp (get_or (texts_of sorted) i []) (get_or (texts_of sorted) j [])) ≡ true =
+    at_most _ (no_higher (texts_of sorted) up i j low within) in
+    ap (λ t. is_lt (slice_cmp nat_cmp t p)) (sym first)
+    ∙ ap is_lt (le_lt_trans nat_list_cmp_total (get_or (texts_of sorted) i []) (get_or (texts_of sorted) j []) p no_more
+    (less _ (ap (λ t. is_lt (slice_cmp nat_cmp t p)) second ∙ is)))
+  where
+    at_most : (r : Ordering) → is_gt r ≡ false → is_le r ≡ true
+    at_most Less h = refl
+    at_most Equal h = refl
+    at_most Greater h = absurd (cc)
+
+    less : (r : Ordering) → is_lt r ≡ true → r ≡ Less
+    less Less h = refl
+    less Equal h = absurd (cc)
+    less Greater h = absurd (cc)
+
+pub gathers_from : (sorted : List (Bor Text)) (p : Text) (first : ℕ) (d : Bor Text) → IsInOrder (texts_of sorted)
+    → IsPartitionPoint (λ (b : Bor Text). is_lt (slice_cmp nat_cmp b.now p) ≡ true) (λ (b : Bor Text). is_lt (slice_cmp nat_cmp b.now p) ≡ false) sorted first
+    → Gathers (texts_of sorted) p first
+gathers_from sorted p first d up point = gathers (texts_of sorted) p first up
+    (λ k low h. let inside : k < length sorted = omega (arith, h, size sorted) in rw (at_text sorted k d inside) (point.0 k d (omega arith) low))
+    (λ k low h. let inside : k < length sorted = omega (arith, h, size sorted) in rw (at_text sorted k d inside) (point.1 k d low inside))
+
+-- the name that begins with the prefix, as the code reads it
+pub at_begun : (sorted : List (Bor Text)) (p : Text) (k : ℕ) (d : Bor Text) → BeginsAt (texts_of sorted) p k → (get_or sorted k d).now ≡ get_or (texts_of sorted) k []
+at_begun sorted p k d begun =
+    let inside : k < length sorted = omega (arith, begun.0, size sorted) in
+    sym (at_text sorted k d inside)
+
+-- whether a name begins another, by the names as the code reads them
+pub begins_another-read : (sorted : List (Bor Text)) (i : ℕ) (d : Bor Text) → IsInOrder (texts_of sorted) → i < length sorted
+    → BeginsAt (texts_of sorted) (get_or sorted i d).now (i + 1) → begins_another (texts_of sorted) (get_or (texts_of sorted) i []) ≡ true
+begins_another-read sorted i d up inside next =
+    let within : i < length (texts_of sorted) = omega (arith, inside, size sorted) in
+    begins-next (texts_of sorted) i up within (subst (λ p. BeginsAt (texts_of sorted) p (i + 1)) (sym (at_text sorted i d inside)) next)
+
+pub begins_none-read : (sorted : List (Bor Text)) (i : ℕ) (d : Bor Text) → IsInOrder (texts_of sorted) → i < length sorted
+    → (BeginsAt (texts_of sorted) (get_or sorted i d).now (i + 1) → ⊥) → begins_another (texts_of sorted) (get_or (texts_of sorted) i []) ≡ false
+begins_none-read sorted i d up inside alone =
+    let within : i < length (texts_of sorted) = omega (arith, inside, size sorted) in
+    begins-none (texts_of sorted) i up within (λ next. alone (subst (λ p. BeginsAt (texts_of sorted) p (i + 1)) (at_text sorted i d inside) next))
+
+pub inside_texts : (sorted : List (Bor Text)) (i : ℕ) → i < length sorted → i < length (texts_of sorted)
+inside_texts sorted i h = omega (arith, h, size sorted)

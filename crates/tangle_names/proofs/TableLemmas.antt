@@ -1,0 +1,252 @@
+-- The names in order, what is known of them by their numbers, and the table put together.
+use Rattle.std.proofs.Common.{◌≡◌, ◌<◌, ◌+◌, ◌∙◌, ℕ, zero, suc, Bool, true, false, cond, not, ◌||◌, ◌&&◌, ◌==◌, List, [], ◌∷◌, ◌++◌, length, map, filter, fold, flat_map, find, get_or, refl, ap, sym, subst, arith, inl, inr, Option, Some, None, Contains, add-zero, zero-add, option_to_list}
+use Rattle.std.specs.List.{list_any, position_or_len}
+use Rattle.std.specs.Option.{option_map}
+use Rattle.std.specs.Str.{bytes_eq}
+use Rattle.std.proofs.lemmas.Bool.Decides.{nat_tests}
+use Rattle.std.proofs.lemmas.Cmp.{nat_list_eq_equiv}
+use Rattle.std.proofs.lemmas.List.{ext_get_or, get_or-map, length-map}
+use Rattle.std.proofs.lemmas.List.Folds.{Any-from_list_any, list_any-append}
+use Rattle.std.proofs.lemmas.List.Elements.{Contains-append_cases, Contains-get_or}
+use Rattle.std.proofs.lemmas.Slice.Eq.{bytes_eq-Decides}
+use Rattle.tangle_names.specs.declared.Resolved.{Resolved}
+use Rattle.tangle_lines.specs.declared.faults.Origin.{Origin}
+use Rattle.tangle_lines.specs.declared.faults.FaultKind.TheVariants as kind
+use Rattle.tangle_lines.specs.Faults.{fault_about, Finding}
+use Rattle.tangle_scan.specs.Web.{OccurrenceRead, WebRead}
+use Rattle.tangle_names.specs.Faults.{spot_of}
+use Rattle.tangle_names.specs.Names.{Text, Meaning, Nothing, One, Several, full_names, meaning, means, only_with, prefix, begins_with}
+use Rattle.tangle_names.specs.Resolving.{meanings, names_of, names_in_order, numbered, resolve, with_name, is_file, first_occurrence}
+use Rattle.tangle_names.specs.Faults.{begins_another, faults, prefix_fault}
+use Rattle.tangle_names.specs.Numbers.{begins_another_by_number, is_file_by_number, first_place_by_number, is_number, warning, warnings}
+use Rattle.tangle_names.specs.Sorted.{SameTexts}
+use Rattle.tangle_names.specs.NameTable.{table_of}
+use Rattle.tangle_names.proofs.MeaningLemmas.{cons_cases, from-one, here, into_filter, list_any-none, list_any-some, no_item, out_of_filter, there}
+
+map-map : {X Y Z : Type 0} (g : Y → Z) (f : X → Y) (xs : List X) → map g (map f xs) ≡ map (λ x. g (f x)) xs
+map-map g f [] = refl
+map-map g f (x ∷ xs) = ap (λ r. g (f x) ∷ r) (map-map g f xs)
+
+pub into_map : {X Y : Type 0} (f : X → Y) (xs : List X) (x : X) → Contains xs x → Contains (map f xs) (f x)
+into_map f [] x c = absurd (no_item x c)
+into_map f (y ∷ ys) x c = elim (cons_cases y ys x c) [
+  | inl e ↦ subst (λ z. Contains (f y ∷ map f ys) (f z)) e (here (f y) (map f ys))
+  | inr d ↦ there (f y) (map f ys) (f x) (into_map f ys x d)
+]
+
+pub out_of_map : {X Y : Type 0} (f : X → Y) (xs : List X) (y : Y) → Contains (map f xs) y → (x : X) × Contains xs x × (f x ≡ y)
+out_of_map f [] y c = absurd (no_item y c)
+out_of_map f (x ∷ xs) y c = elim (cons_cases (f x) (map f xs) y c) [
+  | inl e ↦ (x, here x xs, e)
+  | inr d ↦ (let found = out_of_map f xs y d in (found.0, there x xs found.0 found.1, found.2))
+]
+
+-- no text of the list stands in it twice
+abbrev pub Distinct : List Text → Type 0
+Distinct [] = Unit {0}
+Distinct (t ∷ ts) = (list_any (bytes_eq t) ts ≡ false) × Distinct ts
+
+pub neither : (a b : Bool) → (a || b) ≡ false → (a ≡ false) × (b ≡ false)
+neither true b h = absurd (cc)
+neither false b h = (refl, h)
+
+distinct-push : (ts : List Text) (u : Text) → Distinct ts → list_any (bytes_eq u) ts ≡ false → Distinct (ts ++ u ∷ [])
+distinct-push [] u d h = (refl, tt)
+distinct-push (t ∷ ts) u d h =
+    let both = neither (bytes_eq u t) (list_any (bytes_eq u) ts) h in
+    (list_any-append (bytes_eq t) ts (u ∷ []) ∙ (λ i. d.0 i || ((nat_list_eq_equiv.symm t u ∙ both.0) i || false)), distinct-push ts u d.1 both.1)
+
+distinct-with : (ts : List Text) (m : Meaning) → Distinct ts → Distinct (with_name ts m)
+distinct-with ts Nothing d = d
+distinct-with ts (One t) d = by (list_any (bytes_eq t) ts) refl
+  where
+    by : (b : Bool) → list_any (bytes_eq t) ts ≡ b → Distinct (cond (list_any (bytes_eq t) ts) ts (ts ++ t ∷ []))
+    by true is = subst (λ b. Distinct (cond b ts (ts ++ t ∷ []))) (sym is) d
+    by false is = subst (λ b. Distinct (cond b ts (ts ++ t ∷ []))) (sym is) (distinct-push ts t d is)
+distinct-with ts Several d = d
+
+distinct-fold : (ms : List Meaning) (ts : List Text) → Distinct ts → Distinct (fold with_name ts ms)
+distinct-fold [] ts d = d
+distinct-fold (m ∷ ms) ts d = distinct-fold ms (with_name ts m) (distinct-with ts m d)
+
+pub distinct_names : (ms : List Meaning) → Distinct (names_of ms)
+distinct_names ms = distinct-fold ms [] tt
+
+-- a name has the number of an occurrence where it is the name that the occurrence means
+not_later : (b c : Bool) (n : ℕ) → b ≡ c → (cond (not b) (1 + n) 0 == 0) ≡ c
+not_later true c n e = e
+not_later false c n e = above ∙ e
+  where
+    above : (1 + n == 0) ≡ false
+    above = grind (arith, nat_tests)
+
+later : (b : Bool) (n j : ℕ) (c : Bool) → (b ≡ true → c ≡ false) → (b ≡ false → (n == j) ≡ c) → (cond (not b) (1 + n) 0 == suc j) ≡ c
+later true n j c first rest = below ∙ sym (first refl)
+  where
+    below : (0 == suc j) ≡ false
+    below = grind (arith, nat_tests)
+later false n j c first rest = shift ∙ rest refl
+  where
+    shift : (1 + n == suc j) ≡ (n == j)
+    shift = grind (arith, nat_tests)
+
+is_not : (b : Bool) → (b ≡ true → ⊥) → b ≡ false
+is_not true h = absurd (h refl)
+is_not false h = refl
+
+other_text : (n u : Text) (xs : List Text) (j : ℕ) → j < length xs → bytes_eq u n ≡ true → list_any (bytes_eq n) xs ≡ false → bytes_eq (get_or xs j []) u ≡ false
+other_text n u xs j inside same none = is_not _ (λ found.
+    let equal : n ≡ get_or xs j [] = sym ((bytes_eq-Decides u n).0 same) ∙ sym ((bytes_eq-Decides (get_or xs j []) u).0 found) in
+    let clash : true ≡ false = sym (list_any-some (bytes_eq n) xs (get_or xs j []) (Contains-get_or xs j [] inside) ((bytes_eq-Decides n (get_or xs j [])).1 equal)) ∙ none in
+    cc)
+
+is_number-numbered : (names : List Text) (u : Text) (id : ℕ) → Distinct names → id < length names
+    → is_number id (numbered names (One u)) ≡ bytes_eq (get_or names id []) u
+is_number-numbered [] u id d h = absurd (omega (arith, h))
+is_number-numbered (n ∷ ns) u zero d h = not_later (bytes_eq u n) (bytes_eq n u) (position_or_len (bytes_eq u) ns) (nat_list_eq_equiv.symm u n)
+is_number-numbered (n ∷ ns) u (suc j) d h =
+    let inside : j < length ns = omega (arith, h) in
+    later (bytes_eq u n) (position_or_len (bytes_eq u) ns) j (bytes_eq (get_or ns j []) u)
+    (λ same. other_text n u ns j inside same d.0)
+    (λ no_match. is_number-numbered ns u j d.1 inside)
+
+pub is_number-means : (names : List Text) (m : Meaning) (id : ℕ) → Distinct names → id < length names → is_number id (numbered names m) ≡ means (get_or names id []) m
+is_number-means names Nothing id d h = refl
+is_number-means names (One u) id d h = is_number-numbered names u id d h
+is_number-means names Several id d h = refl
+
+-- each of the names in order is a full name
+meant_name : (os : List OccurrenceRead) (o : OccurrenceRead) (t : Text) → Contains os o → meaning (full_names os) o ≡ One t → Contains (full_names os) t
+meant_name os o t c is = by o.is_abbreviation refl
+  where
+    by : (b : Bool) → o.is_abbreviation ≡ b → Contains (full_names os) t
+    by true a =
+        let found : One t ≡ only_with (full_names os) (prefix o.text) = sym is ∙ ap (λ b. cond b (only_with (full_names os) (prefix o.text)) (One o.text)) a in
+        (out_of_filter (begins_with (prefix o.text)) (full_names os) t (from-one (filter (begins_with (prefix o.text)) (full_names os)) t found).0).0
+    by false a =
+        let found : One o.text ≡ One t = sym (ap (λ b. cond b (only_with (full_names os) (prefix o.text)) (One o.text)) a) ∙ is in
+        let same : o.text ≡ t = cc in
+        subst (Contains (full_names os)) same (into_map (λ (o : OccurrenceRead). o.text) (filter (λ o. not o.is_abbreviation) os) o (into_filter (λ o. not o.is_abbreviation) os o c (ap not a)))
+
+from_with : (P : Text → Type 0) (ts : List Text) (m : Meaning) → ((t : Text) → Contains ts t → P t) → ((t : Text) → m ≡ One t → P t) → (t : Text) → Contains (with_name ts m) t → P t
+from_with P ts Nothing old new t c = old t c
+from_with P ts (One u) old new t c = by (list_any (bytes_eq u) ts) c
+  where
+    by : (b : Bool) → Contains (cond b ts (ts ++ u ∷ [])) t → P t
+    by true d = old t d
+    by false d = elim (Contains-append_cases ts (u ∷ []) t d) [
+      | inl e ↦ old t e
+      | inr e ↦ elim (cons_cases u [] t e) [ inl same ↦ subst P same (new u refl) | inr gone ↦ absurd (no_item t gone) ]
+    ]
+from_with P ts Several old new t c = old t c
+
+pub from_fold : (P : Text → Type 0) (ms : List Meaning) (ts : List Text) → ((t : Text) → Contains ts t → P t) → ((m : Meaning) (t : Text) → Contains ms m → m ≡ One t → P t)
+    → (t : Text) → Contains (fold with_name ts ms) t → P t
+from_fold P [] ts old new = old
+from_fold P (m ∷ ms) ts old new = from_fold P ms (with_name ts m) (from_with P ts m old (λ t e. new m t (here m ms) e)) (λ n t c e. new n t (there m ms n c) e)
+
+pub names_are_full : (os : List OccurrenceRead) (t : Text) → Contains (names_in_order os) t → Contains (full_names os) t
+names_are_full os = from_fold (Contains (full_names os)) (meanings os) [] (λ t c. absurd (no_item t c)) (λ m t c e.
+    let o = out_of_map (meaning (full_names os)) os m c in
+    meant_name os o.0 t o.1 (o.2 ∙ e))
+
+-- what is known of a name by its number
+pub file-known : (os : List OccurrenceRead) (id : ℕ) → id < length (names_in_order os) → is_file_by_number (resolve os) os id ≡ is_file os (get_or (names_in_order os) id [])
+file-known os id h = λ i. list_any (λ (o : OccurrenceRead). o.is_file && is_number-means (names_in_order os) (meaning (full_names os) o) id (distinct_names (meanings os)) h i) os
+
+pub first-known : (os : List OccurrenceRead) (id : ℕ) → id < length (names_in_order os)
+    → first_place_by_number (resolve os) os id ≡ option_map (λ (o : OccurrenceRead). o.place) (first_occurrence os (get_or (names_in_order os) id []))
+first-known os id h = λ i. option_map (λ (o : OccurrenceRead). o.place) (find (λ (o : OccurrenceRead). is_number-means (names_in_order os) (meaning (full_names os) o) id (distinct_names (meanings os)) h i) os)
+
+and_false : (b : Bool) → (b && false) ≡ false
+and_false true = refl
+and_false false = refl
+
+any-at : (q : Text → Bool) (xs : List Text) (n : Text) → Contains xs n → list_any (λ (t : Text). q t && bytes_eq n t) xs ≡ q n
+any-at q xs n c = by (q n) refl
+  where
+    by : (b : Bool) → q n ≡ b → list_any (λ (t : Text). q t && bytes_eq n t) xs ≡ q n
+    by true is = list_any-some (λ (t : Text). q t && bytes_eq n t) xs n c (λ i. is i && nat_list_eq_equiv.refl n i) ∙ sym is
+    by false is = list_any-none (λ (t : Text). q t && bytes_eq n t) xs (λ v d. at v (bytes_eq n v) refl) ∙ sym is
+      where
+        at : (v : Text) (b : Bool) → bytes_eq n v ≡ b → (q v && bytes_eq n v) ≡ false
+        at v true same = (λ i. (ap q (sym ((bytes_eq-Decides n v).0 same)) ∙ is) i && bytes_eq n v)
+        at v false same = ap (λ b. q v && b) same ∙ and_false (q v)
+
+any-same : (q : Text → Bool) (xs ys : List Text) → SameTexts xs ys → list_any q ys ≡ list_any q xs
+any-same q xs ys same = by (list_any q xs) refl
+  where
+    by : (b : Bool) → list_any q xs ≡ b → list_any q ys ≡ list_any q xs
+    by true is =
+        let found = Any-from_list_any q xs is in
+        list_any-some q ys found.1 (same.over found.1 (found.0, found.2, found.3)) found.4 ∙ sym is
+    by false is = list_any-none q ys (λ v c. is_not _ (λ passes.
+        let clash : true ≡ false = sym (list_any-some q xs v (same.back v c) passes) ∙ is in cc)) ∙ sym is
+
+pub begins-known : (os : List OccurrenceRead) (texts : List Text) (id : ℕ) → SameTexts (full_names os) texts → id < length (names_in_order os)
+    → begins_another_by_number (names_in_order os) texts id ≡ begins_another (full_names os) (get_or (names_in_order os) id [])
+begins-known os texts id same h =
+    let n = get_or (names_in_order os) id [] in
+    let full : Contains (full_names os) n = names_are_full os n (Contains-get_or (names_in_order os) id [] h) in
+    (λ i. list_any (λ (t : Text). begins_another texts t && is_number-means (names_in_order os) (One t) id (distinct_names (meanings os)) h i) texts)
+    ∙ any-at (begins_another texts) texts n (same.over n full)
+    ∙ any-same (λ (other : Text). begins_with n other && not (bytes_eq n other)) (full_names os) texts same
+
+-- the files and the warnings by the names themselves
+pub files_are : (os : List OccurrenceRead) (names : List Text) (files : List Bool) → names ≡ names_in_order os → length files ≡ length names
+    → ((id : ℕ) → id < length names → get_or files id false ≡ is_file_by_number (resolve os) os id) → files ≡ map (is_file os) (names_in_order os)
+files_are os names files named size marks =
+    let count : length (map (is_file os) (names_in_order os)) ≡ length (names_in_order os) = length-map (names_in_order os) (is_file os) in
+    let counted : length names ≡ length (names_in_order os) = ap length named in
+    ext_get_or false files (map (is_file os) (names_in_order os)) (omega (arith, size, count, counted)) (λ id h.
+    let inside : id < length names = omega (arith, h, size) in
+    let within : id < length (names_in_order os) = omega (arith, inside, counted) in
+    marks id inside ∙ file-known os id within ∙ sym (get_or-map (is_file os) (names_in_order os) id [] false within))
+
+warning-is : (web : WebRead) (b : Bool) (first : Option OccurrenceRead) (name : Text)
+    → warning web.file_names b (option_map (λ (o : OccurrenceRead). o.place) first) name
+    ≡ cond b (map (λ (o : OccurrenceRead). fault_about kind.PrefixName (spot_of web.file_names o.place) name) (option_to_list first)) []
+warning-is web b None name = refl
+warning-is web b (Some o) name = refl
+
+warnings-flat : (g : Text → List Finding) (files : List Text) (begins : List Bool) (firsts : List (Option Origin)) (k : ℕ) (ts : List Text)
+    → ((j : ℕ) → j < length ts → warning files (get_or begins (k + j) false) (get_or firsts (k + j) None) (get_or ts j []) ≡ g (get_or ts j []))
+    → warnings files begins firsts k ts ≡ flat_map g ts
+warnings-flat g files begins firsts k [] same = refl
+warnings-flat g files begins firsts k (t ∷ ts) same =
+    let first : warning files (get_or begins k false) (get_or firsts k None) t ≡ g t =
+    ap (λ n. warning files (get_or begins n false) (get_or firsts n None) t) (sym (add-zero k)) ∙ same 0 (omega arith) in
+    let rest : warnings files begins firsts (k + 1) ts ≡ flat_map g ts = warnings-flat g files begins firsts (k + 1) ts (λ j h.
+    let moved : k + 1 + j ≡ k + suc j = omega arith in
+    let inside : suc j < length (t ∷ ts) = omega (arith, h) in
+    ap (λ n. warning files (get_or begins n false) (get_or firsts n None) (get_or ts j [])) moved ∙ same (suc j) inside) in
+    λ i. first i ++ rest i
+
+pub warnings_are : (web : WebRead) (texts names : List Text) (begins : List Bool) (firsts : List (Option Origin)) → SameTexts (full_names web.occurrences) texts → names ≡ names_in_order web.occurrences
+    → ((id : ℕ) → id < length names → get_or begins id false ≡ begins_another_by_number names texts id)
+    → ((id : ℕ) → id < length names → get_or firsts id None ≡ first_place_by_number (resolve web.occurrences) web.occurrences id)
+    → warnings web.file_names begins firsts 0 names ≡ flat_map (prefix_fault web) (names_in_order web.occurrences)
+warnings_are web texts names begins firsts same named marks places =
+    ap (warnings web.file_names begins firsts 0) named ∙ warnings-flat (prefix_fault web) web.file_names begins firsts 0 ordered (λ j h.
+    let inside : j < length names = omega (arith, h, ap length named) in
+    let at : 0 + j ≡ j = zero-add j in
+    let marked : get_or begins j false ≡ begins_another (full_names web.occurrences) (get_or ordered j []) =
+    marks j inside ∙ ap (λ ns. begins_another_by_number ns texts j) named ∙ begins-known web.occurrences texts j same h in
+    let placed = places j inside ∙ first-known web.occurrences j h in
+    (λ i. warning web.file_names (get_or begins (at i) false) (get_or firsts (at i) None) (get_or ordered j []))
+    ∙ (λ i. warning web.file_names (marked i) (placed i) (get_or ordered j []))
+    ∙ warning-is web (begins_another (full_names web.occurrences) (get_or ordered j [])) (first_occurrence web.occurrences (get_or ordered j [])) (get_or ordered j []))
+  where
+    ordered : List Text
+    ordered = names_in_order web.occurrences
+
+pub names_are : (os : List OccurrenceRead) (ms : List Meaning) (texts : List Text) → ms ≡ meanings os → texts ≡ names_of ms → texts ≡ names_in_order os
+names_are os ms texts came named = named ∙ ap names_of came
+
+pub resolved_are : (os : List OccurrenceRead) (ms : List Meaning) (texts : List Text) (rs : List Resolved) → ms ≡ meanings os → texts ≡ names_in_order os → rs ≡ map (numbered texts) ms → rs ≡ map (resolve os) os
+resolved_are os ms texts rs came named is = is ∙ ((λ i. map (numbered (named i)) (came i)) ∙ map-map (numbered (names_in_order os)) (meaning (full_names os)) os)
+
+pub table_is : (web : WebRead) (names : List Text) (rs : List Resolved) (files : List Bool) (fs : List Finding) → names ≡ names_in_order web.occurrences → rs ≡ map (resolve web.occurrences) web.occurrences
+    → files ≡ map (is_file web.occurrences) (names_in_order web.occurrences) → fs ≡ faults web
+    → record { names = names; resolved = rs; files = files; faults = fs } ≡ table_of web
+table_is web names rs files fs a b c d = λ i. record { names = a i; resolved = b i; files = c i; faults = d i }

@@ -1,0 +1,10 @@
+use Rattle.std.proofs.lemmas.List.Filters.{dedup_is}
+use Rattle.tangle_names.specs.Names.{full_names}
+use Rattle.tangle_names.proofs.SortedLemmas.{order_of, same_of}
+use Rattle.tangle_names.proofs.sorted.sorted_names.Goals as goal
+
+pub returns-clause-order : goal.returns-clause-order
+returns-clause-order c = order_of _ _ c.sort_unstable.ensures.sorted (dedup_is _ _ _ c.dedup.ensures.filtered)
+
+pub returns-clause-same : goal.returns-clause-same
+returns-clause-same c = same_of (full_names c.args.occurrences.now) _ _ _ c.in_ok-names.ensures c.sort_unstable.ensures.permutation (dedup_is _ _ _ c.dedup.ensures.filtered)

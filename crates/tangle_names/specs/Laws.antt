@@ -1,0 +1,36 @@
+-- What holds of the names of each web.
+use Rattle.std.specs.Prelude.{◌≡◌, ◌≢◌, ◌<◌, ℕ, true, false, List, [], length, slice_index_or, Contains}
+use Rattle.tangle_names.specs.declared.Resolved.{Resolved}
+use Rattle.tangle_names.specs.declared.Resolved.TheVariants.{Name, NoFullName, Ambiguous}
+use Rattle.tangle_names.specs.Names.{Text, begins_with}
+
+-- the name with this number has this text
+pub record IsNumberOf (names : List Text) (id : ℕ) (text : Text) : Type 0 where
+  pub inside : id < length names
+  pub at : slice_index_or names id [] ≡ text
+
+-- of the full names this one alone begins with the prefix
+pub record IsOnlyWith (full : List Text) (p name : Text) : Type 0 where
+  pub is_full : Contains full name
+  pub begins : begins_with p name ≡ true
+  pub only : (other : Text) → Contains full other → begins_with p other ≡ true → other ≡ name
+
+-- of the full names these two begin with the prefix, and they differ
+pub record BothBegin (full : List Text) (p name other : Text) : Type 0 where
+  pub first_is_full : Contains full name
+  pub second_is_full : Contains full other
+  pub first_begins : begins_with p name ≡ true
+  pub second_begins : begins_with p other ≡ true
+  pub differ : name ≢ other
+
+-- what a full name resolves to: the number of its own text
+abbrev pub ResolvesFull : List Text → Text → Resolved → Type 0
+ResolvesFull names text (Name id) = IsNumberOf names id text
+ResolvesFull names text NoFullName = ⊥
+ResolvesFull names text Ambiguous = ⊥
+
+-- what an abbreviation with the prefix resolves to: the number of the one full name that begins with it, if there is exactly one
+abbrev pub ResolvesPrefix : List Text → List Text → Text → Resolved → Type 0
+ResolvesPrefix names full p (Name id) = (name : Text) × IsNumberOf names id name × IsOnlyWith full p name
+ResolvesPrefix names full p NoFullName = (name : Text) → Contains full name → begins_with p name ≡ false
+ResolvesPrefix names full p Ambiguous = (name : Text) × (other : Text) × BothBegin full p name other

@@ -1,0 +1,7 @@
+pub mod Faults
+pub mod Laws
+pub mod Names
+pub mod NameTable
+pub mod Numbers
+pub mod Resolving
+pub mod Sorted

@@ -1,0 +1,48 @@
+-- The full names in order, and what each occurrence of a name resolves to.
+use Rattle.std.specs.Prelude.{Bool, ◌&&◌, List, [], ◌∷◌, ◌++◌, Option, map, fold, find, if◌then◌else◌}
+use Rattle.std.specs.List.{list_any, position_or_len}
+use Rattle.std.specs.Str.{bytes_eq}
+use Rattle.tangle_names.specs.declared.Resolved.{Resolved}
+use Rattle.tangle_names.specs.declared.Resolved.TheVariants.{Name, NoFullName, Ambiguous}
+use Rattle.tangle_scan.specs.Web.{OccurrenceRead}
+use Rattle.tangle_names.specs.Names.{Text, Meaning, Nothing, One, Several, full_names, meaning, means}
+
+-- what each occurrence means
+abbrev pub meanings : List OccurrenceRead → List Meaning
+meanings os = map (meaning (full_names os)) os
+
+-- the names and the one that is meant, which goes last unless it is there
+abbrev pub with_name : List Text → Meaning → List Text
+with_name names Nothing = names
+with_name names (One t) = if list_any (bytes_eq t) names then names else names ++ t ∷ []
+with_name names Several = names
+
+-- the names that are meant, each where it is meant first
+abbrev pub names_of : List Meaning → List Text
+names_of ms = fold with_name [] ms
+
+-- the full names, in the order of the first occurrences that resolve to them
+abbrev pub names_in_order : List OccurrenceRead → List Text
+names_in_order os = names_of (meanings os)
+
+-- what is meant, by the number of its name
+abbrev pub numbered : List Text → Meaning → Resolved
+numbered names Nothing = NoFullName
+numbered names (One t) = Name (position_or_len (bytes_eq t) names)
+numbered names Several = Ambiguous
+
+-- what an occurrence resolves to
+abbrev pub resolve : List OccurrenceRead → OccurrenceRead → Resolved
+resolve os o = numbered (names_in_order os) (meaning (full_names os) o)
+
+-- the occurrence resolves to the name
+abbrev pub resolves_to : List OccurrenceRead → Text → OccurrenceRead → Bool
+resolves_to os name o = means name (meaning (full_names os) o)
+
+-- a name is a file if an occurrence that resolves to it is marked as a file
+abbrev pub is_file : List OccurrenceRead → Text → Bool
+is_file os name = list_any (λ o. o.is_file && resolves_to os name o) os
+
+-- the first occurrence of a name is the first that resolves to it
+abbrev pub first_occurrence : List OccurrenceRead → Text → Option OccurrenceRead
+first_occurrence os name = find (resolves_to os name) os

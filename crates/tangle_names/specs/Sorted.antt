@@ -1,0 +1,32 @@
+-- The full names of a web in the order of their bytes. These words are cited by private contracts alone.
+use Rattle.std.specs.Prelude.{◌≡◌, ◌<◌, ℕ, true, List, [], length, map, slice_index_or, Contains}
+use Rattle.std.specs.Ordering.{nat_cmp}
+use Rattle.std.specs.Cmp.Lexicographic.{slice_cmp}
+use Rattle.std.specs.List.Sorted.{IsStrictlySortedBy}
+use Rattle.std.specs.Borrow.{Bor}
+use Rattle.tangle_names.specs.declared.sorted.Meaning.{Meaning as Found}
+use Rattle.tangle_names.specs.declared.sorted.Meaning.TheVariants as found
+use Rattle.tangle_names.specs.Names.{Text, Meaning, Nothing, One, Several, begins_with}
+
+-- the texts that slices show
+abbrev pub texts_of : List (Bor Text) → List Text
+texts_of slices = map (λ (b : Bor Text). b.now) slices
+
+-- a meaning, as the code has it
+abbrev pub meaning_of : Found → Meaning
+meaning_of found.Nothing = Nothing
+meaning_of (found.One text) = One text.now
+meaning_of found.Several = Several
+
+-- each text is below the next one
+abbrev pub IsInOrder : List Text → Type 0
+IsInOrder texts = IsStrictlySortedBy (slice_cmp nat_cmp) texts
+
+-- the two lists have the same texts
+pub record SameTexts (xs ys : List Text) : Type 0 where
+  pub over : (t : Text) → Contains xs t → Contains ys t
+  pub back : (t : Text) → Contains ys t → Contains xs t
+
+-- at this place stands a text that begins with the prefix
+abbrev pub BeginsAt : List Text → Text → ℕ → Type 0
+BeginsAt texts p place = (place < length texts) × (begins_with p (slice_index_or texts place []) ≡ true)

@@ -1,0 +1,28 @@
+//! Laws of names, which hold of each web.
+ghost use Rattle.std.specs.Prelude.{◌≡◌, ◌↔◌, ℕ, List, true, false, Contains, IsSome};
+ghost use Rattle.std.specs.List.{IsDistinct};
+ghost use Rattle.std.specs.Str.{bytes_eq};
+ghost use Rattle.tangle_scan.specs.Web.{OccurrenceRead};
+ghost use Rattle.tangle_names.specs.Names.{full_names, prefix};
+ghost use Rattle.tangle_names.specs.Resolving.{first_occurrence, names_in_order, resolve};
+ghost use Rattle.tangle_names.specs.Laws.{ResolvesFull, ResolvesPrefix};
+
+/// The names in order are the full names of the web, each once; an occurrence resolves to each.
+pub fn names_are_the_full_names()
+    ensures same { (os : List OccurrenceRead) (text : List ℕ)
+        → Contains (names_in_order os) text ↔ Contains (full_names os) text }
+    ensures once { (os : List OccurrenceRead) → IsDistinct bytes_eq (names_in_order os) }
+    ensures occur { (os : List OccurrenceRead) (text : List ℕ)
+        → Contains (names_in_order os) text → IsSome (first_occurrence os text) }
+{}
+
+/// A full name resolves to itself. An abbreviation resolves to the one full name of the web that begins with its
+/// prefix; it is without a full name where none does, and ambiguous where two do that differ.
+pub fn occurrences_resolve_by_the_whole_web()
+    ensures full { (os : List OccurrenceRead) (o : OccurrenceRead)
+        → Contains os o → o.is_abbreviation ≡ false
+        → ResolvesFull (names_in_order os) o.text (resolve os o) }
+    ensures abbreviated { (os : List OccurrenceRead) (o : OccurrenceRead)
+        → Contains os o → o.is_abbreviation ≡ true
+        → ResolvesPrefix (names_in_order os) (full_names os) (prefix o.text) (resolve os o) }
+{}

@@ -1,0 +1,72 @@
+//! The numbers of the full names, and what each occurrence resolves to.
+ghost use Rattle.std.specs.Prelude.{◌≡◌, [], IfOk, OnOk, map};
+ghost use Rattle.std.specs.List.{position_or_len};
+ghost use Rattle.std.specs.Str.{bytes_eq};
+ghost use Rattle.tangle_names.specs.Names.{One};
+ghost use Rattle.tangle_names.specs.Numbers.{key_texts};
+ghost use Rattle.tangle_names.specs.Resolving.{names_of, numbered, with_name};
+ghost use Rattle.tangle_names.specs.Sorted.{meaning_of};
+
+use crate::Resolved;
+use crate::sorted::Meaning;
+use indexmap::IndexSet;
+use std::alloc::{AllocError, Global};
+
+/// The number of a full name; a name that isn't there goes last.
+fn intern(alloc: Global, names: &mut IndexSet<Vec<u8>>, text: &[u8]) -> Result<usize, AllocError>
+    ensures names { OnOk result (key_texts names.new.keys
+        ≡ with_name (key_texts names.old.keys) (One text.now)) }
+    ensures number { IfOk result (λ id. id
+        ≡ position_or_len (bytes_eq text.now) (key_texts names.old.keys)) }
+{
+    if let Some(id) = names.get_index_of(text) {
+        return Ok(id);
+    }
+    let id = names.len();
+    names.insert(text.to_vec(alloc)?)?;
+    Ok(id)
+}
+
+/// What is meant, by the number of its name; a name that isn't there goes last.
+fn resolve(
+    alloc: Global,
+    names: &mut IndexSet<Vec<u8>>,
+    meaning: Meaning,
+) -> Result<Resolved, AllocError>
+    ensures names { OnOk result (key_texts names.new.keys
+        ≡ with_name (key_texts names.old.keys) (meaning_of meaning.entry)) }
+    ensures number { IfOk result (λ resolved. resolved
+        ≡ numbered (key_texts names.old.keys) (meaning_of meaning.entry)) }
+{
+    match meaning {
+        Meaning::One(text) => Ok(Resolved::Name(intern(alloc, names, text)?)),
+        Meaning::Nothing => Ok(Resolved::NoFullName),
+        Meaning::Several => Ok(Resolved::Ambiguous),
+    }
+}
+
+/// What the occurrences resolve to, by what each means. The full names go into `names`, in the order of the first
+/// occurrences that resolve to them.
+pub(crate) fn resolve_all(
+    alloc: Global,
+    names: &mut IndexSet<Vec<u8>>,
+    meanings: &[Meaning],
+) -> Result<Vec<Resolved>, AllocError>
+    requires { names.old.keys ≡ [] }
+    ensures names { OnOk result (key_texts names.new.keys ≡ names_of (map meaning_of meanings.now)) }
+    ensures resolved { let meant = map meaning_of meanings.now in
+        IfOk result (λ resolved. resolved.items ≡ map (numbered (names_of meant)) meant) }
+{
+    let mut resolved = Vec::new(alloc);
+    for meaning in meanings {
+        resolved.push(resolve(alloc, names, *meaning)?)?;
+    }
+    Ok(resolved)
+}
+
+/// The number of a full name.
+pub(crate) fn number(names: &IndexSet<Vec<u8>>, text: &[u8]) -> usize
+    ensures { result ≡ position_or_len (bytes_eq text.now) (key_texts names.now.keys) }
+{
+    names.get_index_of(text).unwrap_or(names.len())
+}

@@ -1,0 +1,112 @@
+//! The full names of a web in the order of their bytes, and what a name means among them.
+ghost use Rattle.std.specs.Prelude.{◌≡◌, ◌<◌, ◌+◌, ◌↔◌, List, ℕ, [], IfOk, IsTrue, true, length, map, slice_index_or};
+ghost use Rattle.std.specs.Ordering.{nat_cmp, is_lt};
+ghost use Rattle.std.specs.Cmp.Lexicographic.{slice_cmp};
+ghost use Rattle.tangle_names.specs.Names.{full_names, meaning, only_with, prefix};
+ghost use Rattle.tangle_names.specs.Sorted.{BeginsAt, IsInOrder, SameTexts, meaning_of, texts_of};
+
+use std::alloc::{AllocError, Global};
+use tangle_scan::Occurrence;
+
+/// The full names that a name may stand for.
+#[derive(Clone, Copy)]
+pub(crate) enum Meaning<'a> {
+    Nothing,
+    One(&'a [u8]),
+    Several,
+}
+
+/// The full names, each once, in the order of their bytes.
+pub(crate) fn sorted_names(
+    alloc: Global,
+    occurrences: &[Occurrence],
+) -> Result<Vec<&[u8]>, AllocError>
+    ensures order { IfOk result (λ names. IsInOrder (texts_of names.items)) }
+    ensures same { IfOk result (λ names. SameTexts (full_names occurrences.now) (texts_of names.items)) }
+{
+    let mut names = full_names(alloc, occurrences)?;
+    names.sort_unstable();
+    names.dedup();
+    Ok(names)
+}
+
+/// The full names, each as often as it occurs.
+fn full_names(alloc: Global, occurrences: &[Occurrence]) -> Result<Vec<&[u8]>, AllocError>
+    ensures { IfOk result (λ names. texts_of names.items ≡ full_names occurrences.now) }
+{
+    let mut names = Vec::new(alloc);
+    for occurrence in occurrences {
+        if !occurrence.is_abbreviation() {
+            names.push(occurrence.text())?;
+        }
+    }
+    Ok(names)
+}
+
+/// Whether the text is below the prefix in the order of bytes.
+fn is_below(text: &[u8], prefix: &[u8]) -> bool
+    ensures { result ≡ is_lt (slice_cmp nat_cmp text.now prefix.now) }
+{
+    text.cmp(prefix).is_lt()
+}
+
+/// Whether there is a name at this place that begins with the prefix.
+pub(crate) fn begins_at(sorted: &[&[u8]], place: usize, prefix: &[u8]) -> bool
+    ensures { IsTrue result ↔ BeginsAt (texts_of sorted.now) prefix.now place }
+{
+    place < sorted.len() && sorted[place].starts_with(prefix)
+}
+
+/// The one full name that begins with the prefix.
+// Such names aren't below the prefix, and stand together: two at most are looked at.
+fn only_with<'a>(sorted: &[&'a [u8]], prefix: &[u8]) -> Meaning<'a>
+    requires { IsInOrder (texts_of sorted.now) }
+    ensures { (full : List (List ℕ)) → SameTexts full (texts_of sorted.now)
+        → meaning_of result ≡ only_with full prefix.now }
+{
+    let first = sorted.partition_point(|text| is_below(text, prefix));
+    if !begins_at(sorted, first, prefix) {
+        Meaning::Nothing
+    } else if begins_at(sorted, first + 1, prefix) {
+        Meaning::Several
+    } else {
+        Meaning::One(sorted[first])
+    }
+}
+
+/// The prefix of an abbreviation: what stands before its three dots.
+fn prefix(abbreviation: &[u8]) -> &[u8]
+    ensures { result.now ≡ prefix abbreviation.now }
+{
+    &abbreviation[..abbreviation.len().saturating_sub(3)]
+}
+
+/// What the occurrence means, among the full names of the web.
+fn meaning_among<'a>(sorted: &[&'a [u8]], occurrence: &'a Occurrence) -> Meaning<'a>
+    requires { IsInOrder (texts_of sorted.now) }
+    ensures { (full : List (List ℕ)) → SameTexts full (texts_of sorted.now)
+        → meaning_of result ≡ meaning full occurrence.now }
+{
+    if occurrence.is_abbreviation() {
+        only_with(sorted, prefix(occurrence.text()))
+    } else {
+        Meaning::One(occurrence.text())
+    }
+}
+
+/// What each occurrence means.
+pub(crate) fn meanings<'a>(
+    alloc: Global,
+    sorted: &[&'a [u8]],
+    occurrences: &'a [Occurrence],
+) -> Result<Vec<Meaning<'a>>, AllocError>
+    requires { IsInOrder (texts_of sorted.now) }
+    ensures { IfOk result (λ v. (full : List (List ℕ)) → SameTexts full (texts_of sorted.now)
+        → map meaning_of v.items ≡ map (meaning full) occurrences.now) }
+{
+    let mut meanings = Vec::new(alloc);
+    for occurrence in occurrences {
+        meanings.push(meaning_among(sorted, occurrence))?;
+    }
+    Ok(meanings)
+}
