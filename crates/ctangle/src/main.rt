@@ -1,0 +1,50 @@
+//! `ctangle [flags] web [change [out]]`: tangles a web into C, in the folder that it runs in.
+#![tactic(auto)]
+
+use ctangle_cli::{Disk, LoadFault, run_ctangle, write_load};
+use std::io::{Error, ErrorKind, LineWriter, Stderr};
+use std::process::ExitCode;
+use std::{env, io};
+use tangle_lines::{IoSink, Sink};
+
+// The words of the command line, the program's name first.
+fn words_of(rt: &HostRuntime) -> io::Result<Vec<String>> {
+    match env::args(rt) {
+        Ok(words) => words.collect(rt.alloc()).map_err(Error::from),
+        Err(error) => Err(error),
+    }
+}
+
+// Standard error, handed on line by line. Where there is no memory for a line, each write is handed on.
+fn error_stream(rt: &HostRuntime) -> IoSink<LineWriter<Stderr>> {
+    match LineWriter::new(rt.alloc(), rt.stderr()) {
+        Ok(lines) => IoSink::new(lines),
+        Err(_) => IoSink::new(LineWriter::with_capacity(rt.alloc(), 0, rt.stderr()).unwrap()),
+    }
+}
+
+// Runs `ctangle`, and gives its status. With a word that is not UTF-8 it has no words, and tells its usage.
+fn run(rt: &HostRuntime, err: &mut IoSink<LineWriter<Stderr>>) -> u8 {
+    let words = match words_of(rt) {
+        Ok(words) => words,
+        Err(error) if error.kind() == ErrorKind::OutOfMemory => return no_memory(err),
+        Err(_) => Vec::new(rt.alloc()),
+    };
+    let names = words.iter().skip(1).map(|word| word.as_bytes());
+    match names.collect::<Vec<&[u8]>>(rt.alloc()) {
+        Ok(words) => run_ctangle(rt.alloc(), words.as_slice(), &mut Disk::new(rt), err),
+        Err(_) => no_memory(err),
+    }
+}
+
+fn no_memory(err: &mut IoSink<LineWriter<Stderr>>) -> u8 {
+    let _ = write_load(b"ctangle", &LoadFault::NoMemory, err);
+    3
+}
+
+fn main(rt: HostRuntime) -> ExitCode {
+    let mut err = error_stream(&rt);
+    let status = run(&rt, &mut err);
+    err.flush();
+    ExitCode::from(if err.failures() == 0 { status } else { 3 })
+}

@@ -1,0 +1,7 @@
+mod LoadLemmas
+mod MemoryFolderLemmas
+mod Quiet
+mod RunLemmas
+mod WriteLemmas
+mod GapLemmas
+mod WorkedWebs

@@ -1,0 +1,362 @@
+-- Steps of loading, one after another.
+use Rattle.std.proofs.Common.{◌≡◌, ◌∙◌, inl, inr, ℕ, zero, suc, ◌-◌, ◌<◌, ◌≤◌, Bool, true, false, cond, not, ◌||◌, List, [], ◌∷◌, Option, Some, None, Result, Ok, Err, ap, subst, sym, refl, length, length-append, append_assoc, append-nil, ◌++◌, arith}
+use Rattle.std.specs.Prelude.{IfSome, IfNone, IsOkUnless, nat_lt, nat_le, ◌==◌, ◌&&◌, ◌+◌, map, All, is_some, position}
+use Rattle.std.specs.List.{list_any, position_or_len}
+use Rattle.std.specs.Str.{bytes_eq}
+use Rattle.std.proofs.lemmas.List.Elements.{All-append}
+use Rattle.std.proofs.lemmas.List.{map-append}
+use Rattle.std.proofs.lemmas.Slice.Eq.{bytes_eq-Decides}
+use borrow.Author.Tests.{ltb-true, ltb-false, leb-false}
+use Rattle.std.proofs.lemmas.Bool.{ne_eqb, eq-eqb, eqb-false, lt-ltb}
+use Rattle.std.specs.declared.vec.Vec.{Vec}
+use Rattle.std.specs.Global.{Global}
+use Rattle.tangle_lines.specs.declared.refusal.Refusal.{Refusal}
+use Rattle.tangle_lines.specs.declared.refusal.Refusal.TheVariants.{NoMemory as NoRoom}
+use Rattle.tangle_lines.specs.Lines.{FileTable, cut, lines_of}
+use Rattle.tangle_lines.specs.Adding.{add_refusal, added, has_file, is_name}
+use Rattle.tangle_lines.specs.Roles.{RoleNames, is_there, is_there_if_any, fits}
+use Rattle.tangle_lines.specs.Streams.{Failed}
+use Rattle.ctangle_cli.specs.Folder.{File, Reads, bytes_of, file_limit}
+use Rattle.ctangle_cli.specs.Loading.{AreAbsent, missing_of, Ending, Grows, IsEnding, Loaded, LoadsTo, StopsFor, add_bytes, add_present, after_round, and_then, refused_as, rounds_from, rounds_in, unless_refused, with_inclusion, with_inclusions, with_round, with_wanted}
+use Rattle.ctangle_cli.specs.Loading.Ending.{Unreadable, Refuses, Memory}
+
+-- want of memory is no claim
+pub stops_given : (told : Option (List File)) (loads : List File → Loaded) (f g : ℕ) (wanted given : Ending)
+    → IsEnding wanted given → StopsFor told loads f g wanted → StopsFor told loads f g given
+stops_given told loads f g wanted given which h =
+    elim which [ inl e ↦ subst (StopsFor told loads f g) (sym e) h | inr e ↦ subst (StopsFor told loads f g) (sym e) tt ]
+
+-- where these load so, those do
+pub Follows : Option (List File) → (List File → Loaded) → (List File → Loaded) → Type 0
+Follows told these those = IfSome told (λ all. (e : Ending) → these all ≡ Err e → those all ≡ Err e)
+
+err_along : (told : Option (List File)) (these those : List File → Loaded) (e : Ending)
+    → IfSome told (λ all. (e : Ending) → these all ≡ Err e → those all ≡ Err e) → IfSome told (λ all. these all ≡ Err e) → IfSome told (λ all. those all ≡ Err e)
+err_along None these those e same h = tt
+err_along (Some all) these those e same h = same e h
+
+pub stops_along : (told : Option (List File)) (these those : List File → Loaded) (f g h : ℕ) (e : Ending)
+    → g ≡ f → IfSome told (λ all. (e : Ending) → these all ≡ Err e → those all ≡ Err e) → StopsFor told these g h e → StopsFor told those f h e
+stops_along told these those f g h (Unreadable name) unfailed same stops =
+    elim stops [
+      | inl p ↦ inl (err_along told these those (Unreadable name) same p.0, p.1 ∙ unfailed)
+      | inr p ↦ inr (subst (λ n. Failed n h) unfailed p)
+    ]
+stops_along told these those f g h (Refuses name refusal) unfailed same stops =
+    (err_along told these those (Refuses name refusal) same stops.0, stops.1 ∙ unfailed)
+stops_along told these those f g h Memory unfailed same stops = tt
+
+-- a refusal of the table
+pub stops_refused : (told : Option (List File)) (n : ℕ) (name : List ℕ) (loads : Loaded) (refusal : Refusal)
+    → loads ≡ Err (Refuses name refusal) → StopsFor told (λ _. loads) n n (refused_as name refusal)
+stops_refused told n name loads NoRoom e = tt
+stops_refused None n name loads refusal e = (tt, refl)
+stops_refused (Some all) n name loads refusal e = (e, refl)
+
+-- a file within the limit
+within_limit : (files : FileTable) (name bytes : List ℕ) → length bytes ≤ file_limit → add_bytes files name bytes ≡ unless_refused files name bytes (add_refusal files name bytes)
+within_limit files name bytes h = by (nat_lt file_limit (length bytes)) refl
+  where
+    by : (b : Bool) → nat_lt file_limit (length bytes) ≡ b
+        → cond b (Err (Unreadable name)) (unless_refused files name bytes (add_refusal files name bytes)) ≡ unless_refused files name bytes (add_refusal files name bytes)
+    by false e = refl
+    by true e = absurd (omega (arith, ltb-true file_limit (length bytes) e))
+
+abbrev failed : {T : Type 0} → Refusal → Result T Refusal
+failed refusal = Err refusal
+
+pub refused_bytes : (T : Type 0) (told : Option (List File)) (n : ℕ) (files : FileTable) (name bytes : List ℕ) (refusal : Refusal) (o : Option Refusal)
+    → o ≡ add_refusal files name bytes → length bytes ≤ file_limit
+    → IfSome o (λ e. failed {T = T} refusal ≡ Err e) → IfNone o (IsOkUnless (failed {T = T} refusal) NoRoom)
+    → StopsFor told (λ _. add_bytes files name bytes) n n (refused_as name refusal)
+refused_bytes T told n files name bytes refusal None is fits some none = subst (λ r. StopsFor told (λ _. add_bytes files name bytes) n n (refused_as name r)) (sym none) tt
+refused_bytes T told n files name bytes refusal (Some e) is fits some none =
+    let same : refusal ≡ e = cc in
+    stops_refused told n name (add_bytes files name bytes) refusal (within_limit files name bytes fits ∙ ap (unless_refused files name bytes) (sym is) ∙ ap (λ r. Err (Refuses name r)) (sym same))
+
+-- the bytes that a folder gave are those that it has
+pub wanted_bytes : (told : Option (List File)) (files : FileTable) (name : List ℕ) (bytes : Vec ℕ Global) → Reads told name (Ok bytes)
+    → IfSome told (λ all. (e : Ending) → add_bytes files name bytes.items ≡ Err e → with_wanted all files name ≡ Err e)
+wanted_bytes None files name bytes h = tt
+wanted_bytes (Some all) files name bytes h = λ e stop. rw h stop
+
+chosen : (h n : Bool) (files : FileTable) (x : Loaded) → h ≡ false → n ≡ true → cond (h || not n) (Ok files) x ≡ x
+chosen false true files x a b = refl
+chosen true n files x a b = absurd (cc)
+chosen false false files x a b = absurd (cc)
+
+pub included_bytes : (told : Option (List File)) (files : FileTable) (name : List ℕ) (bytes : Vec ℕ Global) → Reads told name (Ok bytes)
+    → has_file files name ≡ false → is_name name ≡ true
+    → IfSome told (λ all. (e : Ending) → add_bytes files name bytes.items ≡ Err e → with_inclusion all files name ≡ Err e)
+included_bytes None files name bytes h absent named = tt
+included_bytes (Some all) files name bytes h absent named = λ e stop.
+    chosen (has_file files name) (is_name name) files (add_present files name (bytes_of all name)) absent named ∙ ap (add_present files name) h ∙ stop
+
+-- a longer list
+some_at_end : {X : Type 0} (xs : List X) (x : X) → 0 < length (xs ++ x ∷ [])
+some_at_end xs x = omega (arith, length-append xs (x ∷ []))
+
+-- growth
+pub Grows-refl : (files : FileTable) → Grows files files
+Grows-refl files = record { more = []; is = sym (append-nil files); within = λ h. absurd (omega arith) }
+
+pub Grows-trans : (a b c : FileTable) → Grows a b → Grows b c → Grows a c
+Grows-trans a b c first second = record {
+  more = first.more ++ second.more;
+  is = second.is ∙ ap (λ l. l ++ second.more) first.is ∙ append_assoc a first.more second.more;
+  within = by first.more first.within second.more second.is second.within;
+}
+  where
+    by : (xs : FileTable) → (0 < length xs → length b ≤ 256) → (ys : FileTable) → c ≡ b ++ ys → (0 < length ys → length c ≤ 256) → 0 < length (xs ++ ys) → length c ≤ 256
+    by xs within [] same more some =
+        let some_x : 0 < length xs = omega (arith, some, length-append {A = List ℕ × List (List ℕ)} xs []) in
+        let inside = within some_x in
+        omega (arith, inside, ap length same, length-append b [])
+    by xs within (y ∷ ys) same more some = more (omega arith)
+
+-- a file that is added has room
+none_from_cond : {X : Type 0} (b : Bool) (x : X) (o : Option X) → cond b (Some x) o ≡ None → (b ≡ false) × (o ≡ None)
+none_from_cond true x o h = absurd (cc)
+none_from_cond false x o h = (refl, h)
+
+has_room : (files : FileTable) (name bytes : List ℕ) → add_refusal files name bytes ≡ None → length files < 256
+has_room files name bytes h =
+    let first = none_from_cond (not (is_name name)) _ _ h in
+    let second = none_from_cond (has_file files name) _ _ first.1 in
+    let third = none_from_cond (nat_le 256 (length files)) _ _ second.1 in
+    omega (arith, leb-false 256 (length files) third.0)
+
+grows_unless : (files next : FileTable) (name bytes : List ℕ) (o : Option Refusal) → add_refusal files name bytes ≡ o → unless_refused files name bytes o ≡ Ok next → Grows files next
+grows_unless files next name bytes None is e =
+    let same : added files name bytes ≡ next = cc in
+    let room = has_room files name bytes is in
+    record {
+      more = (name, cut bytes) ∷ [];
+      is = sym same;
+      within = λ _. omega (arith, room, ap length same, length-append files ((name, cut bytes) ∷ []));
+    }
+grows_unless files next name bytes (Some r) is e = absurd (cc)
+
+pub grows_bytes : (b : Bool) (files next : FileTable) (name bytes : List ℕ) → cond b (Err (Unreadable name)) (unless_refused files name bytes (add_refusal files name bytes)) ≡ Ok next → Grows files next
+grows_bytes true files next name bytes e = absurd (cc)
+grows_bytes false files next name bytes e = grows_unless files next name bytes (add_refusal files name bytes) refl e
+
+pub grows_added : (files next : FileTable) (name bytes : List ℕ) → add_bytes files name bytes ≡ Ok next → Grows files next
+grows_added files next name bytes e = grows_bytes (nat_lt file_limit (length bytes)) files next name bytes e
+
+grows_present : (files next : FileTable) (name : List ℕ) (o : Option (List ℕ)) → add_present files name o ≡ Ok next → Grows files next
+grows_present files next name None e = let same : next ≡ files = cc in subst (λ t. Grows files t) (sym same) (Grows-refl files)
+grows_present files next name (Some bytes) e = grows_added files next name bytes e
+
+grows_if : (b : Bool) (files next : FileTable) (name : List ℕ) (o : Option (List ℕ)) → cond b (Ok files) (add_present files name o) ≡ Ok next → Grows files next
+grows_if true files next name o e = let same : next ≡ files = cc in subst (λ t. Grows files t) (sym same) (Grows-refl files)
+grows_if false files next name o e = grows_present files next name o e
+
+grows_then : (files next : FileTable) (first : Loaded) (rest : FileTable → Loaded) → ((mid : FileTable) → first ≡ Ok mid → Grows files mid)
+    → ((mid : FileTable) → rest mid ≡ Ok next → Grows mid next) → and_then first rest ≡ Ok next → Grows files next
+grows_then files next (Ok mid) rest h k e = Grows-trans files mid next (h mid refl) (k mid e)
+grows_then files next (Err ending) rest h k e = absurd (cc)
+
+grows_all : (all : List File) (names : List (List ℕ)) (files next : FileTable) → with_inclusions all names files ≡ Ok next → Grows files next
+grows_all all [] files next e = let same : next ≡ files = cc in subst (λ t. Grows files t) (sym same) (Grows-refl files)
+grows_all all (name ∷ names) files next e =
+    grows_then files next (with_inclusion all files name) (λ mid. with_inclusions all names mid)
+    (λ mid is. grows_if (has_file files name || not (is_name name)) files mid name (bytes_of all name) is) (λ mid more. grows_all all names mid next more) e
+
+-- what comes after a round that added files
+after_same : (files : FileTable) (l : Loaded) (f g : FileTable → Loaded) → ((next : FileTable) → l ≡ Ok next → (length next ≡ length files → ⊥) → f next ≡ g next)
+    → after_round files l f ≡ after_round files l g
+after_same files (Err ending) f g h = refl
+after_same files (Ok next) f g h = by (length next == length files) refl
+  where
+    by : (b : Bool) → (length next == length files) ≡ b → cond b (Ok next) (f next) ≡ cond b (Ok next) (g next)
+    by true e = refl
+    by false e = h next refl (eqb-false (length next) (length files) e)
+
+-- a round that adds no file is the last
+pub last_round : (all : List File) (names : RoleNames) (files next : FileTable) → with_round all names files ≡ Ok next → length next ≡ length files → rounds_from all names files ≡ Ok next
+unfolding rounds_in
+last_round all names files next e same =
+    ap (λ l. after_round files l (λ t. rounds_in all names (256 - length files) t)) e ∙ ap (λ b. cond b (Ok next) (rounds_in all names (256 - length files) next)) (eq-eqb (length next) (length files) same)
+
+pub stopped_round : (all : List File) (names : RoleNames) (files : FileTable) (ending : Ending) → with_round all names files ≡ Err ending → rounds_from all names files ≡ Err ending
+unfolding rounds_in
+stopped_round all names files ending e = ap (λ l. after_round files l (λ t. rounds_in all names (256 - length files) t)) e
+
+pub longer : (files next : FileTable) → Grows files next → (length next ≡ length files → ⊥) → (length files < length next) × (length next ≤ 256)
+longer files next g more = by g.more g.is g.within
+  where
+    by : (xs : FileTable) → next ≡ files ++ xs → (0 < length xs → length next ≤ 256) → (length files < length next) × (length next ≤ 256)
+    by [] is within = absurd (more (ap length is ∙ ap length (append-nil files)))
+    by (x ∷ xs) is within = (omega (arith, ap length is, length-append files (x ∷ xs)), within (omega arith))
+
+-- more rounds than files give the same
+rounds_enough : (all : List File) (names : RoleNames) (n m : ℕ) (files : FileTable) → 256 - length files < n → 256 - length files < m → rounds_in all names n files ≡ rounds_in all names m files
+unfolding rounds_in
+rounds_enough all names zero m files p q = absurd (omega arith)
+rounds_enough all names (suc n) zero files p q = absurd (omega arith)
+rounds_enough all names (suc n) (suc m) files p q =
+    after_same files (with_round all names files) (λ next. rounds_in all names n next) (λ next. rounds_in all names m next)
+    (λ next e more.
+    let g = longer files next (grows_all all (missing_of files names) files next e) more in
+    let x = g.0 in
+    let y = g.1 in
+    rounds_enough all names n m next (omega arith) (omega arith))
+
+-- a round that adds files is followed by the rest
+pub next_round : (all : List File) (names : RoleNames) (files next : FileTable) → with_round all names files ≡ Ok next → (length next ≡ length files → ⊥) → rounds_from all names next ≡ rounds_from all names files
+unfolding rounds_in
+next_round all names files next e more =
+    let g = longer files next (grows_all all (missing_of files names) files next e) more in
+    let x = g.0 in
+    let y = g.1 in
+    rounds_enough all names (suc (256 - length next)) (256 - length files) next (omega arith) (omega arith)
+    ∙ sym (ap (λ l. after_round files l (λ t. rounds_in all names (256 - length files) t)) e ∙ ap (λ b. cond b (Ok next) (rounds_in all names (256 - length files) next)) (ne_eqb (length next) (length files) more))
+
+-- rounds stop where one does
+pub rounds_stop : (told told' : Option (List File)) (names : RoleNames) (start cur : FileTable) (ns : List (List ℕ)) (f f0 f' : ℕ) (e : Ending)
+    → told ≡ told' → ns ≡ missing_of cur names → IfSome told' (λ all. rounds_from all names cur ≡ rounds_from all names start) → f ≡ f0
+    → StopsFor told (λ all. with_inclusions all ns cur) f f' e → StopsFor told' (λ all. rounds_from all names start) f0 f' e
+rounds_stop told told' names start cur ns f f0 f' e stay is inv same stops =
+    stops_along told' (λ all. with_inclusions all ns cur) (λ all. rounds_from all names start) f0 f f' e same (by told' inv) (subst (λ t. StopsFor t (λ all. with_inclusions all ns cur) f f' e) stay stops)
+  where
+    by : (t : Option (List File)) → IfSome t (λ all. rounds_from all names cur ≡ rounds_from all names start)
+        → IfSome t (λ all. (e : Ending) → with_inclusions all ns cur ≡ Err e → rounds_from all names start ≡ Err e)
+    by None h = tt
+    by (Some all) h = λ e stop. sym h ∙ stopped_round all names cur e (subst (λ l. with_inclusions all l cur ≡ Err e) is stop)
+
+-- and end where one adds nothing
+pub rounds_last : (told told' : Option (List File)) (names : RoleNames) (start cur next : FileTable) (ns : List (List ℕ)) (f f0 f' : ℕ)
+    → told ≡ told' → ns ≡ missing_of cur names → IfSome told' (λ all. rounds_from all names cur ≡ rounds_from all names start) → f ≡ f0
+    → LoadsTo told (λ all. with_inclusions all ns cur) f f' next → length next ≡ length cur → LoadsTo told' (λ all. rounds_from all names start) f0 f' next
+rounds_last told told' names start cur next ns f f0 f' stay is inv same loads equal =
+    (by told' inv (subst (λ t. IfSome t (λ all. with_inclusions all ns cur ≡ Ok next)) stay loads.0), loads.1 ∙ same)
+  where
+    by : (t : Option (List File)) → IfSome t (λ all. rounds_from all names cur ≡ rounds_from all names start) → IfSome t (λ all. with_inclusions all ns cur ≡ Ok next)
+        → IfSome t (λ all. rounds_from all names start ≡ Ok next)
+    by None h k = tt
+    by (Some all) h k = sym h ∙ last_round all names cur next (subst (λ l. with_inclusions all l cur ≡ Ok next) is k) equal
+
+pub rounds_on : (told told' : Option (List File)) (names : RoleNames) (start cur next : FileTable) (ns : List (List ℕ)) (f f' : ℕ)
+    → told ≡ told' → ns ≡ missing_of cur names → IfSome told' (λ all. rounds_from all names cur ≡ rounds_from all names start)
+    → LoadsTo told (λ all. with_inclusions all ns cur) f f' next → (length next ≡ length cur → ⊥)
+    → IfSome told' (λ all. rounds_from all names next ≡ rounds_from all names start)
+rounds_on told told' names start cur next ns f f' stay is inv loads more = by told' inv (subst (λ t. IfSome t (λ all. with_inclusions all ns cur ≡ Ok next)) stay loads.0)
+  where
+    by : (t : Option (List File)) → IfSome t (λ all. rounds_from all names cur ≡ rounds_from all names start) → IfSome t (λ all. with_inclusions all ns cur ≡ Ok next)
+        → IfSome t (λ all. rounds_from all names next ≡ rounds_from all names start)
+    by None h k = tt
+    by (Some all) h k = next_round all names cur next (subst (λ l. with_inclusions all l cur ≡ Ok next) is k) more ∙ h
+
+-- a test of the names of some items
+pub list_any-map : {X Y : Type 0} (f : X → Y) (p : Y → Bool) (xs : List X) → list_any p (map f xs) ≡ list_any (λ x. p (f x)) xs
+list_any-map f p [] = refl
+list_any-map f p (x ∷ xs) = ap (λ b. p (f x) || b) (list_any-map f p xs)
+
+-- one more name that the folder doesn't have
+pub absent_more : (told : Option (List File)) (b : Bool) (ks : List (Vec ℕ Global)) (k : Vec ℕ Global) → AreAbsent told (map (λ k. k.items) ks) → AreAbsent told (k.items ∷ [])
+    → AreAbsent told (map (λ k. k.items) (cond b ks (ks ++ k ∷ [])))
+absent_more None b ks k before this = tt
+absent_more (Some all) true ks k before this = before
+absent_more (Some all) false ks k before this =
+    rw map-append (All-append (λ name. bytes_of all name ≡ None) (map (λ k. k.items) ks) (k.items ∷ []) before this)
+
+absent_at : (all : List File) (name : List ℕ) (names : List (List ℕ)) → All (λ n. bytes_of all n ≡ None) names → list_any (bytes_eq name) names ≡ true → bytes_of all name ≡ None
+absent_at all name [] h e = absurd (cc)
+absent_at all name (n ∷ ns) h e = by (bytes_eq name n) refl (absent_at all name ns (λ k d lt. h (suc k) d (omega arith)))
+  where
+    by : (b : Bool) → bytes_eq name n ≡ b → (list_any (bytes_eq name) ns ≡ true → bytes_of all name ≡ None) → bytes_of all name ≡ None
+    by true same rest = subst (λ m. bytes_of all m ≡ None) (sym ((bytes_eq-Decides name n).0 same)) (h zero [] (omega arith))
+    by false other rest = rest (subst (λ b. (b || list_any (bytes_eq name) ns) ≡ true) other e)
+
+-- a name that the folder doesn't have adds nothing
+pub absent_adds_none : (told : Option (List File)) (files : FileTable) (name : List ℕ) (names : List (List ℕ)) → AreAbsent told names → list_any (bytes_eq name) names ≡ true
+    → has_file files name ≡ false → is_name name ≡ true → IfSome told (λ all. with_inclusion all files name ≡ Ok files)
+absent_adds_none None files name names h e absent named = tt
+absent_adds_none (Some all) files name names h e absent named =
+    chosen (has_file files name) (is_name name) files (add_present files name (bytes_of all name)) absent named ∙ ap (add_present files name) (absent_at all name names h e)
+
+-- a file is there where the table has its lines
+nat_lt-suc : (a b : ℕ) → nat_lt (1 + a) (suc b) ≡ nat_lt a b
+nat_lt-suc a b = by (nat_lt (1 + a) (suc b)) refl (nat_lt a b) refl
+  where
+    by : (t : Bool) → nat_lt (1 + a) (suc b) ≡ t → (u : Bool) → nat_lt a b ≡ u → t ≡ u
+    by true e true f = refl
+    by true e false f = let p = ltb-true (1 + a) (suc b) e in let q = ltb-false a b f in absurd (omega arith)
+    by false e true f = let p = ltb-false (1 + a) (suc b) e in let q = ltb-true a b f in absurd (omega arith)
+    by false e false f = refl
+
+place_below : {X : Type 0} (p : X → Bool) (xs : List X) → nat_lt (position_or_len p xs) (length xs) ≡ list_any p xs
+place_below p [] = refl
+place_below p (x ∷ xs) = by (p x) (place_below p xs)
+  where
+    by : (b : Bool) → nat_lt (position_or_len p xs) (length xs) ≡ list_any p xs → nat_lt (cond (not b) (1 + position_or_len p xs) 0) (length (x ∷ xs)) ≡ (b || list_any p xs)
+    by true rest = lt-ltb 0 (length (x ∷ xs)) (omega arith)
+    by false rest = nat_lt-suc (position_or_len p xs) (length xs) ∙ rest
+
+is_some-position : {X : Type 0} (p : X → Bool) (xs : List X) → is_some (position p xs) ≡ list_any p xs
+is_some-position p xs = by (nat_lt (position_or_len p xs) (length xs)) ∙ place_below p xs
+  where
+    by : (b : Bool) → is_some (cond b (Some (position_or_len p xs)) None) ≡ b
+    by true = refl
+    by false = refl
+
+has_any : (files : FileTable) (name : List ℕ) → has_file files name ≡ list_any (λ f. bytes_eq name f.0) files
+has_any [] name = refl
+has_any (f ∷ files) name = by (bytes_eq name f.0) (has_any files name)
+  where
+    by : (b : Bool) → has_file files name ≡ list_any (λ f. bytes_eq name f.0) files → is_some (cond b (Some f.1) (lines_of files name)) ≡ (b || list_any (λ f. bytes_eq name f.0) files)
+    by true rest = refl
+    by false rest = rest
+
+pub there_as_has : (files : FileTable) (name : List ℕ) → is_there files name ≡ has_file files name
+there_as_has files name = is_some-position (λ f. bytes_eq name f.0) files ∙ sym (has_any files name)
+
+-- the files stay in a table that grows
+has_file-append : (files more : FileTable) (name : List ℕ) → has_file files name ≡ true → has_file (files ++ more) name ≡ true
+has_file-append [] more name h = absurd (cc)
+has_file-append (f ∷ files) more name h = by (bytes_eq name f.0) h (has_file-append files more name)
+  where
+    by : (b : Bool) → is_some (cond b (Some f.1) (lines_of files name)) ≡ true → (has_file files name ≡ true → has_file (files ++ more) name ≡ true)
+        → is_some (cond b (Some f.1) (lines_of (files ++ more) name)) ≡ true
+    by true e rest = refl
+    by false e rest = rest e
+
+has_file-last : (files : FileTable) (name : List ℕ) (lines : List (List ℕ)) → has_file (files ++ (name, lines) ∷ []) name ≡ true
+has_file-last [] name lines = ap (λ b. is_some (cond b (Some lines) None)) ((bytes_eq-Decides name name).1 refl)
+has_file-last (f ∷ files) name lines = by (bytes_eq name f.0) (has_file-last files name lines)
+  where
+    by : (b : Bool) → has_file (files ++ (name, lines) ∷ []) name ≡ true → is_some (cond b (Some f.1) (lines_of (files ++ (name, lines) ∷ []) name)) ≡ true
+    by true rest = refl
+    by false rest = rest
+
+pub there_added : (files : FileTable) (name bytes : List ℕ) → is_there (added files name bytes) name ≡ true
+there_added files name bytes = there_as_has (added files name bytes) name ∙ has_file-last files name (cut bytes)
+
+is_there-append : (files more : FileTable) (name : List ℕ) → is_there files name ≡ true → is_there (files ++ more) name ≡ true
+is_there-append files more name h = there_as_has (files ++ more) name ∙ has_file-append files more name (sym (there_as_has files name) ∙ h)
+
+pub grows_there : (old new : FileTable) (name : List ℕ) → Grows old new → is_there old name ≡ true → is_there new name ≡ true
+grows_there old new name g h = subst (λ t. is_there t name ≡ true) (sym g.is) (is_there-append old g.more name h)
+
+pub grows_there_if_any : (old new : FileTable) (name : Option (List ℕ)) → Grows old new → is_there_if_any old name ≡ true → is_there_if_any new name ≡ true
+grows_there_if_any old new None g h = refl
+grows_there_if_any old new (Some name) g h = grows_there old new name g h
+
+both : (a b : Bool) → a ≡ true → b ≡ true → (a && b) ≡ true
+both true true p q = refl
+both true false p q = absurd (cc)
+both false b p q = absurd (cc)
+
+each : (a b : Bool) → (a && b) ≡ true → (a ≡ true) × (b ≡ true)
+each true true p = (refl, refl)
+each true false p = absurd (cc)
+each false b p = absurd (cc)
+
+pub grows_fits : (old new : FileTable) (names : RoleNames) → Grows old new → fits old names ≡ true → fits new names ≡ true
+grows_fits old new names g h =
+    let parts = each (is_there old names.web) (is_there_if_any old names.change) h in
+    both (is_there new names.web) (is_there_if_any new names.change) (grows_there old new names.web g parts.0) (grows_there_if_any old new names.change g parts.1)
+
+pub fits_both : (files : FileTable) (names : RoleNames) → is_there files names.web ≡ true → is_there_if_any files names.change ≡ true → fits files names ≡ true
+fits_both files names p q = both (is_there files names.web) (is_there_if_any files names.change) p q

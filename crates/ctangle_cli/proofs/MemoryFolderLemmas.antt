@@ -1,0 +1,42 @@
+-- The files of a folder in memory, and the one created last.
+use Rattle.std.proofs.Common.{◌≡◌, ◌∙◌, ℕ, zero, suc, ◌+◌, Bool, true, false, cond, List, [], ◌∷◌, map, length, slice_set, slice_index_or, arith, ap, refl, Option, None, Some}
+use Rattle.std.specs.Option.{option_map}
+use Rattle.std.specs.Map.{lookup}
+use Rattle.std.specs.Str.{bytes_eq}
+use Rattle.indexmap.specs.IndexMap.{insert_entry}
+use Rattle.std.proofs.lemmas.Slice.Eq.{bytes_eq-Decides}
+use Rattle.std.specs.declared.vec.Vec.{Vec}
+use Rattle.std.specs.Global.{Global}
+use Rattle.ctangle_cli.specs.Folder.{bytes_of, with_last}
+use Rattle.ctangle_cli.specs.MemoryFolder.{file_of, held_file}
+use Rattle.ctangle_cli.specs.declared.memory_folder.CreatedFile.{CreatedFile}
+
+pub last_set : (xs : List CreatedFile) (n : ℕ) (e d : CreatedFile) → length xs ≡ n + 1 → e.name ≡ (slice_index_or xs n d).name
+    → map file_of (slice_set xs n e) ≡ with_last (map file_of xs) e.bytes.items
+last_set [] n e d len same = absurd (omega arith)
+last_set (x ∷ []) zero e d len same = ap (λ name. (name.items, e.bytes.items) ∷ []) same
+last_set (x ∷ []) (suc n) e d len same = absurd (omega arith)
+last_set (x ∷ (y ∷ rest)) zero e d len same = absurd (omega arith)
+last_set (x ∷ (y ∷ rest)) (suc n) e d len same =
+    let less : length (y ∷ rest) ≡ n + 1 = omega arith in
+    ap (λ l. file_of x ∷ l) (last_set (y ∷ rest) n e d less same)
+
+option_map-cond : {X Y : Type 0} (f : X → Y) (b : Bool) (x : X) (o : Option X) (p : Option Y) → p ≡ option_map f o → cond b (Some (f x)) p ≡ option_map f (cond b (Some x) o)
+option_map-cond f true x o p e = refl
+option_map-cond f false x o p e = e
+
+pub bytes_of-entries : (name : List ℕ) (es : List (Vec ℕ Global × Vec ℕ Global))
+    → bytes_of (map held_file es) name ≡ option_map (λ v. v.items) (lookup (λ k. bytes_eq name k.items) es)
+bytes_of-entries name [] = refl
+bytes_of-entries name (e ∷ es) = option_map-cond (λ v. v.items) (bytes_eq name e.0.items) e.1 _ _ (bytes_of-entries name es)
+
+-- a file that is put into the folder is found
+pub put_found : (es : List (Vec ℕ Global × Vec ℕ Global)) (k v : Vec ℕ Global)
+    → bytes_of (map held_file (insert_entry (λ a b. bytes_eq a.items b.items) es k v)) k.items ≡ Some v.items
+put_found [] k v = ap (λ b. cond b (Some v.items) None) ((bytes_eq-Decides k.items k.items).1 refl)
+put_found (e ∷ es) k v = by (bytes_eq k.items e.0.items) refl (put_found es k v)
+  where
+    by : (b : Bool) → bytes_eq k.items e.0.items ≡ b → bytes_of (map held_file (insert_entry (λ a b. bytes_eq a.items b.items) es k v)) k.items ≡ Some v.items
+        → bytes_of (map held_file (cond b ((e.0, v) ∷ es) (e ∷ insert_entry (λ a b. bytes_eq a.items b.items) es k v))) k.items ≡ Some v.items
+    by true same rest = ap (λ b. cond b (Some v.items) (bytes_of (map held_file es) k.items)) same
+    by false other rest = ap (λ b. cond b (Some e.1.items) (bytes_of (map held_file (insert_entry (λ a b. bytes_eq a.items b.items) es k v)) k.items)) other ∙ rest

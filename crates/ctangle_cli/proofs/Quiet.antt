@@ -1,0 +1,60 @@
+-- A run that ends with status 3 and writes nothing is none: on a stream that tells its bytes the clause is false.
+use Rattle.std.proofs.Common.{◌≡◌, inl, inr, ℕ, ◌<◌, Bool, true, false, cond, List, [], ◌∷◌, ◌++◌, ap, length, length-append, arith}
+use Rattle.std.specs.Prelude.{codes}
+use Rattle.tangle_lines.specs.Streams.{Failed}
+use Rattle.tangle_lines.specs.Faults.{Finding, is_error}
+use Rattle.tangle_lines.specs.Roles.{RoleNames}
+use Rattle.ctangle_cli.specs.declared.folder.FolderFault.{FolderFault}
+use Rattle.ctangle_cli.specs.declared.folder.FolderFault.TheVariants.{Missing, TooBig, Failed as IsFailed, NoMemory as NoRoom}
+use Rattle.ctangle_cli.specs.Loading.{Ending}
+use Rattle.ctangle_cli.specs.Loading.Ending.{Unreadable, Refuses, Memory}
+use Rattle.ctangle_cli.specs.Messages.{ending_line, fault_lines, no_memory_line, status_of, unwritten_line}
+use Rattle.ctangle_cli.specs.Tangle.{Tangling}
+use Rattle.ctangle_cli.specs.Run.{NamedEnds, RunEnds, TangledEnds, TriesToWrite, quiet}
+use Rattle.ctangle_cli.specs.Run.RunEnds.{IsMisused, IsMisusedUnheard, IsUnnamed, IsNamed}
+use Rattle.ctangle_cli.specs.Run.NamedEnds.{IsUnloaded, IsUntangled, IsTangled}
+use Rattle.ctangle_cli.specs.Run.TangledEnds.{IsDone, IsUnheard, IsUnwritten}
+
+no_failure : Failed 0 0 → ⊥
+no_failure h = elim h [ inl p ↦ omega arith | inr p ↦ omega arith ]
+
+silent : (text : List ℕ) → 0 < length text → TriesToWrite quiet quiet text → ⊥
+silent text some h =
+    elim h [ inl w ↦ (let e : 0 ≡ length text = ap length w.0 in omega arith) | inr p ↦ no_failure p.3 ]
+
+ending_some : (e : Ending) → 0 < length (ending_line (codes "ctangle") e)
+ending_some (Unreadable name) = omega arith
+ending_some (Refuses name refusal) = omega arith
+ending_some Memory = omega arith
+
+stop_some : (f : FolderFault) (name : List ℕ) → 0 < length (unwritten_line f name)
+stop_some NoRoom name = omega arith
+stop_some Missing name = omega arith
+stop_some IsFailed name = omega arith
+stop_some TooBig name = omega arith
+
+small_status : (fs : List Finding) → status_of fs < 3
+small_status [] = omega arith
+small_status (f ∷ fs) = by (is_error f) (small_status fs)
+  where
+    by : (b : Bool) → status_of fs < 3 → cond b 1 (status_of fs) < 3
+    by true h = omega arith
+    by false h = h
+
+tangled_quiet : (t : Tangling) → TangledEnds t quiet quiet 3 → ⊥
+tangled_quiet t (IsDone told created unfailed status) = let h = small_status t.faults in omega arith
+tangled_quiet t (IsUnheard told created status) = no_failure told.3
+tangled_quiet t (IsUnwritten stop status) =
+    let some = stop_some stop.fault stop.stops.file.0 in
+    silent (fault_lines t.faults ++ unwritten_line stop.fault stop.stops.file.0) (omega (arith, length-append (fault_lines t.faults) (unwritten_line stop.fault stop.stops.file.0))) stop.told
+
+named_quiet : (names : RoleNames) → NamedEnds names quiet quiet 3 → ⊥
+named_quiet names (IsUnloaded ending why told created status) = silent (ending_line (codes "ctangle") ending) (ending_some ending) told
+named_quiet names (IsUntangled files loaded told created status) = silent no_memory_line (ending_some Memory) told
+named_quiet names (IsTangled files loaded ends) = tangled_quiet _ ends
+
+pub run_quiet : (words : List (List ℕ)) → RunEnds words quiet quiet 3 → ⊥
+run_quiet words (IsMisused none told created status) = omega arith
+run_quiet words (IsMisusedUnheard none told created status) = no_failure told.3
+run_quiet words (IsUnnamed told created status) = silent (ending_line (codes "ctangle") Memory) (ending_some Memory) told
+run_quiet words (IsNamed names is ends) = named_quiet names ends

@@ -1,0 +1,160 @@
+-- What is written on a stream, one text after another.
+use Rattle.std.proofs.Common.{◌≡◌, ◌∙◌, ◌⊎◌, inl, inr, ℕ, ◌+◌, ◌<◌, ◌≤◌, List, [], ◌∷◌, ◌++◌, Option, Some, Result, Ok, Err, ap, subst, sym, refl, length, take, suc, length-append, arith, append_assoc, append-nil}
+use Rattle.std.proofs.lemmas.List.{take-append-le}
+use Rattle.tangle_lines.proofs.StreamLemmas.{Appends-append, Appends-none}
+use Rattle.tangle_lines.specs.Streams.{Failed, PutsOut}
+use Rattle.tangle_lines.specs.declared.refusal.WriteFault.{WriteFault}
+use Rattle.std.proofs.Common.{zero, ◌≢◌, slice_index_or, drop}
+use Rattle.std.specs.Prelude.{slice_get}
+use Rattle.std.proofs.lemmas.List.{take-append-drop}
+use Rattle.tangle_lines.specs.Faults.{Finding}
+use Rattle.tangle_lines.specs.FaultText.{fault_line}
+use Rattle.tangle_lines.specs.Lines.{FileTable}
+use Rattle.tangle_lines.specs.Roles.{RoleNames}
+use Rattle.ctangle_cli.specs.Folder.{AddsPart, File, with_created}
+use Rattle.ctangle_cli.specs.declared.folder.FolderFault.{FolderFault}
+use Rattle.ctangle_cli.specs.declared.folder.FolderFault.TheVariants.{Missing, NoMemory, TooBig, Failed as IsFailed}
+use Rattle.ctangle_cli.proofs.WriteLemmas.{with_created-append}
+use Rattle.ctangle_cli.specs.Loading.{LoadsTo, load_of}
+use Rattle.ctangle_cli.specs.Tangle.{Tangling, tangle_of}
+use Rattle.ctangle_cli.specs.Run.{Moment, NamedEnds, StopsAt, TangledEnds}
+use Rattle.ctangle_cli.specs.Run.TangledEnds.{IsUnwritten}
+use Rattle.ctangle_cli.specs.Run.NamedEnds.{IsTangled}
+use Rattle.ctangle_cli.specs.Messages.{TakesFront, TakesAll, fault_lines, unwritten_line}
+
+take_past : (xs ys : List ℕ) (n : ℕ) → take (length xs + n) (xs ++ ys) ≡ xs ++ take n ys
+take_past [] ys n = ap (λ k. take k ys) (omega arith)
+take_past (x ∷ xs) ys n =
+    let e : length (x ∷ xs) + n ≡ suc (length xs + n) = omega arith in
+    ap (λ k. take k (x ∷ (xs ++ ys))) e ∙ ap (λ l. x ∷ l) (take_past xs ys n)
+
+pub TakesAll-none : (a : Option (List ℕ)) (f : ℕ) → TakesAll a a f f []
+TakesAll-none a f = (Appends-none a, refl)
+
+pub whole_then_whole : (a b c : Option (List ℕ)) (f g h : ℕ) (xs ys : List ℕ) → TakesAll a b f g xs → TakesAll b c g h ys → TakesAll a c f h (xs ++ ys)
+whole_then_whole a b c f g h xs ys p q = (Appends-append a b c xs ys p.0 q.0, q.1 ∙ p.1)
+
+pub whole_then_cut : (a b c : Option (List ℕ)) (f g h : ℕ) (xs ys : List ℕ) → TakesAll a b f g xs → TakesFront b c g h ys → TakesFront a c f h (xs ++ ys)
+whole_then_cut a b c f g h xs ys p q =
+    let less = q.1 in (
+      length xs + q.0,
+      omega (arith, length-append xs ys),
+      rw take_past (Appends-append a b c xs (take q.0 ys) p.0 q.2),
+      subst (λ n. Failed n h) p.1 q.3,
+    )
+
+pub cut_more : (a b : Option (List ℕ)) (f g : ℕ) (xs ys : List ℕ) → TakesFront a b f g xs → TakesFront a b f g (xs ++ ys)
+cut_more a b f g xs ys p =
+    let less = p.1 in
+    let within : p.0 ≤ length xs = omega arith in
+    (p.0, omega (arith, length-append xs ys), rw take-append-le p.2, p.3)
+
+pub whole_from : (a b : Option (List ℕ)) (f g n : ℕ) (text : List ℕ) → PutsOut a b f g text (Ok n) → TakesAll a b f g text
+whole_from a b f g n text h = (h.1, h.2)
+
+pub cut_from : (a b : Option (List ℕ)) (f g : ℕ) (e : WriteFault) (text : List ℕ) → PutsOut a b f g text (Err e) → TakesFront a b f g text
+cut_from a b f g e text h = (e.0, h.0, h.1, h.2)
+
+pub tries_from : (a b : Option (List ℕ)) (f g : ℕ) (r : Result ℕ WriteFault) (text : List ℕ) → PutsOut a b f g text r → TakesAll a b f g text ⊎ TakesFront a b f g text
+tries_from a b f g (Ok n) text h = inl (h.1, h.2)
+tries_from a b f g (Err e) text h = inr (e.0, h.0, h.1, h.2)
+
+pub whole_then_tries : (a b c : Option (List ℕ)) (f g h : ℕ) (xs ys : List ℕ) → TakesAll a b f g xs → TakesAll b c g h ys ⊎ TakesFront b c g h ys
+    → TakesAll a c f h (xs ++ ys) ⊎ TakesFront a c f h (xs ++ ys)
+whole_then_tries a b c f g h xs ys p q =
+    elim q [ inl w ↦ inl (whole_then_whole a b c f g h xs ys p w) | inr w ↦ inr (whole_then_cut a b c f g h xs ys p w) ]
+
+-- one more fault
+lines_next : (xs : List Finding) (i : ℕ) (f : Finding) → i < length xs → f ≡ slice_index_or xs i f → fault_lines (take (suc i) xs) ≡ fault_lines (take i xs) ++ fault_line f
+lines_next [] i f lt e = absurd (omega arith)
+lines_next (x ∷ xs) zero f lt e = append-nil (fault_line x) ∙ ap fault_line (sym e)
+lines_next (x ∷ xs) (suc i) f lt e =
+    let less : i < length xs = omega arith in
+    ap (λ l. fault_line x ++ l) (lines_next xs i f less e) ∙ sym (append_assoc (fault_line x) (fault_lines (take i xs)) (fault_line f))
+
+lines-append : (xs ys : List Finding) → fault_lines (xs ++ ys) ≡ fault_lines xs ++ fault_lines ys
+lines-append [] ys = refl
+lines-append (x ∷ xs) ys = ap (λ l. fault_line x ++ l) (lines-append xs ys) ∙ sym (append_assoc (fault_line x) (fault_lines xs) (fault_lines ys))
+
+pub faults_more : (a b c : Option (List ℕ)) (f g h n : ℕ) (xs : List Finding) (i : ℕ) (x : Finding) → i < length xs → x ≡ slice_index_or xs i x
+    → TakesAll a b f g (fault_lines (take i xs)) → PutsOut b c g h (fault_line x) (Ok n) → TakesAll a c f h (fault_lines (take (i + 1) xs))
+faults_more a b c f g h n xs i x lt e p q =
+    let one : i + 1 ≡ suc i = omega arith in
+    subst (TakesAll a c f h) (sym (ap (λ k. fault_lines (take k xs)) one ∙ lines_next xs i x lt e)) (whole_then_whole a b c f g h _ (fault_line x) p (whole_from b c g h n (fault_line x) q))
+
+pub faults_cut : (a b c : Option (List ℕ)) (f g h : ℕ) (d : WriteFault) (xs : List Finding) (i : ℕ) (x : Finding) → i < length xs → x ≡ slice_index_or xs i x
+    → TakesAll a b f g (fault_lines (take i xs)) → PutsOut b c g h (fault_line x) (Err d) → TakesFront a c f h (fault_lines xs)
+faults_cut a b c f g h d xs i x lt e p q =
+    let whole : (fault_lines (take i xs) ++ fault_line x) ++ fault_lines (drop (suc i) xs) ≡ fault_lines xs =
+    ap (λ l. l ++ fault_lines (drop (suc i) xs)) (sym (lines_next xs i x lt e)) ∙ sym (lines-append (take (suc i) xs) (drop (suc i) xs)) ∙ ap fault_lines (take-append-drop (suc i) xs) in
+    subst (TakesFront a c f h) whole (cut_more a c f h _ (fault_lines (drop (suc i) xs)) (whole_then_cut a b c f g h _ (fault_line x) p (cut_from b c g h d (fault_line x) q)))
+
+-- an item by its number
+found_at : (xs : List File) (n : ℕ) (f : File) → n < length xs → f ≡ slice_index_or xs n f → slice_get xs n ≡ Some f
+found_at [] n f lt e = absurd (omega arith)
+found_at (x ∷ xs) zero f lt e = ap Some (sym e)
+found_at (x ∷ xs) (suc n) f lt e = let less : n < length xs = omega arith in found_at xs n f less e
+
+same_found : (xs : List File) (n : ℕ) (f d : File) → slice_get xs n ≡ Some f → d ≡ slice_index_or xs n d → d ≡ f
+same_found [] n f d found e = absurd (cc)
+same_found (x ∷ xs) zero f d found e = let h : x ≡ f = cc in e ∙ h
+same_found (x ∷ xs) (suc n) f d found e = same_found xs n f d found e
+
+-- writing stopped for want of memory, or because the folder failed
+stops_short : (outputs : List File) (old mid new : Option (List File)) (at : ℕ) (fault : FolderFault) (file : File) → slice_get outputs at ≡ Some file
+    → mid ≡ with_created old (take at outputs) → new ≡ mid → StopsAt outputs old new at fault
+stops_short outputs old mid new at fault file found before nothing = record {
+  file = file;
+  found = found;
+  part = [];
+  is_part = inl refl;
+  no_part = λ _. refl;
+  created = nothing ∙ before ∙ ap (with_created old) (sym (append-nil (take at outputs)));
+}
+
+stops_with : (outputs : List File) (old mid new : Option (List File)) (at : ℕ) (fault : FolderFault) (file : File) → slice_get outputs at ≡ Some file
+    → mid ≡ with_created old (take at outputs) → AddsPart mid new file → fault ≢ NoMemory → StopsAt outputs old new at fault
+stops_with outputs old mid new at fault file found before added failed = record {
+  file = file;
+  found = found;
+  part = added.0;
+  is_part = added.1;
+  no_part = λ e. absurd (failed e);
+  created = added.2 ∙ (ap (λ m. with_created m added.0) before ∙ with_created-append old (take at outputs) added.0);
+}
+
+pub stops_at : (outputs : List File) (old mid new : Option (List File)) (at : ℕ) (fault : FolderFault) (file : File) → at < length outputs → file ≡ slice_index_or outputs at file
+    → mid ≡ with_created old (take at outputs) → AddsPart mid new file → (fault ≡ NoMemory → new ≡ mid) → StopsAt outputs old new at fault
+stops_at outputs old mid new at NoMemory file lt is before added nothing = stops_short outputs old mid new at NoMemory file (found_at outputs at file lt is) before (nothing refl)
+stops_at outputs old mid new at Missing file lt is before added nothing = stops_with outputs old mid new at Missing file (found_at outputs at file lt is) before added (λ e. cc)
+stops_at outputs old mid new at IsFailed file lt is before added nothing = stops_with outputs old mid new at IsFailed file (found_at outputs at file lt is) before added (λ e. cc)
+stops_at outputs old mid new at TooBig file lt is before added nothing = stops_with outputs old mid new at TooBig file (found_at outputs at file lt is) before added (λ e. cc)
+
+pub tangled_stops : (t : Tangling) (old new : Moment) (mid : Option (List ℕ)) (count at : ℕ) (fault : FolderFault) (item : File) (r : Result ℕ WriteFault)
+    → StopsAt t.outputs old.created new.created at fault → (fault ≢ NoMemory → Failed old.folder_failures new.folder_failures)
+    → (fault ≡ NoMemory → new.folder_failures ≡ old.folder_failures) → TakesAll old.told mid old.stream_failures count (fault_lines t.faults) → PutsOut mid new.told count new.stream_failures (unwritten_line fault item.0) r
+    → item ≡ slice_index_or t.outputs at item → TangledEnds t old new 3
+tangled_stops t old new mid count at fault item r stops why calm told put is =
+    let line : unwritten_line fault item.0 ≡ unwritten_line fault stops.file.0 = ap (λ (f : File). unwritten_line fault f.0) (same_found t.outputs at stops.file item stops.found is) in
+    IsUnwritten (record {
+      at = at;
+      stops = stops;
+      fault = fault;
+      why = why;
+      no_failure = calm;
+      told = whole_then_tries old.told mid new.told old.stream_failures count new.stream_failures (fault_lines t.faults) (unwritten_line fault stops.file.0) told
+          (tries_from mid new.told count new.stream_failures r (unwritten_line fault stops.file.0) (subst (λ l. PutsOut mid new.told count new.stream_failures l r) line put));
+    }) refl
+
+abbrev at_moment : Option (List File) → Option (List File) → ℕ → Option (List ℕ) → ℕ → Moment
+at_moment files created refusals told failures = record { files = files; created = created; folder_failures = refusals; told = told; stream_failures = failures }
+
+pub named_tangled : (names : RoleNames) (files : FileTable) (t : Tangling) (all all' made made' : Option (List File)) (n n' : ℕ) (told : Option (List ℕ)) (failures : ℕ) (new : Moment) (status : ℕ)
+    → LoadsTo all (λ xs. load_of xs names) n n' files → t ≡ tangle_of files names → all' ≡ all → made' ≡ made
+    → TangledEnds t (record { files = all'; created = made'; folder_failures = n'; told = told; stream_failures = failures }) new status
+    → NamedEnds names (record { files = all; created = made; folder_failures = n; told = told; stream_failures = failures }) new status
+named_tangled names files t all all' made made' n n' told failures new status loaded is same_files same_made ends =
+    let same : at_moment all' made' n' told failures ≡ at_moment all made n told failures = λ i. at_moment (same_files i) (same_made i) (loaded.1 i) told failures in
+    IsTangled files loaded.0
+    (subst (λ (a : Moment). TangledEnds (tangle_of files names) a new status) same
+    (subst (λ (u : Tangling). TangledEnds u (at_moment all' made' n' told failures) new status) is ends))

@@ -1,0 +1,6 @@
+use Rattle.std.proofs.Common.{◌∙◌, sym}
+use Rattle.ctangle_cli.proofs.LoadLemmas.{there_as_has}
+use Rattle.ctangle_cli.proofs.loading.read_change.Goals as goal
+
+pub returns-then-has-clause-there : goal.returns-then-has-clause-there
+returns-then-has-clause-there g c = rw c.in-Some.is (there_as_has c.args.files.now c.in-Some.name.now ∙ sym c.has.ensures ∙ c.if-has.true)

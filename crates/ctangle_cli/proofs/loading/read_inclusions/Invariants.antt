@@ -1,0 +1,14 @@
+use Rattle.std.proofs.Common.{◌≡◌, drop}
+use Rattle.std.specs.Prelude.{IfSome}
+use Rattle.ctangle_cli.specs.Loading.{AreAbsent, Grows, missed_in, with_inclusions}
+use Rattle.ctangle_cli.proofs.loading.read_inclusions.Given as goal
+
+abbrev pub invariant-loop-fault : goal.invariant-loop-fault
+invariant-loop-fault g l = record {
+  loads : IfSome (g.F.Folder.files l.initial.folder) (λ all. with_inclusions all (missed_in (drop l.fault-index l.faults)) l.files ≡ with_inclusions all (missed_in l.faults) l.initial.files);
+  unfailed : g.F.Folder.failures l.folder ≡ g.F.Folder.failures l.initial.folder;
+  absent : AreAbsent (g.F.Folder.files l.initial.folder) l.absent;
+  grows : Grows l.initial.files l.files;
+  files_stay : g.F.Folder.files l.folder ≡ g.F.Folder.files l.initial.folder;
+  created_stay : g.F.Folder.created l.folder ≡ g.F.Folder.created l.initial.folder;
+}

@@ -1,0 +1,7 @@
+use Rattle.std.proofs.Common.{take}
+use Rattle.ctangle_cli.specs.Messages.{TakesAll, fault_lines}
+use Rattle.ctangle_cli.proofs.messages.write_faults.Given as goal
+
+abbrev pub invariant-loop-fault : goal.invariant-loop-fault
+invariant-loop-fault g l =
+    TakesAll (g.E.Sink.taken l.initial.err) (g.E.Sink.taken l.err) (g.E.Sink.failures l.initial.err) (g.E.Sink.failures l.err) (fault_lines (take l.fault-index l.faults))

@@ -1,0 +1,87 @@
+-- A folder: the files that it has, the files that it created, and the count of its failures.
+use Rattle.std.specs.Prelude.{◌≡◌, ◌<◌, ◌⊎◌, ℕ, ◌==◌, if◌then◌else◌, List, [], ◌∷◌, ◌++◌, Option, Some, None, Result, Ok, Err, ⊤, IsSomeAnd, length, take}
+use Rattle.std.specs.Map.{lookup}
+use Rattle.std.specs.Str.{bytes_eq}
+use Rattle.std.specs.declared.vec.Vec.{Vec}
+use Rattle.std.specs.Global.{Global}
+use Rattle.tangle_lines.specs.Streams.{one_more_failure}
+use Rattle.ctangle_cli.specs.declared.folder.FolderFault.{FolderFault}
+use Rattle.ctangle_cli.specs.declared.folder.FolderFault.TheVariants.{Missing, Failed, TooBig, NoMemory}
+
+-- a name, and the bytes of the file
+abbrev pub File : Type 0
+File = List ℕ × List ℕ
+
+-- the most bytes of a file that a program reads
+abbrev pub file_limit : ℕ
+file_limit = 67108864
+
+-- the bytes of the file of this name
+abbrev pub bytes_of : List File → List ℕ → Option (List ℕ)
+bytes_of files name = lookup (bytes_eq name) files
+
+-- what a folder answers that tells its files
+abbrev pub Reads : Option (List File) → List ℕ → Result (Vec ℕ Global) FolderFault → Type 0
+Reads None name result = ⊤
+Reads (Some files) name (Ok bytes) = bytes_of files name ≡ Some bytes.items
+Reads (Some files) name (Err Missing) = bytes_of files name ≡ None
+Reads (Some files) name (Err TooBig) = IsSomeAnd (bytes_of files name) (λ bytes. file_limit < length bytes)
+Reads (Some files) name (Err Failed) = ⊤
+Reads (Some files) name (Err NoMemory) = ⊤
+
+-- the files created, where they are told, and these after them
+abbrev pub with_created : Option (List File) → List File → Option (List File)
+with_created None files = None
+with_created (Some old) files = Some (old ++ files)
+
+-- the sink of a folder that tells its files tells its bytes, and has none
+abbrev pub Begins : Option (List File) → Option (List ℕ) → Type 0
+Begins None taken = ⊤
+Begins (Some files) taken = taken ≡ Some []
+
+-- the file created last has these bytes in place of its own
+abbrev pub with_last : List File → List ℕ → List File
+with_last [] bytes = []
+with_last (f ∷ []) bytes = (f.0, bytes) ∷ []
+with_last (f ∷ (g ∷ rest)) bytes = f ∷ with_last (g ∷ rest) bytes
+
+-- the file created last has the bytes of the sink
+abbrev pub Closes : Option (List File) → Option (List File) → Option (List ℕ) → Type 0
+Closes None new taken = new ≡ None
+Closes (Some files) new None = ⊤
+Closes (Some files) new (Some bytes) = new ≡ Some (with_last files bytes)
+
+-- or a front of them
+abbrev pub ClosesWithin : Option (List File) → Option (List File) → Option (List ℕ) → Type 0
+ClosesWithin None new taken = new ≡ None
+ClosesWithin (Some files) new None = ⊤
+ClosesWithin (Some files) new (Some bytes) = (n : ℕ) × (new ≡ Some (with_last files (take n bytes)))
+
+-- the count of failures after a reading: each Failed is one
+abbrev pub after_read : Result (Vec ℕ Global) FolderFault → ℕ → ℕ
+after_read (Ok bytes) n = n
+after_read (Err Failed) n = one_more_failure n
+after_read (Err Missing) n = n
+after_read (Err TooBig) n = n
+after_read (Err NoMemory) n = n
+
+-- the count after a creation: each refusal but NoMemory is one
+abbrev pub after_refusal : {T : Type 0} → Result T FolderFault → ℕ → ℕ
+after_refusal (Ok out) n = n
+after_refusal (Err NoMemory) n = n
+after_refusal (Err Missing) n = one_more_failure n
+after_refusal (Err Failed) n = one_more_failure n
+after_refusal (Err TooBig) n = one_more_failure n
+
+-- the count after a closing: a refusal is one, and so is a sink that failed
+abbrev pub after_close : {T : Type 0} → Result T FolderFault → ℕ → ℕ → ℕ
+after_close (Ok done) failures n = if failures == 0 then n else one_more_failure n
+after_close (Err fault) failures n = one_more_failure n
+
+-- of this file nothing was created, or it has a front of its bytes
+abbrev pub IsPart : File → List File → Type 0
+IsPart file part = (part ≡ []) ⊎ ((n : ℕ) × (part ≡ (file.0, take n file.1) ∷ []))
+
+-- a part of the file was created
+abbrev pub AddsPart : Option (List File) → Option (List File) → File → Type 0
+AddsPart old new file = (part : List File) × IsPart file part × (new ≡ with_created old part)

@@ -1,0 +1,9 @@
+pub mod Folder
+pub mod MemoryFolder
+pub mod Words
+pub mod Loading
+pub mod TangleText
+pub mod TangleItems
+pub mod Tangle
+pub mod Messages
+pub mod Run

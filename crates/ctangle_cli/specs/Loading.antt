@@ -1,0 +1,153 @@
+-- Loading: the files that a run reads, and how it ends where one is in the way.
+use Rattle.std.specs.Prelude.{◌≡◌, ◌⊎◌, ◌<◌, ◌≤◌, ⊤, ℕ, zero, suc, ◌-◌, ◌==◌, ◌||◌, not, nat_lt, length, map, filter, Bool, true, false, List, [], ◌∷◌, ◌++◌, Option, None, Some, IfSome, Result, Ok, Err, if◌then◌else◌, All}
+use Rattle.tangle_lines.specs.declared.refusal.Refusal.{Refusal}
+use Rattle.tangle_lines.specs.declared.refusal.Refusal.TheVariants.{BadName, NoMemory as NoRoom}
+use Rattle.tangle_lines.specs.declared.faults.FaultKind.{FaultKind}
+use Rattle.tangle_lines.specs.declared.faults.FaultKind.TheVariants.{IncludeMissing}
+use Rattle.tangle_lines.specs.Faults.{Finding}
+use Rattle.tangle_lines.specs.Lines.{FileTable}
+use Rattle.tangle_lines.specs.Adding.{add_refusal, added, has_file, is_name}
+use Rattle.tangle_lines.specs.Reading.{source_of}
+use Rattle.tangle_lines.specs.Roles.{RoleNames}
+use Rattle.tangle_lines.specs.Streams.{Failed}
+use Rattle.ctangle_cli.specs.Folder.{File, bytes_of, file_limit}
+use Rattle.ctangle_cli.specs.declared.loading.LoadFault.{LoadFault}
+use Rattle.ctangle_cli.specs.declared.loading.LoadFault.TheVariants.{CannotRead, Refused, NoMemory}
+
+-- why loading ends without its files: a file can't be read, or is refused, or memory is wanting
+pub data Ending : Type 0 where
+  Unreadable : List ℕ → Ending
+  Refuses : List ℕ → Refusal → Ending
+  Memory : Ending
+
+-- the files loaded, or why there are none
+abbrev pub Loaded : Type 0
+Loaded = Result FileTable Ending
+
+abbrev pub and_then : Loaded → (FileTable → Loaded) → Loaded
+and_then (Ok files) rest = rest files
+and_then (Err ending) rest = Err ending
+
+-- a file is added, unless the table refuses it
+abbrev pub unless_refused : FileTable → List ℕ → List ℕ → Option Refusal → Loaded
+unless_refused files name bytes None = Ok (added files name bytes)
+unless_refused files name bytes (Some refusal) = Err (Refuses name refusal)
+
+abbrev pub add_bytes : FileTable → List ℕ → List ℕ → Loaded
+add_bytes files name bytes =
+    if nat_lt file_limit (length bytes) then Err (Unreadable name) else unless_refused files name bytes (add_refusal files name bytes)
+
+-- a file that has to be there
+abbrev pub add_wanted : FileTable → List ℕ → Option (List ℕ) → Loaded
+add_wanted files name None = Err (Unreadable name)
+add_wanted files name (Some bytes) = add_bytes files name bytes
+
+-- a file that may be missing
+abbrev pub add_present : FileTable → List ℕ → Option (List ℕ) → Loaded
+add_present files name None = Ok files
+add_present files name (Some bytes) = add_bytes files name bytes
+
+abbrev pub is_missing_kind : FaultKind → Bool
+is_missing_kind IncludeMissing = true
+is_missing_kind _ = false
+
+-- the names that inclusions miss, in the order of the faults of reading
+abbrev pub missed_in : List Finding → List (List ℕ)
+missed_in faults = map (λ f. f.subject) (filter (λ f. is_missing_kind f.kind) faults)
+
+unfoldable pub missing_of : FileTable → RoleNames → List (List ℕ)
+missing_of files names = missed_in (source_of files names).faults
+
+-- A round that adds no file is the last. Each name that it misses was tried, and the folder doesn't change.
+abbrev pub after_round : FileTable → Loaded → (FileTable → Loaded) → Loaded
+after_round files (Err ending) rest = Err ending
+after_round files (Ok next) rest = if length next == length files then Ok next else rest next
+
+-- all are the files of the folder
+module _ (all : List File) where
+  -- the web, or the change file
+  abbrev pub with_wanted : FileTable → List ℕ → Loaded
+  with_wanted files name = add_wanted files name (bytes_of all name)
+
+  -- no change file, or one that is in the table already
+  abbrev pub with_change : FileTable → Option (List ℕ) → Loaded
+  with_change files None = Ok files
+  with_change files (Some name) = if has_file files name then Ok files else with_wanted files name
+
+  -- a missing inclusion: the folder isn't asked for a name that is no file name, nor for a file that is in the table
+  abbrev pub with_inclusion : FileTable → List ℕ → Loaded
+  with_inclusion files name =
+      if has_file files name || not (is_name name) then Ok files else add_present files name (bytes_of all name)
+
+  abbrev pub with_inclusions : List (List ℕ) → FileTable → Loaded
+  with_inclusions [] files = Ok files
+  with_inclusions (name ∷ names) files = and_then (with_inclusion files name) (λ next. with_inclusions names next)
+
+  module _ (names : RoleNames) where
+    -- the sources are read, and the files that they miss are added
+    abbrev pub with_round : FileTable → Loaded
+    with_round files = with_inclusions (missing_of files names) files
+
+    -- at most so many rounds
+    unfoldable pub rounds_in : ℕ → FileTable → Loaded
+    rounds_in zero files = Ok files
+    rounds_in (suc n) files = after_round files (with_round files) (λ next. rounds_in n next)
+
+    -- all rounds: each but the last adds a file, and a table has at most 256
+    abbrev pub rounds_from : FileTable → Loaded
+    rounds_from files = rounds_in (suc (256 - length files)) files
+
+abbrev pub bad_change : Option (List ℕ) → Option (List ℕ) → Option (List ℕ)
+bad_change None rest = rest
+bad_change (Some name) rest = if is_name name then rest else Some name
+
+-- the first of the web, the change file and the main file whose name is no file name
+abbrev pub bad_name : RoleNames → Option (List ℕ)
+bad_name names =
+    if not (is_name names.web) then Some names.web else bad_change names.change (if is_name names.out then None else Some names.out)
+
+abbrev pub load_unless : List File → RoleNames → Option (List ℕ) → Loaded
+load_unless all names (Some name) = Err (Refuses name BadName)
+load_unless all names None =
+    and_then (with_wanted all [] names.web) (λ files. and_then (with_change all files names.change) (λ more. rounds_from all names more))
+
+-- What loading by these names gives, of a folder with these files: the web, then the change file, and then in
+-- rounds the files that inclusions miss.
+abbrev pub load_of : List File → RoleNames → Loaded
+load_of all names = load_unless all names (bad_name names)
+
+-- the table has these files, and perhaps others behind them, up to its limit
+pub record Grows (old new : FileTable) : Type 0 where
+  pub more : FileTable
+  pub is : new ≡ old ++ more
+  pub within : 0 < length more → length new ≤ 256
+
+-- the files of a folder that tells them load so, and the folder did not fail
+abbrev pub LoadsTo : Option (List File) → (List File → Loaded) → ℕ → ℕ → FileTable → Type 0
+LoadsTo told loads failures failures' files = IfSome told (λ all. loads all ≡ Ok files) × (failures' ≡ failures)
+
+-- why a loading stopped: by what the folder has, or because it failed, or for want of memory
+abbrev pub StopsFor : Option (List File) → (List File → Loaded) → ℕ → ℕ → Ending → Type 0
+StopsFor told loads failures failures' (Unreadable name) =
+    (IfSome told (λ all. loads all ≡ Err (Unreadable name)) × (failures' ≡ failures)) ⊎ Failed failures failures'
+StopsFor told loads failures failures' (Refuses name refusal) =
+    IfSome told (λ all. loads all ≡ Err (Refuses name refusal)) × (failures' ≡ failures)
+StopsFor told loads failures failures' Memory = ⊤
+
+-- the folder, where it tells its files, has none of these names
+abbrev pub AreAbsent : Option (List File) → List (List ℕ) → Type 0
+AreAbsent told names = IfSome told (λ all. All (λ name. bytes_of all name ≡ None) names)
+
+-- a refusal ends a loading, and want of memory does
+abbrev pub refused_as : List ℕ → Refusal → Ending
+refused_as name NoRoom = Memory
+refused_as name refusal = Refuses name refusal
+
+-- this ending, unless memory was short
+abbrev pub IsEnding : Ending → Ending → Type 0
+IsEnding wanted given = (given ≡ wanted) ⊎ (given ≡ Memory)
+
+abbrev pub ending_of : LoadFault → Ending
+ending_of (CannotRead name) = Unreadable name.items
+ending_of (Refused name refusal) = Refuses name.items refusal
+ending_of NoMemory = Memory

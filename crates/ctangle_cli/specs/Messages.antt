@@ -1,0 +1,68 @@
+-- The lines that the programs write on the error stream.
+use Rattle.std.specs.Prelude.{◌≡◌, ◌<◌, length, take, Option, ℕ, List, [], ◌∷◌, ◌++◌, codes, if◌then◌else◌}
+use Rattle.std.specs.Io.KnownBytes.{Appends}
+use Rattle.tangle_lines.specs.declared.refusal.Refusal.{Refusal}
+use Rattle.tangle_lines.specs.declared.refusal.Refusal.TheVariants.{BadName, FileExists, TooManyFiles, LineTooLong, TooManyLines, NoMemory, UnknownFile, NoSuchLine, BadLine, NoWeb, NoChange, RoleFile, NoOutput, WriteFault}
+use Rattle.tangle_lines.specs.Faults.{Finding, is_error}
+use Rattle.tangle_lines.specs.FaultText.{fault_line}
+use Rattle.tangle_lines.specs.Streams.{Failed}
+use Rattle.ctangle_cli.specs.declared.folder.FolderFault.{FolderFault}
+use Rattle.ctangle_cli.specs.declared.folder.FolderFault.TheVariants.{Missing, TooBig, Failed as IsFailed, NoMemory as NoRoom}
+use Rattle.ctangle_cli.specs.Loading.{Ending}
+use Rattle.ctangle_cli.specs.Loading.Ending.{Unreadable, Refuses, Memory}
+
+abbrev pub usage_line : List ℕ
+usage_line = codes "usage: ctangle [flags] web [change [out]]\n"
+
+abbrev pub refusal_name : Refusal → List ℕ
+refusal_name BadName = codes "BadName"
+refusal_name FileExists = codes "FileExists"
+refusal_name TooManyFiles = codes "TooManyFiles"
+refusal_name LineTooLong = codes "LineTooLong"
+refusal_name TooManyLines = codes "TooManyLines"
+refusal_name NoMemory = codes "NoMemory"
+refusal_name UnknownFile = codes "UnknownFile"
+refusal_name NoSuchLine = codes "NoSuchLine"
+refusal_name BadLine = codes "BadLine"
+refusal_name NoWeb = codes "NoWeb"
+refusal_name NoChange = codes "NoChange"
+refusal_name RoleFile = codes "RoleFile"
+refusal_name NoOutput = codes "NoOutput"
+refusal_name (WriteFault n) = codes "WriteFault"
+
+-- the line of a loading that ended without its files, behind the program's name
+abbrev pub ending_line : List ℕ → Ending → List ℕ
+ending_line program (Unreadable name) = program ++ codes ": cannot read " ++ name ++ codes "\n"
+ending_line program (Refuses name refusal) = program ++ codes ": " ++ name ++ codes ": " ++ refusal_name refusal ++ codes "\n"
+ending_line program Memory = program ++ codes ": NoMemory\n"
+
+abbrev pub no_memory_line : List ℕ
+no_memory_line = ending_line (codes "ctangle") Memory
+
+abbrev pub cannot_write_line : List ℕ → List ℕ
+cannot_write_line name = codes "ctangle: cannot write " ++ name ++ codes "\n"
+
+-- the line of an output that was not written
+abbrev pub unwritten_line : FolderFault → List ℕ → List ℕ
+unwritten_line NoRoom name = no_memory_line
+unwritten_line Missing name = cannot_write_line name
+unwritten_line IsFailed name = cannot_write_line name
+unwritten_line TooBig name = cannot_write_line name
+
+-- the stream took the whole text, and did not fail
+abbrev pub TakesAll : Option (List ℕ) → Option (List ℕ) → ℕ → ℕ → List ℕ → Type 0
+TakesAll told told' failures failures' text = Appends told told' text × (failures' ≡ failures)
+
+-- it took a front of the text, and failed
+abbrev pub TakesFront : Option (List ℕ) → Option (List ℕ) → ℕ → ℕ → List ℕ → Type 0
+TakesFront told told' failures failures' text = (n : ℕ) × (n < length text) × Appends told told' (take n text) × Failed failures failures'
+
+-- the lines of the faults
+abbrev pub fault_lines : List Finding → List ℕ
+fault_lines [] = []
+fault_lines (f ∷ fs) = fault_line f ++ fault_lines fs
+
+-- 1 where a fault is an error, else 0
+abbrev pub status_of : List Finding → ℕ
+status_of [] = 0
+status_of (f ∷ fs) = if is_error f then 1 else status_of fs

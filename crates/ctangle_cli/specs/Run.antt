@@ -1,0 +1,92 @@
+-- How a run of ctangle ends, by what the folder and the error stream tell before and after it.
+use Rattle.std.specs.Prelude.{◌≡◌, ◌≢◌, slice_get, ◌⊎◌, ℕ, List, [], ◌++◌, codes, take, Option, None, Some, IfSome, Ok}
+use Rattle.tangle_lines.specs.Streams.{Failed}
+use Rattle.tangle_lines.specs.Lines.{FileTable}
+use Rattle.tangle_lines.specs.Roles.{RoleNames}
+use Rattle.ctangle_cli.specs.declared.folder.FolderFault.{FolderFault}
+use Rattle.ctangle_cli.specs.declared.folder.FolderFault.TheVariants.{NoMemory}
+use Rattle.ctangle_cli.specs.Folder.{File, IsPart, with_created}
+use Rattle.ctangle_cli.specs.Words.{names_of}
+use Rattle.ctangle_cli.specs.Loading.{Ending, LoadsTo, StopsFor, load_of}
+use Rattle.ctangle_cli.specs.Messages.{TakesAll, TakesFront, usage_line, ending_line, no_memory_line, unwritten_line, fault_lines, status_of}
+use Rattle.ctangle_cli.specs.Tangle.{Tangling, tangle_of}
+
+-- What is known of the folder and of the error stream at a moment: the folder's files, those created in it, and how often
+-- it failed; the bytes that the stream took, and how often it failed.
+pub record Moment : Type 0 where
+  pub files : Option (List File)
+  pub created : Option (List File)
+  pub folder_failures : ℕ
+  pub told : Option (List ℕ)
+  pub stream_failures : ℕ
+
+-- the error stream took the text, and did not fail
+abbrev pub Writes : Moment → Moment → List ℕ → Type 0
+Writes old new text = TakesAll old.told new.told old.stream_failures new.stream_failures text
+
+-- the error stream failed, and took a front of the text
+abbrev pub IsCutOff : Moment → Moment → List ℕ → Type 0
+IsCutOff old new text = TakesFront old.told new.told old.stream_failures new.stream_failures text
+
+-- one or the other
+abbrev pub TriesToWrite : Moment → Moment → List ℕ → Type 0
+TriesToWrite old new text = Writes old new text ⊎ IsCutOff old new text
+
+abbrev pub CreatesNothing : Moment → Moment → Type 0
+CreatesNothing old new = new.created ≡ old.created
+
+-- The outputs before one are created whole, and of that one this part: no file, or a front of its bytes; where memory was
+-- wanting, no file. No output after it is created.
+pub record StopsAt (outputs : List File) (old new : Option (List File)) (at : ℕ) (fault : FolderFault) : Type 0 where
+  pub file : File
+  pub found : slice_get outputs at ≡ Some file
+  pub part : List File
+  pub is_part : IsPart file part
+  pub no_part : fault ≡ NoMemory → part ≡ []
+  pub created : new ≡ with_created old (take at outputs ++ part)
+
+-- writing the outputs stopped at one of them: the folder failed, or a growth was refused
+pub record IsStopped (tangling : Tangling) (old new : Moment) : Type 0 where
+  pub at : ℕ
+  pub fault : FolderFault
+  pub stops : StopsAt tangling.outputs old.created new.created at fault
+  pub why : fault ≢ NoMemory → Failed old.folder_failures new.folder_failures
+  pub no_failure : fault ≡ NoMemory → new.folder_failures ≡ old.folder_failures
+  pub told : TriesToWrite old new (fault_lines tangling.faults ++ unwritten_line fault stops.file.0)
+
+-- how a run ends that has tangled
+pub data TangledEnds (tangling : Tangling) (old new : Moment) (status : ℕ) : Type 0 where
+  -- 0 or 1: the lines of the faults are written, and the outputs and no other files are created
+  IsDone : Writes old new (fault_lines tangling.faults) → new.created ≡ with_created old.created tangling.outputs
+      → new.folder_failures ≡ old.folder_failures → status ≡ status_of tangling.faults → TangledEnds tangling old new status
+  -- 3: the error stream fails at the lines of the faults, and no file is created
+  IsUnheard : IsCutOff old new (fault_lines tangling.faults) → CreatesNothing old new → status ≡ 3 → TangledEnds tangling old new status
+  -- 3: an output can't be written
+  IsUnwritten : IsStopped tangling old new → status ≡ 3 → TangledEnds tangling old new status
+
+-- how a run ends whose words give these names
+pub data NamedEnds (names : RoleNames) (old new : Moment) (status : ℕ) : Type 0 where
+  -- 3: a file can't be read, or is refused, or memory is wanting
+  IsUnloaded : (ending : Ending) → StopsFor old.files (λ all. load_of all names) old.folder_failures new.folder_failures ending
+      → TriesToWrite old new (ending_line (codes "ctangle") ending) → CreatesNothing old new → status ≡ 3 → NamedEnds names old new status
+  -- 3: the files are loaded, and memory is wanting to tangle them
+  IsUntangled : (files : FileTable) → LoadsTo old.files (λ all. load_of all names) old.folder_failures new.folder_failures files
+      → TriesToWrite old new no_memory_line → CreatesNothing old new → status ≡ 3 → NamedEnds names old new status
+  -- they are loaded and tangled: 0, 1 or 3
+  IsTangled : (files : FileTable) → IfSome old.files (λ all. load_of all names ≡ Ok files)
+      → TangledEnds (tangle_of files names) old new status → NamedEnds names old new status
+
+-- how a run ends
+pub data RunEnds (words : List (List ℕ)) (old new : Moment) (status : ℕ) : Type 0 where
+  -- 2: there is no name among the words, or more than three
+  IsMisused : names_of words ≡ None → Writes old new usage_line → CreatesNothing old new → status ≡ 2 → RunEnds words old new status
+  -- 3: the same, and the error stream fails
+  IsMisusedUnheard : names_of words ≡ None → IsCutOff old new usage_line → CreatesNothing old new → status ≡ 3 → RunEnds words old new status
+  -- 3: memory is wanting to read the words
+  IsUnnamed : TriesToWrite old new no_memory_line → CreatesNothing old new → status ≡ 3 → RunEnds words old new status
+  -- the words give names
+  IsNamed : (names : RoleNames) → names_of words ≡ Some names → NamedEnds names old new status → RunEnds words old new status
+
+-- nothing was read, created or written, and nothing failed
+abbrev pub quiet : Moment
+quiet = record { files = Some []; created = Some []; folder_failures = 0; told = Some []; stream_failures = 0 }

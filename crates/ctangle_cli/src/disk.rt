@@ -1,0 +1,131 @@
+//! The real folder: the files of the system.
+ghost use Rattle.std.specs.Prelude.{◌≡◌, None};
+ghost use Rattle.tangle_lines.specs.Streams.{one_more_failure};
+
+use crate::folder::{FILE_LIMIT, Folder, FolderFault};
+use std::alloc::Global;
+use std::io::{BufWriter, ErrorKind, Read};
+use std::rt::Files;
+use std::{fs, io, str};
+use tangle_lines::{IoSink, Sink};
+
+/// The folder that the program runs in. It tells nothing of its files.
+///
+/// Outputs are buffered, and are flushed when they are closed, so a full disk is found there.
+#[derive(Drop)]
+pub struct Disk<'r, R: Files> {
+    rt: &'r R,
+    failures: u64,
+}
+
+impl<'r, R: Files> Disk<'r, R> {
+    /// The folder that the program runs in; it has not failed.
+    pub fn new(rt: &'r R) -> Self
+        ensures { result.failures ≡ 0 }
+    {
+        Disk { rt, failures: 0 }
+    }
+
+    fn count_failure(&mut self)
+        ensures { self.new.failures ≡ one_more_failure self.old.failures }
+    {
+        self.failures = self.failures.saturating_add(1);
+    }
+}
+
+// The path of this name. The system has no file whose name is not UTF-8 or has a zero byte.
+fn path_of(name: &[u8]) -> Option<&str> {
+    if name.contains(&0) {
+        return None;
+    }
+    str::from_utf8(name).ok()
+}
+
+fn fault_of(error: &io::Error) -> FolderFault {
+    match error.kind() {
+        ErrorKind::NotFound => FolderFault::Missing,
+        ErrorKind::OutOfMemory => FolderFault::NoMemory,
+        _ => FolderFault::Failed,
+    }
+}
+
+// The bytes of a file; of one over the limit, one byte more than the limit.
+fn read_at<R: Files>(rt: &R, alloc: Global, path: &str) -> io::Result<Vec<u8>> {
+    let mut bytes = Vec::new(alloc);
+    let file = fs::open(rt, path)?;
+    file.take(FILE_LIMIT as u64 + 1).read_to_end(&mut bytes)?;
+    Ok(bytes)
+}
+
+// The buffered writer of a new file. Where there is no memory for a buffer it has none, since a call that
+// is refused creates nothing.
+fn create_at<R: Files>(rt: &R, alloc: Global, path: &str) -> io::Result<BufWriter<R::File>> {
+    match BufWriter::new(alloc, fs::create(rt, path)?) {
+        Err(error) if error.kind() == ErrorKind::OutOfMemory => {
+            BufWriter::with_capacity(alloc, 0, fs::create(rt, path)?)
+        }
+        buffered => buffered,
+    }
+}
+
+impl<'r, R: Files> Folder for Disk<'r, R> {
+    type Out = IoSink<BufWriter<R::File>>;
+
+    ghost files = { λ _. None };
+
+    ghost created = { λ _. None };
+
+    ghost failures = { λ disk. disk.failures };
+
+    fn read_file(&mut self, alloc: Global, name: &[u8]) -> Result<Vec<u8>, FolderFault> {
+        let Some(path) = path_of(name) else {
+            return Err(FolderFault::Missing);
+        };
+        match read_at(self.rt, alloc, path) {
+            Ok(bytes) if bytes.len() <= FILE_LIMIT => Ok(bytes),
+            Ok(_) => Err(FolderFault::TooBig),
+            Err(error) => {
+                let fault = fault_of(&error);
+                if fault == FolderFault::Failed {
+                    self.count_failure();
+                }
+                Err(fault)
+            }
+        }
+    }
+
+    fn create(
+        &mut self,
+        alloc: Global,
+        name: &[u8],
+    ) -> Result<IoSink<BufWriter<R::File>>, FolderFault> {
+        let Some(path) = path_of(name) else {
+            self.count_failure();
+            return Err(FolderFault::Failed);
+        };
+        match create_at(self.rt, alloc, path) {
+            Ok(writer) => Ok(IoSink::new(writer)),
+            Err(error) => {
+                let fault = fault_of(&error);
+                if fault != FolderFault::NoMemory {
+                    self.count_failure();
+                }
+                Err(fault)
+            }
+        }
+    }
+
+    fn close(&mut self, out: IoSink<BufWriter<R::File>>) -> Result<(), FolderFault> {
+        let mut out = out;
+        let had_failed = out.failures() != 0;
+        out.flush();
+        if out.failures() != 0 {
+            self.count_failure();
+        }
+        if had_failed || out.failures() == 0 {
+            Ok(())
+        } else {
+            Err(FolderFault::Failed)
+        }
+    }
+}

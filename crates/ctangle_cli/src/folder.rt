@@ -1,0 +1,65 @@
+//! What a program reads its files from and writes its outputs to.
+ghost use Rattle.std.specs.Prelude.{◌≡◌, ◌≢◌, ◌∷◌, ◌≤◌, [], ℕ, List, Option, IfErr, IfOk, OnOk, OnErr, vec_len};
+ghost use Rattle.ctangle_cli.specs.Folder.{Begins, Closes, ClosesWithin, File, Reads, after_close, after_read, after_refusal, file_limit, with_created};
+ghost use Rattle.ctangle_cli.specs.declared.folder.FolderFault.TheVariants.{NoMemory};
+
+use std::alloc::Global;
+use tangle_lines::Sink;
+
+/// The most bytes of a file that a program reads.
+pub const FILE_LIMIT: usize = 67_108_864;
+
+/// Why a folder refuses a call.
+#[derive(Clone, Copy, Debug, PartialEq, Eq)]
+pub enum FolderFault {
+    /// It has no file of this name.
+    Missing,
+    /// It failed.
+    Failed,
+    /// The file is larger than [`FILE_LIMIT`].
+    TooBig,
+    /// A growth was refused.
+    NoMemory,
+}
+
+/// A place with files, in which a program creates others.
+///
+/// A folder may tell its files and what was created in it; what is said of them is said where it does.
+pub trait Folder {
+    /// The writer of a file that was created.
+    type Out: Sink + Drop;
+
+    // Its files, where it tells them.
+    ghost files: { Self → Option (List File) };
+
+    // The files that it created, in order, where it tells them.
+    ghost created: { Self → Option (List File) };
+
+    // How often it failed; at its last value the count stays.
+    ghost failures: { Self → ℕ };
+
+    /// The bytes of its file of this name.
+    fn read_file(&mut self, alloc: Global, name: &[u8]) -> Result<Vec<u8>, FolderFault>
+        ensures answer { Reads (files self.old) name.now result }
+        ensures small { IfOk result (λ bytes. vec_len bytes ≤ file_limit) }
+        ensures counted { failures self.new ≡ after_read result (failures self.old) }
+        ensures files_stay { files self.new ≡ files self.old }
+        ensures created_stay { created self.new ≡ created self.old };
+
+    /// Creates a file without bytes, and gives its writer. Where this is refused, nothing is created.
+    fn create(&mut self, alloc: Global, name: &[u8]) -> Result<Self::Out, FolderFault>
+        ensures added { OnOk result (created self.new ≡ with_created (created self.old) ((name.now, []) ∷ [])) }
+        ensures empty { IfOk result (λ out. Begins (created self.old) (Self.Out.taken out)) }
+        ensures unfailed { IfOk result (λ out. Self.Out.failures out ≡ 0) }
+        ensures refused { OnErr result (created self.new ≡ created self.old) }
+        ensures counted { failures self.new ≡ after_refusal result (failures self.old) }
+        ensures files_stay { files self.new ≡ files self.old };
+
+    /// Gives the file created last the bytes of its writer; where this is refused, a front of them.
+    fn close(&mut self, out: Self::Out) -> Result<(), FolderFault>
+        ensures whole { OnOk result (Closes (created self.old) (created self.new) (Self.Out.taken out)) }
+        ensures part { OnErr result (ClosesWithin (created self.old) (created self.new) (Self.Out.taken out)) }
+        ensures needs_no_memory { IfErr result (λ fault. fault ≢ NoMemory) }
+        ensures counted { failures self.new ≡ after_close result (Self.Out.failures out) (failures self.old) }
+        ensures files_stay { files self.new ≡ files self.old };
+}

@@ -1,0 +1,354 @@
+//! Loading: the files that a run reads.
+ghost use Rattle.std.specs.Prelude.{◌≡◌, ◌≤◌, ◌∷◌, ℕ, List, [], length, map, true, Option, unwrap_or, IfOk, IfErr, IfSome, OnOk, None};
+ghost use Rattle.std.specs.List.{list_any};
+ghost use Rattle.std.specs.Option.{option_copied};
+ghost use Rattle.std.specs.Str.{bytes_eq};
+ghost use Rattle.ctangle_cli.specs.Folder.{file_limit};
+ghost use Rattle.tangle_lines.specs.Adding.{has_file, is_name};
+ghost use Rattle.tangle_lines.specs.Roles.{fits, is_there, is_there_if_any};
+ghost use Rattle.tangle_lines.specs.Lines.{FileTable};
+ghost use Rattle.ctangle_cli.specs.Loading.{AreAbsent, Grows, IsEnding, LoadsTo, StopsFor, add_bytes, bad_name, ending_of, is_missing_kind, load_of, load_unless, missed_in, missing_of, refused_as, rounds_from, with_change, with_inclusion, with_inclusions, with_wanted};
+ghost use Rattle.ctangle_cli.specs.Loading.Ending.{Unreadable};
+
+use crate::folder::{Folder, FolderFault};
+use crate::words::Words;
+use indexmap::IndexSet;
+use std::alloc::Global;
+use std::marker::Model;
+use tangle_lines::{Fault, FaultKind, Files, NoMemory, Refusal, Roles, read_source};
+
+/// Why the files of a run are not loaded.
+#[derive(Debug, Drop)]
+pub enum LoadFault {
+    /// The file of this name can't be read: a web or change file that is missing, a file over the limit, or one
+    /// at which the folder failed.
+    CannotRead(Vec<u8>),
+    /// The table of files refuses this name or its file: `BadName`, `TooManyFiles`, `LineTooLong` or
+    /// `TooManyLines`.
+    Refused(Vec<u8>, Refusal),
+    /// A growth was refused.
+    NoMemory,
+}
+
+// The names that the folder was asked for and doesn't have, so that each is asked for once.
+#[derive(Drop)]
+struct Absent {
+    names: IndexSet<Vec<u8>>,
+}
+
+impl Model for Absent {
+    ghost use Rattle.std.specs.Prelude.{List, ℕ, map};
+
+    ghost Value = { List (List ℕ) };
+
+    ghost view = { λ a. map (λ name. name.items) a.names.keys };
+}
+
+impl Absent {
+    fn new(alloc: Global) -> Self
+        ensures { result ≡ [] }
+    {
+        Absent {
+            names: IndexSet::new(alloc),
+        }
+    }
+
+    fn contains(&self, name: &[u8]) -> bool
+        ensures { result ≡ list_any (bytes_eq name.now) self.now }
+    {
+        self.names.contains(name)
+    }
+
+    fn insert(&mut self, alloc: Global, name: &[u8]) -> Result<(), NoMemory>
+        ensures { OnOk result ((told : Option _) → AreAbsent told self.old
+            → AreAbsent told (name.now ∷ []) → AreAbsent told self.new) }
+    {
+        let name = Vec::from_slice(alloc, name)?;
+        self.names.insert(name)?;
+        Ok(())
+    }
+}
+
+// `CannotRead` with this name, unless memory is short.
+fn cannot_read(alloc: Global, name: &[u8]) -> LoadFault
+    ensures { IsEnding (Unreadable name.now) (ending_of result) }
+{
+    match Vec::from_slice(alloc, name) {
+        Ok(name) => LoadFault::CannotRead(name),
+        Err(_) => LoadFault::NoMemory,
+    }
+}
+
+// `Refused` with this name, unless memory is short.
+fn refused(alloc: Global, name: &[u8], refusal: Refusal) -> LoadFault
+    ensures { IsEnding (refused_as name.now refusal) (ending_of result) }
+{
+    if refusal == Refusal::NoMemory {
+        return LoadFault::NoMemory;
+    }
+    match Vec::from_slice(alloc, name) {
+        Ok(name) => LoadFault::Refused(name, refusal),
+        Err(_) => LoadFault::NoMemory,
+    }
+}
+
+// Whether the bytes are a file's name.
+fn is_file_name(name: &[u8]) -> bool
+    ensures { result ≡ is_name name.now }
+{
+    !name.is_empty() && name.len() <= 255 && !name.contains(&b'\n')
+}
+
+fn has(files: &Files, name: &[u8]) -> bool
+    ensures { result ≡ has_file files.now name.now }
+{
+    files.lines(name).is_some()
+}
+
+// Adds a file of these bytes.
+fn add_file(alloc: Global, files: &mut Files, name: &[u8], bytes: &[u8]) -> Result<(), LoadFault>
+    requires { length bytes.now ≤ file_limit }
+    ensures ok { OnOk result (add_bytes files.old name.now bytes.now ≡ Ok files.new) }
+    ensures grows { OnOk result (Grows files.old files.new) }
+    ensures there { OnOk result (is_there files.new name.now ≡ true) }
+    ensures err { IfErr result (λ fault. (told : Option _) (n : ℕ)
+        → StopsFor told (λ _. add_bytes files.old name.now bytes.now) n n (ending_of fault)) }
+{
+    match files.add(name, bytes) {
+        Ok(()) => Ok(()),
+        Err(refusal) => Err(refused(alloc, name, refusal)),
+    }
+}
+
+// Reads a file that has to be there.
+fn read_wanted<F: Folder>(
+    alloc: Global,
+    folder: &mut F,
+    files: &mut Files,
+    name: &[u8],
+) -> Result<(), LoadFault>
+    ensures ok { OnOk result (LoadsTo (F.files folder.old) (λ all. with_wanted all files.old name.now)
+        (F.failures folder.old) (F.failures folder.new) files.new) }
+    ensures err { IfErr result (λ fault. StopsFor (F.files folder.old) (λ all. with_wanted all files.old name.now)
+        (F.failures folder.old) (F.failures folder.new) (ending_of fault)) }
+    ensures grows { OnOk result (Grows files.old files.new) }
+    ensures there { OnOk result (is_there files.new name.now ≡ true) }
+    ensures files_stay { F.files folder.new ≡ F.files folder.old }
+    ensures created_stay { F.created folder.new ≡ F.created folder.old }
+{
+    match folder.read_file(alloc, name) {
+        Ok(bytes) => add_file(alloc, files, name, bytes.as_slice()),
+        Err(FolderFault::Missing) => Err(cannot_read(alloc, name)),
+        Err(FolderFault::TooBig) => Err(cannot_read(alloc, name)),
+        Err(FolderFault::Failed) => Err(cannot_read(alloc, name)),
+        Err(FolderFault::NoMemory) => Err(LoadFault::NoMemory),
+    }
+}
+
+// Reads the change file, if there is one that isn't in the table already.
+fn read_change<F: Folder>(
+    alloc: Global,
+    folder: &mut F,
+    files: &mut Files,
+    change: Option<&[u8]>,
+) -> Result<(), LoadFault>
+    ensures ok { OnOk result (LoadsTo (F.files folder.old) (λ all. with_change all files.old (option_copied change.entry))
+        (F.failures folder.old) (F.failures folder.new) files.new) }
+    ensures err { IfErr result (λ fault. StopsFor (F.files folder.old)
+        (λ all. with_change all files.old (option_copied change.entry))
+        (F.failures folder.old) (F.failures folder.new) (ending_of fault)) }
+    ensures grows { OnOk result (Grows files.old files.new) }
+    ensures there { OnOk result (is_there_if_any files.new (option_copied change.entry) ≡ true) }
+    ensures files_stay { F.files folder.new ≡ F.files folder.old }
+    ensures created_stay { F.created folder.new ≡ F.created folder.old }
+{
+    match change {
+        None => Ok(()),
+        Some(name) => {
+            if has(files, name) {
+                return Ok(());
+            }
+            read_wanted(alloc, folder, files, name)
+        }
+    }
+}
+
+// Reads a file that an inclusion misses. It stays missing where the folder has none, or its name is no file name.
+fn read_inclusion<F: Folder>(
+    alloc: Global,
+    folder: &mut F,
+    files: &mut Files,
+    absent: &mut Absent,
+    name: &[u8],
+) -> Result<(), LoadFault>
+    requires { AreAbsent (F.files folder.old) absent.old }
+    ensures ok { OnOk result (LoadsTo (F.files folder.old) (λ all. with_inclusion all files.old name.now)
+        (F.failures folder.old) (F.failures folder.new) files.new) }
+    ensures err { IfErr result (λ fault. StopsFor (F.files folder.old) (λ all. with_inclusion all files.old name.now)
+        (F.failures folder.old) (F.failures folder.new) (ending_of fault)) }
+    ensures grows { OnOk result (Grows files.old files.new) }
+    ensures absent { OnOk result (AreAbsent (F.files folder.old) absent.new) }
+    ensures files_stay { F.files folder.new ≡ F.files folder.old }
+    ensures created_stay { F.created folder.new ≡ F.created folder.old }
+{
+    if has(files, name) || !is_file_name(name) {
+        return Ok(());
+    }
+    if absent.contains(name) {
+        return Ok(());
+    }
+    match folder.read_file(alloc, name) {
+        Ok(bytes) => add_file(alloc, files, name, bytes.as_slice()),
+        Err(FolderFault::Missing) => match absent.insert(alloc, name) {
+            Ok(()) => Ok(()),
+            Err(_) => Err(LoadFault::NoMemory),
+        },
+        Err(FolderFault::TooBig) => Err(cannot_read(alloc, name)),
+        Err(FolderFault::Failed) => Err(cannot_read(alloc, name)),
+        Err(FolderFault::NoMemory) => Err(LoadFault::NoMemory),
+    }
+}
+
+fn is_missing(kind: FaultKind) -> bool
+    ensures { result ≡ is_missing_kind kind }
+{
+    match kind {
+        FaultKind::IncludeMissing => true,
+        _ => false,
+    }
+}
+
+// Reads the files that a round misses, by the faults of its reading.
+fn read_inclusions<F: Folder>(
+    alloc: Global,
+    folder: &mut F,
+    files: &mut Files,
+    absent: &mut Absent,
+    faults: &[Fault],
+) -> Result<(), LoadFault>
+    requires { AreAbsent (F.files folder.old) absent.old }
+    ensures ok { OnOk result (LoadsTo (F.files folder.old) (λ all. with_inclusions all (missed_in faults.now) files.old)
+        (F.failures folder.old) (F.failures folder.new) files.new) }
+    ensures err { IfErr result (λ fault. StopsFor (F.files folder.old)
+        (λ all. with_inclusions all (missed_in faults.now) files.old)
+        (F.failures folder.old) (F.failures folder.new) (ending_of fault)) }
+    ensures grows { OnOk result (Grows files.old files.new) }
+    ensures absent { OnOk result (AreAbsent (F.files folder.old) absent.new) }
+    ensures files_stay { F.files folder.new ≡ F.files folder.old }
+    ensures created_stay { F.created folder.new ≡ F.created folder.old }
+{
+    for fault in faults {
+        if is_missing(fault.kind()) {
+            read_inclusion(alloc, folder, files, absent, fault.subject())?;
+        }
+    }
+    Ok(())
+}
+
+// The faults of reading these files.
+fn faults_of(alloc: Global, files: &Files, roles: &Roles) -> Result<Vec<Fault>, NoMemory>
+    requires { fits files.now roles.now ≡ true }
+    ensures { IfOk result (λ faults. missed_in faults.items ≡ missing_of files.now roles.now) }
+{
+    let source = read_source(alloc, files, roles)?;
+    Ok(source.into_faults())
+}
+
+// Reads the files that inclusions miss, until a round adds none.
+fn read_rounds<F: Folder>(
+    alloc: Global,
+    folder: &mut F,
+    files: &mut Files,
+    roles: &Roles,
+) -> Result<(), LoadFault>
+    requires { fits files.old roles.now ≡ true }
+    ensures ok { OnOk result (LoadsTo (F.files folder.old) (λ all. rounds_from all roles.now files.old)
+        (F.failures folder.old) (F.failures folder.new) files.new) }
+    ensures err { IfErr result (λ fault. StopsFor (F.files folder.old) (λ all. rounds_from all roles.now files.old)
+        (F.failures folder.old) (F.failures folder.new) (ending_of fault)) }
+    ensures fits { OnOk result (fits files.new roles.now ≡ true) }
+    ensures files_stay { F.files folder.new ≡ F.files folder.old }
+    ensures created_stay { F.created folder.new ≡ F.created folder.old }
+{
+    let mut absent = Absent::new(alloc);
+    loop {
+        let count = files.count();
+        let Ok(faults) = faults_of(alloc, files, roles) else {
+            return Err(LoadFault::NoMemory);
+        };
+        match read_inclusions(alloc, folder, files, &mut absent, faults.as_slice()) {
+            Ok(()) => {}
+            Err(fault) => return Err(fault),
+        }
+        if files.count() == count {
+            return Ok(());
+        }
+    }
+}
+
+// The first of the names that is no file name.
+fn first_bad(words: &Words) -> Option<&[u8]>
+    ensures { option_copied result ≡ bad_name words.now }
+{
+    if !is_file_name(words.web()) {
+        return Some(words.web());
+    }
+    match words.change() {
+        Some(name) if !is_file_name(name) => return Some(name),
+        _ => {}
+    }
+    if !is_file_name(words.out()) {
+        return Some(words.out());
+    }
+    None
+}
+
+// Loads the files of roles whose names are all file names.
+fn load_files<F: Folder>(alloc: Global, roles: &Roles, folder: &mut F) -> Result<Files, LoadFault>
+    ensures ok { IfOk result (λ files. LoadsTo (F.files folder.old) (λ all. load_unless all roles.now None)
+        (F.failures folder.old) (F.failures folder.new) files) }
+    ensures err { IfErr result (λ fault. StopsFor (F.files folder.old) (λ all. load_unless all roles.now None)
+        (F.failures folder.old) (F.failures folder.new) (ending_of fault)) }
+    ensures fits { IfOk result (λ files. fits files roles.now ≡ true) }
+    ensures files_stay { F.files folder.new ≡ F.files folder.old }
+    ensures created_stay { F.created folder.new ≡ F.created folder.old }
+{
+    let mut files = Files::new(alloc);
+    read_wanted(alloc, folder, &mut files, roles.web())?;
+    read_change(alloc, folder, &mut files, roles.change())?;
+    read_rounds(alloc, folder, &mut files, roles)?;
+    Ok(files)
+}
+
+/// Loads the files of a run: the web, then the change file, and then in rounds those that inclusions miss.
+///
+/// The three names are tested first, the web's, the change file's, the main file's. In a round the sources are read,
+/// and each file that an inclusion misses is read, in the order of the faults; the last round adds none. A file that
+/// the folder calls missing, or whose name is no file name, stays missing and keeps its fault; the folder is asked
+/// once for each name. A web or change file that is missing, and any other failure, is a fault of loading.
+pub fn load<F: Folder>(
+    alloc: Global,
+    words: &Words,
+    folder: &mut F,
+) -> Result<(Files, Roles), LoadFault>
+    ensures ok { IfOk result (λ r. LoadsTo (F.files folder.old) (λ all. load_of all words.now)
+        (F.failures folder.old) (F.failures folder.new) r.0) }
+    ensures roles { IfOk result (λ r. r.1 ≡ words.now) }
+    ensures fits { IfOk result (λ r. fits r.0 r.1 ≡ true) }
+    ensures err { IfErr result (λ fault. StopsFor (F.files folder.old) (λ all. load_of all words.now)
+        (F.failures folder.old) (F.failures folder.new) (ending_of fault)) }
+    ensures files_stay { F.files folder.new ≡ F.files folder.old }
+    ensures created_stay { F.created folder.new ≡ F.created folder.old }
+{
+    match first_bad(words) {
+        Some(name) => return Err(refused(alloc, name, Refusal::BadName)),
+        None => {}
+    }
+    let Ok(roles) = Roles::new(alloc, words.web(), words.change(), words.out()) else {
+        return Err(LoadFault::NoMemory);
+    };
+    match load_files(alloc, &roles, folder) {
+        Ok(files) => Ok((files, roles)),
+        Err(fault) => Err(fault),
+    }
+}

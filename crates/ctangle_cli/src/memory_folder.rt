@@ -1,0 +1,251 @@
+//! A folder in memory, for tests: it tells its files, and can be made to fail.
+ghost use Rattle.std.specs.Prelude.{◌≡◌, [], None, Some, Option, map, option_map, length, OnErr, OnOk};
+ghost use Rattle.std.specs.Option.{option_copied};
+ghost use Rattle.ctangle_cli.specs.Folder.{bytes_of, with_last};
+ghost use Rattle.ctangle_cli.specs.MemoryFolder.{file_of, held_files};
+
+use crate::folder::{FILE_LIMIT, Folder, FolderFault};
+use indexmap::IndexMap;
+use std::alloc::{AllocError, Global};
+use tangle_lines::Sink;
+
+/// A file that was created.
+#[derive(Debug, Drop)]
+pub struct CreatedFile {
+    pub name: Vec<u8>,
+    pub bytes: Vec<u8>,
+}
+
+/// A writer in memory, with room for so many bytes; then it fails.
+#[derive(Debug, Drop)]
+pub struct MemorySink {
+    bytes: Vec<u8>,
+    room: usize,
+    failures: u64,
+}
+
+impl MemorySink {
+    /// A writer that has no bytes, has room for so many, and has not failed.
+    pub fn new(alloc: Global, room: usize) -> Self
+        ensures bytes { result.bytes.items ≡ [] }
+        ensures room { result.room ≡ room }
+        ensures failures { result.failures ≡ 0 }
+    {
+        MemorySink {
+            bytes: Vec::new(alloc),
+            room,
+            failures: 0,
+        }
+    }
+
+    /// The bytes that it has taken.
+    pub fn bytes(&self) -> &[u8]
+        ensures { result.now ≡ self.now.bytes.items }
+    {
+        self.bytes.as_slice()
+    }
+}
+
+impl Sink for MemorySink {
+    ghost taken = { λ sink. Some sink.bytes.items };
+
+    ghost failures = { λ sink. sink.failures };
+
+    fn take(&mut self, bytes: &[u8]) -> Option<usize> {
+        let count = bytes.len().min(self.room);
+        if self.bytes.extend_from_slice(&bytes[..count]).is_err() {
+            self.failures = self.failures.saturating_add(1);
+            return None;
+        }
+        self.room -= count;
+        if count == 0 && !bytes.is_empty() {
+            self.failures = self.failures.saturating_add(1);
+        }
+        Some(count)
+    }
+
+    fn failures(&self) -> u64 {
+        self.failures
+    }
+}
+
+/// A folder in memory, whose writers have room for so many bytes each. It notes the names that it was asked
+/// for, and can be made to fail once, at a later call.
+#[derive(Drop)]
+pub struct MemoryFolder {
+    files: IndexMap<Vec<u8>, Vec<u8>>,
+    created: Vec<CreatedFile>,
+    asked: Vec<Vec<u8>>,
+    room: usize,
+    calls_to_failure: Option<u64>,
+    failures: u64,
+}
+
+impl MemoryFolder {
+    /// A folder without files. Each writer of a file that is created has room for so many bytes.
+    pub fn new(alloc: Global, room: usize) -> Self
+        ensures files { held_files result.files ≡ [] }
+        ensures created { result.created.items ≡ [] }
+        ensures asked { result.asked.items ≡ [] }
+        ensures room { result.room ≡ room }
+        ensures sound { result.calls_to_failure ≡ None }
+        ensures failures { result.failures ≡ 0 }
+    {
+        MemoryFolder {
+            files: IndexMap::new(alloc),
+            created: Vec::new(alloc),
+            asked: Vec::new(alloc),
+            room,
+            calls_to_failure: None,
+            failures: 0,
+        }
+    }
+
+    /// Puts a file of these bytes into the folder, in place of one of the same name.
+    pub fn put(&mut self, alloc: Global, name: &[u8], bytes: &[u8]) -> Result<(), AllocError>
+        ensures ok { OnOk result (bytes_of (held_files self.new.files) name.now ≡ Some bytes.now) }
+        ensures err { OnErr result (held_files self.new.files ≡ held_files self.old.files) }
+        ensures kept { self.new ≡ record self.old { files = self.new.files } }
+    {
+        let name = Vec::from_slice(alloc, name)?;
+        let bytes = Vec::from_slice(alloc, bytes)?;
+        match self.files.insert(name, bytes) {
+            Ok(_) => Ok(()),
+            Err(_) => Err(AllocError),
+        }
+    }
+
+    /// Makes the call after so many others fail: each reading, creating and closing is one.
+    pub fn fail_after(&mut self, calls: u64)
+        ensures { self.new ≡ record self.old { calls_to_failure = Some calls } }
+    {
+        self.calls_to_failure = Some(calls);
+    }
+
+    /// The files that were created, in order.
+    pub fn created(&self) -> &[CreatedFile]
+        ensures { result.now ≡ self.now.created.items }
+    {
+        self.created.as_slice()
+    }
+
+    /// The names that it was asked for, in order.
+    pub fn asked(&self) -> &[Vec<u8>]
+        ensures { result.now ≡ self.now.asked.items }
+    {
+        self.asked.as_slice()
+    }
+
+    // Whether the call is the one that fails.
+    fn is_due(&mut self) -> bool
+        ensures files { self.new.files ≡ self.old.files }
+        ensures created { self.new.created ≡ self.old.created }
+        ensures failures { self.new.failures ≡ self.old.failures }
+    {
+        let left = self.calls_to_failure;
+        self.calls_to_failure = match left {
+            None => None,
+            Some(0) => None,
+            Some(n) => Some(n - 1),
+        };
+        left == Some(0)
+    }
+
+    // Notes that it was asked for a file.
+    fn note(&mut self, alloc: Global, name: &[u8]) -> Result<(), AllocError>
+        ensures files { self.new.files ≡ self.old.files }
+        ensures created { self.new.created ≡ self.old.created }
+        ensures failures { self.new.failures ≡ self.old.failures }
+    {
+        let name = Vec::from_slice(alloc, name)?;
+        self.asked.push(name)?;
+        Ok(())
+    }
+
+    // The bytes of its file of this name.
+    fn bytes(&self, name: &[u8]) -> Option<&[u8]>
+        ensures { option_copied result ≡ bytes_of (held_files self.now.files) name.now }
+    {
+        match self.files.get(name) {
+            Some(bytes) => Some(bytes.as_slice()),
+            None => None,
+        }
+    }
+}
+
+// Gives the file created last these bytes.
+fn set_last(files: &mut Vec<CreatedFile>, bytes: Vec<u8>)
+    ensures { map file_of files.new.items ≡ with_last (map file_of files.old.items) bytes.items }
+{
+    let count = files.len();
+    if count > 0 {
+        files[count - 1].bytes = bytes;
+    }
+}
+
+impl Folder for MemoryFolder {
+    type Out = MemorySink;
+
+    ghost files = { λ folder. Some (held_files folder.files) };
+
+    ghost created = { λ folder. Some (map file_of folder.created.items) };
+
+    ghost failures = { λ folder. folder.failures };
+
+    fn read_file(&mut self, alloc: Global, name: &[u8]) -> Result<Vec<u8>, FolderFault> {
+        if self.is_due() {
+            self.failures = self.failures.saturating_add(1);
+            return Err(FolderFault::Failed);
+        }
+        if self.note(alloc, name).is_err() {
+            return Err(FolderFault::NoMemory);
+        }
+        match self.bytes(name) {
+            None => Err(FolderFault::Missing),
+            Some(bytes) => {
+                if bytes.len() > FILE_LIMIT {
+                    return Err(FolderFault::TooBig);
+                }
+                match Vec::from_slice(alloc, bytes) {
+                    Ok(bytes) => Ok(bytes),
+                    Err(_) => Err(FolderFault::NoMemory),
+                }
+            }
+        }
+    }
+
+    fn create(&mut self, alloc: Global, name: &[u8]) -> Result<MemorySink, FolderFault> {
+        if self.is_due() {
+            self.failures = self.failures.saturating_add(1);
+            return Err(FolderFault::Failed);
+        }
+        let Ok(name) = Vec::from_slice(alloc, name) else {
+            return Err(FolderFault::NoMemory);
+        };
+        let file = CreatedFile {
+            name,
+            bytes: Vec::new(alloc),
+        };
+        if self.created.push(file).is_err() {
+            return Err(FolderFault::NoMemory);
+        }
+        Ok(MemorySink::new(alloc, self.room))
+    }
+
+    fn close(&mut self, out: MemorySink) -> Result<(), FolderFault> {
+        let MemorySink {
+            bytes,
+            room: _,
+            failures,
+        } = out;
+        set_last(&mut self.created, bytes);
+        if self.is_due() {
+            self.failures = self.failures.saturating_add(1);
+            return Err(FolderFault::Failed);
+        }
+        if failures != 0 {
+            self.failures = self.failures.saturating_add(1);
+        }
+        Ok(())
+    }
+}

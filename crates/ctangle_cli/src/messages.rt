@@ -1,0 +1,137 @@
+//! The lines that the programs write on the error stream.
+ghost use Rattle.std.specs.Prelude.{◌≡◌, ℕ, List, codes, OnOk, OnErr};
+ghost use Rattle.tangle_lines.specs.Streams.{PutsOut};
+ghost use Rattle.ctangle_cli.specs.Loading.{ending_of};
+ghost use Rattle.ctangle_cli.specs.Loading.Ending.{Memory, Refuses, Unreadable};
+ghost use Rattle.ctangle_cli.specs.Messages.{TakesAll, TakesFront, cannot_write_line, ending_line, fault_lines, refusal_name, unwritten_line, usage_line};
+
+use crate::folder::FolderFault;
+use crate::loading::LoadFault;
+use tangle_lines::{Fault, Refusal, Sink, WriteFault, put, write_fault};
+
+// A refusal's name.
+fn name_of(refusal: Refusal) -> &'static [u8]
+    ensures { result.now ≡ refusal_name refusal }
+{
+    match refusal {
+        Refusal::BadName => b"BadName",
+        Refusal::FileExists => b"FileExists",
+        Refusal::TooManyFiles => b"TooManyFiles",
+        Refusal::LineTooLong => b"LineTooLong",
+        Refusal::TooManyLines => b"TooManyLines",
+        Refusal::NoMemory => b"NoMemory",
+        Refusal::UnknownFile => b"UnknownFile",
+        Refusal::NoSuchLine => b"NoSuchLine",
+        Refusal::BadLine => b"BadLine",
+        Refusal::NoWeb => b"NoWeb",
+        Refusal::NoChange => b"NoChange",
+        Refusal::RoleFile => b"RoleFile",
+        Refusal::NoOutput => b"NoOutput",
+        Refusal::WriteFault(_) => b"WriteFault",
+    }
+}
+
+fn write_cannot_read<E: Sink>(program: &[u8], name: &[u8], err: &mut E) -> Result<u128, WriteFault>
+    ensures { PutsOut (E.taken err.old) (E.taken err.new) (E.failures err.old) (E.failures err.new)
+        (ending_line program.now (Unreadable name.now)) result }
+{
+    let front = put(err, Ok(0), program);
+    let told = put(err, front, b": cannot read ");
+    let named = put(err, told, name);
+    put(err, named, b"\n")
+}
+
+fn write_refused<E: Sink>(
+    program: &[u8],
+    name: &[u8],
+    refusal: Refusal,
+    err: &mut E,
+) -> Result<u128, WriteFault>
+    ensures { PutsOut (E.taken err.old) (E.taken err.new) (E.failures err.old) (E.failures err.new)
+        (ending_line program.now (Refuses name.now refusal)) result }
+{
+    let front = put(err, Ok(0), program);
+    let told = put(err, front, b": ");
+    let named = put(err, told, name);
+    let colon = put(err, named, b": ");
+    let why = put(err, colon, name_of(refusal));
+    put(err, why, b"\n")
+}
+
+fn write_no_memory<E: Sink>(program: &[u8], err: &mut E) -> Result<u128, WriteFault>
+    ensures { PutsOut (E.taken err.old) (E.taken err.new) (E.failures err.old) (E.failures err.new)
+        (ending_line program.now Memory) result }
+{
+    let front = put(err, Ok(0), program);
+    put(err, front, b": NoMemory\n")
+}
+
+/// Writes the line of a loading that ended without its files, behind the program's name, and gives its length.
+pub fn write_load<E: Sink>(
+    program: &[u8],
+    fault: &LoadFault,
+    err: &mut E,
+) -> Result<u128, WriteFault>
+    ensures { PutsOut (E.taken err.old) (E.taken err.new) (E.failures err.old) (E.failures err.new)
+        (ending_line program.now (ending_of fault.now)) result }
+{
+    match fault {
+        LoadFault::CannotRead(name) => write_cannot_read(program, name.as_slice(), err),
+        LoadFault::Refused(name, refusal) => write_refused(program, name.as_slice(), *refusal, err),
+        LoadFault::NoMemory => write_no_memory(program, err),
+    }
+}
+
+/// Writes the line that says how `ctangle` is used, and gives its length.
+pub fn write_usage<E: Sink>(err: &mut E) -> Result<u128, WriteFault>
+    ensures { PutsOut (E.taken err.old) (E.taken err.new) (E.failures err.old) (E.failures err.new)
+        usage_line result }
+{
+    put(err, Ok(0), b"usage: ctangle [flags] web [change [out]]\n")
+}
+
+fn write_cannot_write<E: Sink>(name: &[u8], err: &mut E) -> Result<u128, WriteFault>
+    ensures { PutsOut (E.taken err.old) (E.taken err.new) (E.failures err.old) (E.failures err.new)
+        (cannot_write_line name.now) result }
+{
+    let told = put(err, Ok(0), b"ctangle: cannot write ");
+    let named = put(err, told, name);
+    put(err, named, b"\n")
+}
+
+/// Writes the line of an output that was not written.
+pub fn write_unwritten<E: Sink>(
+    name: &[u8],
+    fault: FolderFault,
+    err: &mut E,
+) -> Result<u128, WriteFault>
+    ensures { PutsOut (E.taken err.old) (E.taken err.new) (E.failures err.old) (E.failures err.new)
+        (unwritten_line fault name.now) result }
+{
+    match fault {
+        FolderFault::NoMemory => write_no_memory(b"ctangle", err),
+        FolderFault::Missing => write_cannot_write(name, err),
+        FolderFault::Failed => write_cannot_write(name, err),
+        FolderFault::TooBig => write_cannot_write(name, err),
+    }
+}
+
+/// The error stream failed before it took all of a text.
+#[derive(Clone, Copy, Debug)]
+pub struct StreamFailed;
+
+/// Writes the lines of the faults, and says whether the stream took them.
+pub fn write_faults<E: Sink>(faults: &[Fault], err: &mut E) -> Result<(), StreamFailed>
+    ensures whole { OnOk result (TakesAll (E.taken err.old) (E.taken err.new) (E.failures err.old) (E.failures err.new)
+        (fault_lines faults.now)) }
+    ensures cut { OnErr result (TakesFront (E.taken err.old) (E.taken err.new) (E.failures err.old) (E.failures err.new)
+        (fault_lines faults.now)) }
+{
+    for fault in faults {
+        match write_fault(fault, err) {
+            Ok(_) => {}
+            Err(_) => return Err(StreamFailed),
+        }
+    }
+    Ok(())
+}

@@ -1,0 +1,139 @@
+//! A run of `ctangle`.
+ghost use Rattle.std.specs.Prelude.{◌≡◌, ℕ, List, map};
+ghost use Rattle.ctangle_cli.specs.Messages.{status_of};
+ghost use Rattle.ctangle_cli.specs.Run.{NamedEnds, RunEnds, TangledEnds, quiet};
+
+use crate::folder::Folder;
+use crate::loading::{LoadFault, load};
+use crate::messages::{write_faults, write_load, write_unwritten, write_usage};
+use crate::tangling::{Tangled, tangle};
+use crate::words::{WordFault, Words, read_words};
+use crate::writing::write_outputs;
+use std::alloc::Global;
+use tangle_lines::{Fault, Sink};
+
+fn status(faults: &[Fault]) -> u8
+    ensures { result ≡ status_of faults.now }
+{
+    for fault in faults {
+        if fault.is_error() {
+            return 1;
+        }
+    }
+    0
+}
+
+// Writes the lines of the faults, and then the outputs.
+fn run_tangled<F: Folder, E: Sink>(
+    alloc: Global,
+    tangled: &Tangled,
+    folder: &mut F,
+    err: &mut E,
+) -> u8
+    ensures { TangledEnds tangled.now
+        (record {
+          files = F.files folder.old;
+          created = F.created folder.old;
+          folder_failures = F.failures folder.old;
+          told = E.taken err.old;
+          stream_failures = E.failures err.old;
+        })
+        (record {
+          files = F.files folder.new;
+          created = F.created folder.new;
+          folder_failures = F.failures folder.new;
+          told = E.taken err.new;
+          stream_failures = E.failures err.new;
+        }) result }
+{
+    match write_faults(tangled.faults(), err) {
+        Err(_) => 3,
+        Ok(()) => match write_outputs(alloc, folder, tangled.outputs()) {
+            Ok(()) => status(tangled.faults()),
+            Err(stop) => {
+                let outputs = tangled.outputs();
+                let _ = write_unwritten(outputs[stop.at].name(), stop.fault, err);
+                3
+            }
+        },
+    }
+}
+
+// Loads the files of these names, and tangles them.
+fn run_named<F: Folder, E: Sink>(alloc: Global, words: &Words, folder: &mut F, err: &mut E) -> u8
+    ensures { NamedEnds words.now
+        (record {
+          files = F.files folder.old;
+          created = F.created folder.old;
+          folder_failures = F.failures folder.old;
+          told = E.taken err.old;
+          stream_failures = E.failures err.old;
+        })
+        (record {
+          files = F.files folder.new;
+          created = F.created folder.new;
+          folder_failures = F.failures folder.new;
+          told = E.taken err.new;
+          stream_failures = E.failures err.new;
+        }) result }
+{
+    match load(alloc, words, folder) {
+        Err(fault) => {
+            let _ = write_load(b"ctangle", &fault, err);
+            3
+        }
+        Ok((files, roles)) => match tangle(alloc, &files, &roles) {
+            Err(_) => {
+                let _ = write_load(b"ctangle", &LoadFault::NoMemory, err);
+                3
+            }
+            Ok(tangled) => run_tangled(alloc, &tangled, folder, err),
+        },
+    }
+}
+
+/// Runs `ctangle` with these words, in a folder and with an error stream, and gives its status.
+///
+/// It loads the files, writes the line of each fault on the error stream, and then each output into the folder, the
+/// main file first. The status is 0, or 1 where an error is among the faults. It is 2 where the words give no names,
+/// with the usage line. It is 3, with a line that says why, where a file can't be read or written or is refused, or
+/// memory is wanting, and where the error stream fails.
+pub fn run_ctangle<F: Folder, E: Sink>(
+    alloc: Global,
+    words: &[&[u8]],
+    folder: &mut F,
+    err: &mut E,
+) -> u8
+    ensures { RunEnds (map (λ w. w.now) words.now)
+        (record {
+          files = F.files folder.old;
+          created = F.created folder.old;
+          folder_failures = F.failures folder.old;
+          told = E.taken err.old;
+          stream_failures = E.failures err.old;
+        })
+        (record {
+          files = F.files folder.new;
+          created = F.created folder.new;
+          folder_failures = F.failures folder.new;
+          told = E.taken err.new;
+          stream_failures = E.failures err.new;
+        }) result }
+{
+    match read_words(alloc, words) {
+        Err(WordFault::Usage) => match write_usage(err) {
+            Ok(_) => 2,
+            Err(_) => 3,
+        },
+        Err(WordFault::NoMemory) => {
+            let _ = write_load(b"ctangle", &LoadFault::NoMemory, err);
+            3
+        }
+        Ok(words) => run_named(alloc, &words, folder, err),
+    }
+}
+
+// A run that writes nothing, and in which nothing fails, does not end with status 3.
+fn silence_is_no_failure()
+    ensures { (words : List (List ℕ)) → RunEnds words quiet quiet 3 → ⊥ }
+{}

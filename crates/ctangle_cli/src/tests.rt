@@ -1,0 +1,46 @@
+//! Runs and their parts over folders and streams in memory, and one over the real folder.
+mod growths;
+mod loads;
+mod names;
+mod real_folder;
+mod runs;
+mod stops;
+mod webs;
+
+use crate::{MemoryFolder, MemorySink, run_ctangle};
+use std::alloc::Global;
+use std::process::Abort;
+use std::test::Fail;
+
+/// Room for all that a test writes.
+const AMPLE: usize = 1_000_000;
+
+/// A folder with these files.
+fn folder_with(alloc: Global, files: &[(&[u8], &[u8])]) -> Result<MemoryFolder, Fail> {
+    let mut folder = MemoryFolder::new(alloc, AMPLE);
+    for (name, bytes) in files {
+        folder.put(alloc, name, bytes)?;
+    }
+    Ok(folder)
+}
+
+/// The words of a text, which stand between single spaces.
+fn words_in<'a>(alloc: Global, text: &'a [u8]) -> Result<Vec<&'a [u8]>, Fail> {
+    Ok(text.split(|b| *b == b' ').collect(alloc)?)
+}
+
+/// Runs `ctangle` with these words, and gives its status and what it wrote on standard error.
+fn run(alloc: Global, words: &[u8], folder: &mut MemoryFolder) -> Result<(u8, MemorySink), Fail> {
+    let mut err = MemorySink::new(alloc, AMPLE);
+    let words = words_in(alloc, words)?;
+    let status = run_ctangle(alloc, words.as_slice(), folder, &mut err);
+    Ok((status, err))
+}
+
+/// The files that were created are one, `a.c` with these bytes.
+fn check_only_output(rt: &impl Abort, folder: &MemoryFolder, bytes: &[u8]) {
+    let created = folder.created();
+    assert_eq!(rt; created.len(), 1);
+    assert_eq!(rt; created[0].name.as_slice(), b"a.c".as_slice());
+    assert_eq!(rt; created[0].bytes.as_slice(), bytes);
+}

@@ -1,0 +1,58 @@
+//! The names that words give.
+use crate::tests::words_in;
+use crate::{WordFault, read_words};
+use std::alloc::Global;
+use std::process::Abort;
+use std::test::Fail;
+
+fn check_names(
+    rt: &impl Abort,
+    alloc: Global,
+    text: &[u8],
+    web: &[u8],
+    change: Option<&[u8]>,
+    out: &[u8],
+) -> Result<(), Fail> {
+    let words = words_in(alloc, text)?;
+    let names = read_words(alloc, words.as_slice())?;
+    assert_eq!(rt; names.web(), web);
+    assert_eq!(rt;
+        names.change().unwrap_or(b"none"),
+        change.unwrap_or(b"none")
+    );
+    assert_eq!(rt; names.out(), out);
+    Ok(())
+}
+
+#[test]
+fn names_are_completed(rt: HostRuntime) -> Result<(), Fail> {
+    let alloc = rt.alloc();
+    check_names(&rt, alloc, b"a", b"a.w", None, b"a.c")?;
+    check_names(&rt, alloc, b"+s -b a - out", b"a.w", None, b"out.c")?;
+    check_names(&rt, alloc, b"x/y.web b", b"x/y.web", Some(b"b.ch"), b"y.c")?;
+    check_names(&rt, alloc, b"a.b.w c.d e.f", b"a.b.w", Some(b"c.d"), b"e.f")?;
+    check_names(&rt, alloc, b"a.b.w", b"a.b.w", None, b"a.b.c")?;
+    check_names(
+        &rt,
+        alloc,
+        b"d.e/a d.e/b",
+        b"d.e/a.w",
+        Some(b"d.e/b.ch"),
+        b"a.c",
+    )?;
+    check_names(&rt, alloc, b"- + -", b"-.w", Some(b"+.ch"), b"-.c")
+}
+
+#[test]
+fn other_words_are_misused(rt: HostRuntime) -> Result<(), Fail> {
+    let alloc = rt.alloc();
+    for text in [b"a b c d".as_slice(), b"-x ++".as_slice()] {
+        let words = words_in(alloc, text)?;
+        assert_eq!(rt;
+            read_words(alloc, words.as_slice()).err(),
+            Some(WordFault::Usage)
+        );
+    }
+    assert_eq!(rt; read_words(alloc, &[]).err(), Some(WordFault::Usage));
+    Ok(())
+}

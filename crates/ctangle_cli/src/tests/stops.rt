@@ -1,0 +1,154 @@
+//! Runs that end with status 2 or 3: the line on standard error, and the files that stand.
+use crate::tests::{AMPLE, check_only_output, folder_with, run, words_in};
+use crate::{FILE_LIMIT, MemoryFolder, MemorySink, run_ctangle};
+use std::alloc::Global;
+use std::process::Abort;
+use std::test::Fail;
+
+const WEB: &[u8] = b"@ A.\n@c\nint x;\n";
+
+// A run over this folder ends with the status and the line, and creates no file.
+fn check_stop(
+    rt: &impl Abort,
+    alloc: Global,
+    words: &[u8],
+    folder: MemoryFolder,
+    line: &[u8],
+    status: u8,
+) -> Result<(), Fail> {
+    let mut folder = folder;
+    let (answer, err) = run(alloc, words, &mut folder)?;
+    assert_eq!(rt; err.bytes(), line);
+    assert_eq!(rt; answer, status);
+    assert_eq!(rt; folder.created().len(), 0);
+    Ok(())
+}
+
+#[test]
+fn misused_words(rt: HostRuntime) -> Result<(), Fail> {
+    let alloc = rt.alloc();
+    let usage = b"usage: ctangle [flags] web [change [out]]\n";
+    check_stop(
+        &rt,
+        alloc,
+        b"a b c d",
+        folder_with(alloc, &[(b"a.w", WEB)])?,
+        usage,
+        2,
+    )?;
+    check_stop(&rt, alloc, b"-x", folder_with(alloc, &[])?, usage, 2)
+}
+
+#[test]
+fn files_that_are_not_loaded(rt: HostRuntime) -> Result<(), Fail> {
+    let alloc = rt.alloc();
+    check_stop(
+        &rt,
+        alloc,
+        b"a",
+        folder_with(alloc, &[])?,
+        b"ctangle: cannot read a.w\n",
+        3,
+    )?;
+    check_stop(
+        &rt,
+        alloc,
+        b"a b",
+        folder_with(alloc, &[(b"a.w", WEB)])?,
+        b"ctangle: cannot read b.ch\n",
+        3,
+    )?;
+    let long = Vec::from_elem(alloc, b'x', 65_536)?;
+    let folder = folder_with(alloc, &[(b"a.w", long.as_slice())])?;
+    check_stop(&rt, alloc, b"a", folder, b"ctangle: a.w: LineTooLong\n", 3)?;
+    let many = Vec::from_elem(alloc, b'\n', 1_000_001)?;
+    let folder = folder_with(alloc, &[(b"a.w", b"@i b.w\n"), (b"b.w", many.as_slice())])?;
+    check_stop(&rt, alloc, b"a", folder, b"ctangle: b.w: TooManyLines\n", 3)?;
+    let big = Vec::from_elem(alloc, b' ', FILE_LIMIT + 1)?;
+    let folder = folder_with(alloc, &[(b"a.w", b"@i b.w\n"), (b"b.w", big.as_slice())])?;
+    check_stop(&rt, alloc, b"a", folder, b"ctangle: cannot read b.w\n", 3)
+}
+
+#[test]
+fn files_that_the_folder_fails_to_read(rt: HostRuntime) -> Result<(), Fail> {
+    let alloc = rt.alloc();
+    for (calls, line) in [
+        (0, b"ctangle: cannot read a.w\n".as_slice()),
+        (1, b"ctangle: cannot read a.ch\n".as_slice()),
+        (2, b"ctangle: cannot read b.w\n".as_slice()),
+    ] {
+        let mut folder = folder_with(
+            alloc,
+            &[(b"a.w", b"@i b.w\n"), (b"a.ch", b""), (b"b.w", WEB)],
+        )?;
+        folder.fail_after(calls);
+        check_stop(&rt, alloc, b"a a", folder, line, 3)?;
+    }
+    Ok(())
+}
+
+#[test]
+fn names_are_tested_before_files_are_read(rt: HostRuntime) -> Result<(), Fail> {
+    let alloc = rt.alloc();
+    let mut words = Vec::from_slice(alloc, b"none b.c ")?;
+    let mut line = Vec::from_slice(alloc, b"ctangle: ")?;
+    for _ in 0..254 {
+        words.push(b'n')?;
+        line.push(b'n')?;
+    }
+    line.extend_from_slice(b".c: BadName\n")?;
+    check_stop(
+        &rt,
+        alloc,
+        words.as_slice(),
+        folder_with(alloc, &[])?,
+        line.as_slice(),
+        3,
+    )
+}
+
+#[test]
+fn outputs_that_are_not_written(rt: HostRuntime) -> Result<(), Fail> {
+    let alloc = rt.alloc();
+    let line = b"ctangle: cannot write a.c\n".as_slice();
+    let mut folder = folder_with(alloc, &[(b"a.w", WEB)])?;
+    folder.fail_after(1);
+    check_stop(&rt, alloc, b"a", folder, line, 3)?;
+    // The closing fails.
+    let mut folder = folder_with(alloc, &[(b"a.w", WEB)])?;
+    folder.fail_after(2);
+    let (status, err) = run(alloc, b"a", &mut folder)?;
+    assert_eq!(rt; status, 3);
+    assert_eq!(rt; err.bytes(), line);
+    check_only_output(&rt, &folder, b"/*1:*/\n#line 2 \"a.w\"\n\nint x;\n/*:1*/\n");
+    // The disk is full.
+    let mut folder = MemoryFolder::new(alloc, 7);
+    folder.put(alloc, b"a.w", WEB)?;
+    let (status, err) = run(alloc, b"a", &mut folder)?;
+    assert_eq!(rt; status, 3);
+    assert_eq!(rt; err.bytes(), line);
+    check_only_output(&rt, &folder, b"/*1:*/\n");
+    Ok(())
+}
+
+#[test]
+fn error_stream_that_fails(rt: HostRuntime) -> Result<(), Fail> {
+    let alloc = rt.alloc();
+    let change = b"@x\nint x;\nint c;\n@y\nint z;\n@z\n";
+    for (words, told) in [
+        (b"a a".as_slice(), b"a.c".as_slice()),
+        (b"a b".as_slice(), b"cta".as_slice()),
+        (b"-x".as_slice(), b"usa".as_slice()),
+    ] {
+        let mut folder = folder_with(alloc, &[(b"a.w", WEB), (b"a.ch", change)])?;
+        let mut err = MemorySink::new(alloc, 3);
+        let words = words_in(alloc, words)?;
+        assert_eq!(rt;
+            run_ctangle(alloc, words.as_slice(), &mut folder, &mut err),
+            3
+        );
+        assert_eq!(rt; err.bytes(), told);
+        assert_eq!(rt; folder.created().len(), 0);
+    }
+    Ok(())
+}
