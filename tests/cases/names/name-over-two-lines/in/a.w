@@ -1,0 +1,6 @@
+@ A.
+@c
+@<a   long
+	name@>;
+@ @<a long name@>+=
+1

@@ -1,0 +1,3 @@
+@ A.
+@c
+@I "b c.w" rest

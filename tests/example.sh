@@ -1,0 +1,14 @@
+# The web of examples/, tangled with and without its change file, compiled and run.
+
+test_example() {
+    cp -R "$top/examples" "$room/example"
+    rm -rf "$room/example/out"
+    if ! make -C "$room/example" run CTANGLE="$room/ctangle" >"$room/log" 2>&1; then
+        fail example "$(tail -n 5 "$room/log")"
+        return
+    fi
+    # 15 and 25 are the numbers of primes below 50 and 100
+    for line in '15 primes below 50' '25 primes below 100'; do
+        if grep -qx "$line" "$room/log"; then pass; else fail example "no line '$line'"; fi
+    done
+}

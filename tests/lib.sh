@@ -1,0 +1,86 @@
+# What the shell tests share: running a case, and counting.
+#
+# A case is a folder: in/ (the folder in which the program runs), words (one a line), want/ (the files that
+# the run creates, and no other), stderr, status. A missing in/ or want/ is an empty one.
+
+passed=0
+failed=0
+
+pass() {
+    passed=$((passed + 1))
+}
+
+fail() { # NAME MESSAGE
+    failed=$((failed + 1))
+    echo "FAIL $1: $2"
+}
+
+skip() { # NAME REASON
+    echo "skipped: $1 ($2)"
+}
+
+# Starts a case that a test makes, in $case: it wants status 0, no file and nothing on standard error.
+begin_case() { # WORDS..
+    case=$room/case
+    rm -rf "$case"
+    mkdir "$case" "$case/in" "$case/want"
+    for word; do
+        printf '%s\n' "$word"
+    done >"$case/words"
+    : >"$case/stderr"
+    echo 0 >"$case/status"
+}
+
+# Says how the run of $case has to end: the status, and the lines on standard error.
+must_end() { # STATUS LINE..
+    echo "$1" >"$case/status"
+    shift
+    for line; do
+        printf '%s\n' "$line"
+    done >"$case/stderr"
+}
+
+plainly() {
+    "$@"
+}
+
+# Runs the program on $1 by the runner $2, a function that is handed the program and its words.
+# Leaves the folder in $room/run, what it should hold in $room/want, the streams and $status.
+run_program() { # CASE RUNNER
+    rm -rf "$room/run" "$room/want"
+    mkdir "$room/run" "$room/want"
+    chmod 777 "$room/run"
+    if [ -d "$1/in" ]; then
+        cp -R "$1/in/." "$room/run"
+        cp -R "$1/in/." "$room/want"
+    fi
+    [ ! -d "$1/want" ] || cp -R "$1/want/." "$room/want"
+    _case=$1 _runner=$2
+    set --
+    while IFS= read -r word; do
+        set -- "$@" "$word"
+    done <"$_case/words"
+    status=0
+    (cd "$room/run" && "$_runner" "$room/ctangle" "$@") >"$room/stdout" 2>"$room/stderr" || status=$?
+}
+
+# Whether the last run ended as $1 says: its status, its streams, and the files that stand there.
+ended_so() { # CASE
+    problem=
+    [ "$status" = "$(cat "$1/status")" ] || problem="status $status, not $(cat "$1/status")"
+    [ ! -s "$room/stdout" ] || problem="something on standard output"
+    cmp -s "$room/stderr" "$1/stderr" || problem="${problem:+$problem; }another standard error"
+    diff -r "$room/want" "$room/run" >"$room/difference" 2>&1 || problem="${problem:+$problem; }other files"
+    [ -z "$problem" ]
+}
+
+report() { # NAME
+    fail "$1" "$problem"
+    sed 's/^/    /' "$room/difference" | head -n 20
+    sed 's/^/    standard error: /' "$room/stderr" | head -n 10
+}
+
+run_case() { # NAME CASE [RUNNER]
+    run_program "$2" "${3:-plainly}"
+    if ended_so "$2"; then pass; else report "$1"; fi
+}

@@ -1,0 +1,124 @@
+# Runs in which the machine refuses something: a stream, a permission, room on the disk.
+
+one_piece="$top/tests/cases/reading/one-web-makes-one-c-file"
+with_a_fault="$top/tests/cases/reading/old-lines-of-a-change-do-not-match"
+
+test_machine() {
+    test_standard_error
+    test_permissions
+    test_full_disk
+}
+
+to_a_full_disk() {
+    "$@" 2>/dev/full
+}
+
+to_nothing() {
+    "$@" 2>&-
+}
+
+# A fault that cannot be told ends the run before any file is made. Where nothing is to be told,
+# it does not matter that standard error would fail.
+test_standard_error() {
+    for runner in to_a_full_disk to_nothing; do
+        begin_case a a
+        cp "$with_a_fault"/in/* "$case/in"
+        must_end 3
+        run_case "faults cannot be told: $runner" "$case" $runner
+
+        begin_case a b c d
+        must_end 3
+        run_case "usage cannot be told: $runner" "$case" $runner
+
+        run_case "nothing to tell: $runner" "$one_piece" $runner
+    done
+}
+
+as_nobody() {
+    if [ "$(id -u)" = 0 ]; then
+        setpriv --reuid=65534 --regid=65534 --clear-groups "$@"
+    else
+        "$@"
+    fi
+}
+
+# Takes the permissions of the file or folder $locked away for the time of the run.
+locked_away() {
+    chmod 0 "$locked"
+    as_nobody "$@"
+    _status=$?
+    chmod 755 "$locked"
+    return $_status
+}
+
+test_permissions() {
+    if ! as_nobody true 2>/dev/null; then
+        skip permissions 'root, and setpriv does not work here'
+        return
+    fi
+    begin_case a
+    printf '@ A.\n@c\n@i b.w\n' >"$case/in/a.w"
+    echo 'int x;' >"$case/in/b.w"
+    must_end 3 'ctangle: cannot read b.w'
+    locked=b.w
+    run_case 'inclusion without permission' "$case" locked_away
+
+    begin_case a - d/out
+    cp "$one_piece/in/a.w" "$case/in"
+    mkdir "$case/in/d"
+    must_end 3 'ctangle: cannot write d/out.c'
+    locked=d
+    run_case 'output folder without permission' "$case" locked_away
+}
+
+# The output is a link to a device that is always full, so no byte can be written.
+onto_a_full_disk() {
+    ln -s /dev/full a.c
+    "$@"
+    _status=$?
+    rm a.c
+    return $_status
+}
+
+# A file may have one block, so a write fails in the middle of the file.
+onto_one_block() {
+    (
+        trap '' XFSZ
+        ulimit -f 1
+        "$@"
+    )
+}
+
+test_full_disk() {
+    begin_case a
+    cp "$one_piece/in/a.w" "$case/in"
+    must_end 3 'ctangle: cannot write a.c'
+    run_case 'output on a full disk' "$case" onto_a_full_disk
+
+    begin_case a
+    {
+        printf '@ A.\n@c\n'
+        awk 'BEGIN { for (n = 0; n < 2000; n++) print "int x" n ";" }'
+    } >"$case/in/a.w"
+    must_end 3 'ctangle: cannot write a.c'
+    run_program "$case" onto_one_block
+    sed -n '3,$p' "$case/in/a.w" >"$room/lines"
+    {
+        printf '/*1:*/\n#line 2 "a.w"\n\n'
+        cat "$room/lines"
+        printf '/*:1*/\n'
+    } >"$room/whole"
+    cp "$room/run/a.c" "$room/want" 2>/dev/null
+    if ! ended_so "$case"; then
+        report 'disk fills while writing'
+    elif ! is_prefix "$room/run/a.c" "$room/whole"; then
+        fail 'disk fills while writing' 'a.c is no prefix of the output'
+    else
+        pass
+    fi
+}
+
+# Whether the file $1 is there and has the first bytes of the file $2.
+is_prefix() { # FILE WHOLE
+    [ -f "$1" ] && head -c "$(wc -c <"$1")" "$2" | cmp -s - "$1"
+}

@@ -1,0 +1,68 @@
+# Each growth of a run refused in turn, by a library that stands before the C library's malloc.
+
+test_memory() {
+    if ! cc -O2 -shared -fPIC -o "$room/refuse.so" "$top/tests/refuse.c"; then
+        fail 'refused growths' 'tests/refuse.c does not compile'
+        return
+    fi
+    for name in one-web-makes-one-c-file change-past-the-end-of-an-included-file; do
+        refuse_each_growth "$name" "$top/tests/cases/reading/$name"
+    done
+    test_crates
+}
+
+refusing() {
+    REFUSE_AT=$growth REFUSE_TOLD="$room/told" LD_PRELOAD="$room/refuse.so" "$@"
+}
+
+# Refuses the first growth of a run, the second and so on, until a run has no further one to refuse.
+refuse_each_growth() { # NAME CASE
+    growth=0
+    refused=0
+    while :; do
+        growth=$((growth + 1))
+        rm -f "$room/told"
+        run_program "$2" refusing
+        [ -e "$room/told" ] || break
+        [ "$status" != 3 ] || refused=$((refused + 1))
+        if survived "$2"; then pass; else report "$1, growth $growth refused"; fi
+        if [ "$growth" -ge 10000 ]; then
+            fail "$1" 'the growths of a run do not end'
+            return
+        fi
+    done
+    if ended_so "$2"; then pass; else report "$1, no growth refused"; fi
+    if [ "$refused" -gt 0 ]; then pass; else fail "$1" 'no refused growth ended a run'; fi
+}
+
+# Whether a run with a refused growth ended with status 3, at most the line that says so, and at most
+# prefixes of its files, or did without that memory and ended as ever.
+survived() { # CASE
+    if [ "$status" != 3 ]; then
+        ended_so "$1"
+        return
+    fi
+    problem=
+    echo 'ctangle: NoMemory' >"$room/no_memory"
+    [ ! -s "$room/stdout" ] || problem="something on standard output"
+    [ ! -s "$room/stderr" ] || cmp -s "$room/stderr" "$room/no_memory" || problem="another standard error"
+    for file in "$room/run"/*; do
+        is_prefix "$file" "$room/want/${file##*/}" || problem="${file##*/} is no prefix of its output"
+    done
+    [ -z "$problem" ]
+}
+
+# The tests of the crates, which ask the library for their own refusals.
+test_crates() {
+    kit=$(dirname "$(rt doc)")
+    mkdir "$room/tests"
+    for tests in "$top"/crates/*/out/*_tests; do
+        [ -x "$tests" ] || continue
+        name=${tests##*/}
+        if (cd "$room/tests" && LD_PRELOAD="$room/refuse.so" "$kit/bin/rattle-test" --seconds 60 "$tests") >"$room/log" 2>&1; then
+            pass
+        else
+            fail "$name with refused growths" "$(tail -n 5 "$room/log")"
+        fi
+    done
+}

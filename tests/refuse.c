@@ -1,0 +1,60 @@
+// Refuses growths of a program: preloaded, it stands before malloc and realloc of the C library.
+//
+// REFUSE_AT=N refuses the Nth growth of the process, from 1; the file that REFUSE_TOLD names is made then.
+// A test asks from inside: a request for 2^62 + n bytes is answered with a small block and refuses the nth
+// growth after it (none where n is 0), and one for 2^62 + 2^61 bytes is answered where that refusal is still
+// to come. Without this library nothing is so large, so the same test passes and refuses nothing.
+#define _GNU_SOURCE
+#include <fcntl.h>
+#include <stddef.h>
+#include <stdlib.h>
+#include <unistd.h>
+
+extern void *__libc_malloc(size_t);
+extern void *__libc_realloc(void *, size_t);
+
+static const size_t CONTROL = (size_t)1 << 62;
+static const size_t IS_WAITING = (size_t)1 << 61;
+
+static size_t left;
+static int started;
+
+static void start(void) {
+    if (!started) {
+        started = 1;
+        const char *at = getenv("REFUSE_AT");
+        left = at ? (size_t)atol(at) : 0;
+    }
+}
+
+static void tell(void) {
+    const char *told = getenv("REFUSE_TOLD");
+    if (told)
+        close(open(told, O_CREAT | O_WRONLY, 0666));
+}
+
+static int is_refused(void) {
+    start();
+    if (!left || --left)
+        return 0;
+    tell();
+    return 1;
+}
+
+static void *control(size_t request) {
+    start();
+    if (request & IS_WAITING)
+        return left ? __libc_malloc(16) : NULL;
+    left = request & (IS_WAITING - 1);
+    return __libc_malloc(16);
+}
+
+void *malloc(size_t size) {
+    if (size / CONTROL == 1)
+        return control(size);
+    return is_refused() ? NULL : __libc_malloc(size);
+}
+
+void *realloc(void *block, size_t size) {
+    return is_refused() ? NULL : __libc_realloc(block, size);
+}
