@@ -1,5 +1,5 @@
 -- The files of a folder in memory, and the one created last.
-use Rattle.std.proofs.Common.{◌≡◌, ◌∙◌, ℕ, zero, suc, ◌+◌, Bool, true, false, cond, List, [], ◌∷◌, map, length, slice_set, slice_index_or, arith, ap, refl, Option, None, Some}
+use Rattle.std.proofs.Common.{◌≡◌, ◌≢◌, ◌∙◌, sym, ℕ, zero, suc, ◌+◌, Bool, true, false, cond, List, [], ◌∷◌, map, length, slice_set, slice_index_or, arith, ap, refl, Option, None, Some}
 use Rattle.std.specs.Option.{option_map}
 use Rattle.std.specs.Map.{lookup}
 use Rattle.std.specs.Str.{bytes_eq}
@@ -40,3 +40,21 @@ put_found (e ∷ es) k v = by (bytes_eq k.items e.0.items) refl (put_found es k 
         → bytes_of (map held_file (cond b ((e.0, v) ∷ es) (e ∷ insert_entry (λ a b. bytes_eq a.items b.items) es k v))) k.items ≡ Some v.items
     by true same rest = ap (λ b. cond b (Some v.items) (bytes_of (map held_file es) k.items)) same
     by false other rest = ap (λ b. cond b (Some e.1.items) (bytes_of (map held_file (insert_entry (λ a b. bytes_eq a.items b.items) es k v)) k.items)) other ∙ rest
+
+unequal : (a b : List ℕ) (t : Bool) → bytes_eq a b ≡ t → a ≢ b → t ≡ false
+unequal a b true same other = absurd (other ((bytes_eq-Decides a b).0 same))
+unequal a b false same other = refl
+
+-- a file of another name stays as it was, or stays away
+pub put_leaves : (es : List (Vec ℕ Global × Vec ℕ Global)) (k v : Vec ℕ Global) (name : List ℕ) → name ≢ k.items
+    → bytes_of (map held_file (insert_entry (λ a b. bytes_eq a.items b.items) es k v)) name ≡ bytes_of (map held_file es) name
+put_leaves [] k v name other = ap (λ b. cond b (Some v.items) None) (unequal name k.items _ refl other)
+put_leaves (e ∷ es) k v name other = by (bytes_eq k.items e.0.items) refl (put_leaves es k v name other)
+  where
+    by : (b : Bool) → bytes_eq k.items e.0.items ≡ b
+        → bytes_of (map held_file (insert_entry (λ a b. bytes_eq a.items b.items) es k v)) name ≡ bytes_of (map held_file es) name
+        → bytes_of (map held_file (cond b ((e.0, v) ∷ es) (e ∷ insert_entry (λ a b. bytes_eq a.items b.items) es k v))) name ≡ bytes_of (map held_file (e ∷ es)) name
+    by true same rest =
+        let apart : bytes_eq name e.0.items ≡ false = unequal name e.0.items _ refl (λ named. other (named ∙ sym ((bytes_eq-Decides k.items e.0.items).0 same))) in
+        ap (λ b. cond b (Some v.items) (bytes_of (map held_file es) name)) apart ∙ sym (ap (λ b. cond b (Some e.1.items) (bytes_of (map held_file es) name)) apart)
+    by false differs rest = ap (λ bytes. cond (bytes_eq name e.0.items) (Some e.1.items) bytes) rest

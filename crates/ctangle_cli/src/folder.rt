@@ -39,6 +39,11 @@ pub trait Folder {
     ghost failures: { Self → ℕ };
 
     /// The bytes of its file of this name.
+    ///
+    /// # Errors
+    ///
+    /// `Missing` where it has no such file, `TooBig` where the file is larger than [`FILE_LIMIT`], `NoMemory` where a
+    /// growth is refused, and `Failed` where the folder failed, which it counts.
     fn read_file(&mut self, alloc: Global, name: &[u8]) -> Result<Vec<u8>, FolderFault>
         ensures answer { Reads (files self.old) name.now result }
         ensures small { IfOk result (λ bytes. vec_len bytes ≤ file_limit) }
@@ -47,6 +52,10 @@ pub trait Folder {
         ensures created_stay { created self.new ≡ created self.old };
 
     /// Creates a file without bytes, and gives its writer. Where this is refused, nothing is created.
+    ///
+    /// # Errors
+    ///
+    /// `NoMemory` where a growth is refused. Any other fault is a failure of the folder, which it counts.
     fn create(&mut self, alloc: Global, name: &[u8]) -> Result<Self::Out, FolderFault>
         ensures added { OnOk result (created self.new ≡ with_created (created self.old) ((name.now, []) ∷ [])) }
         ensures empty { IfOk result (λ out. Begins (created self.old) (Self.Out.taken out)) }
@@ -56,6 +65,11 @@ pub trait Folder {
         ensures files_stay { files self.new ≡ files self.old };
 
     /// Gives the file created last the bytes of its writer; where this is refused, a front of them.
+    ///
+    /// # Errors
+    ///
+    /// Any fault but `NoMemory`, where the folder failed, which it counts. It counts a writer that had failed too,
+    /// also where this is `Ok`.
     fn close(&mut self, out: Self::Out) -> Result<(), FolderFault>
         ensures whole { OnOk result (Closes (created self.old) (created self.new) (Self.Out.taken out)) }
         ensures part { OnErr result (ClosesWithin (created self.old) (created self.new) (Self.Out.taken out)) }

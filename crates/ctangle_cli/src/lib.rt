@@ -1,4 +1,4 @@
-//! What the programs do between their `main` and the tangler: words, folders, loading, messages, a run.
+//! What a program does between its `main` and the layers below: words, folders, loading, tangling, messages, a run.
 //!
 //! [`run_ctangle`] is a whole run of `ctangle` over a [`Folder`] and an error stream. [`Disk`] is the real folder,
 //! [`MemoryFolder`] one in memory.

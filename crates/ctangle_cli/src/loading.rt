@@ -4,7 +4,7 @@ ghost use Rattle.std.specs.List.{list_any};
 ghost use Rattle.std.specs.Option.{option_copied};
 ghost use Rattle.std.specs.Str.{bytes_eq};
 ghost use Rattle.ctangle_cli.specs.Folder.{file_limit};
-ghost use Rattle.tangle_lines.specs.Adding.{has_file, is_name};
+ghost use Rattle.tangle_lines.specs.Adding.{has_file};
 ghost use Rattle.tangle_lines.specs.Roles.{fits, is_there, is_there_if_any};
 ghost use Rattle.tangle_lines.specs.Lines.{FileTable};
 ghost use Rattle.ctangle_cli.specs.Loading.{AreAbsent, Grows, IsEnding, LoadsTo, StopsFor, add_bytes, bad_name, ending_of, is_missing_kind, load_of, load_unless, missed_in, missing_of, refused_as, rounds_from, with_change, with_inclusion, with_inclusions, with_wanted};
@@ -15,7 +15,7 @@ use crate::words::Words;
 use indexmap::IndexSet;
 use std::alloc::Global;
 use std::marker::Model;
-use tangle_lines::{Fault, FaultKind, Files, NoMemory, Refusal, Roles, read_source};
+use tangle_lines::{Fault, FaultKind, Files, NoMemory, Refusal, Roles, is_file_name, read_source};
 
 /// Why the files of a run are not loaded.
 #[derive(Debug, Drop)]
@@ -28,6 +28,16 @@ pub enum LoadFault {
     Refused(Vec<u8>, Refusal),
     /// A growth was refused.
     NoMemory,
+}
+
+impl From<NoMemory> for LoadFault {
+    ghost use Rattle.ctangle_cli.specs.declared.loading.LoadFault.TheVariants.{NoMemory};
+
+    ghost from_gives = { λ _ e. e ≡ NoMemory };
+
+    fn from(_e: NoMemory) -> LoadFault {
+        LoadFault::NoMemory
+    }
 }
 
 // The names that the folder was asked for and doesn't have, so that each is asked for once.
@@ -90,13 +100,6 @@ fn refused(alloc: Global, name: &[u8], refusal: Refusal) -> LoadFault
         Ok(name) => LoadFault::Refused(name, refusal),
         Err(_) => LoadFault::NoMemory,
     }
-}
-
-// Whether the bytes are a file's name.
-fn is_file_name(name: &[u8]) -> bool
-    ensures { result ≡ is_name name.now }
-{
-    !name.is_empty() && name.len() <= 255 && !name.contains(&b'\n')
 }
 
 fn has(files: &Files, name: &[u8]) -> bool
@@ -199,10 +202,7 @@ fn read_inclusion<F: Folder>(
     }
     match folder.read_file(alloc, name) {
         Ok(bytes) => add_file(alloc, files, name, bytes.as_slice()),
-        Err(FolderFault::Missing) => match absent.insert(alloc, name) {
-            Ok(()) => Ok(()),
-            Err(_) => Err(LoadFault::NoMemory),
-        },
+        Err(FolderFault::Missing) => Ok(absent.insert(alloc, name)?),
         Err(FolderFault::TooBig) => Err(cannot_read(alloc, name)),
         Err(FolderFault::Failed) => Err(cannot_read(alloc, name)),
         Err(FolderFault::NoMemory) => Err(LoadFault::NoMemory),
@@ -273,13 +273,8 @@ fn read_rounds<F: Folder>(
     let mut absent = Absent::new(alloc);
     loop {
         let count = files.count();
-        let Ok(faults) = faults_of(alloc, files, roles) else {
-            return Err(LoadFault::NoMemory);
-        };
-        match read_inclusions(alloc, folder, files, &mut absent, faults.as_slice()) {
-            Ok(()) => {}
-            Err(fault) => return Err(fault),
-        }
+        let faults = faults_of(alloc, files, roles)?;
+        read_inclusions(alloc, folder, files, &mut absent, faults.as_slice())?;
         if files.count() == count {
             return Ok(());
         }
@@ -326,6 +321,16 @@ fn load_files<F: Folder>(alloc: Global, roles: &Roles, folder: &mut F) -> Result
 /// and each file that an inclusion misses is read, in the order of the faults; the last round adds none. A file that
 /// the folder calls missing, or whose name is no file name, stays missing and keeps its fault; the folder is asked
 /// once for each name. A web or change file that is missing, and any other failure, is a fault of loading.
+///
+/// The words are those of `read_words`: of CTANGLE's command line they have the three names, their extensions and `-`
+/// for no change file, and no flag has an effect (`docs/programs.md`).
+///
+/// # Errors
+///
+/// `CannotRead` with the name of a web or change file that is missing, of a file over the limit, or of one at which
+/// the folder failed. `Refused` with a name and `BadName` where one of the three names is no file name, and with
+/// `TooManyFiles`, `LineTooLong` or `TooManyLines` where the table of files refuses a file. `NoMemory` where a growth
+/// is refused.
 pub fn load<F: Folder>(
     alloc: Global,
     words: &Words,
@@ -340,15 +345,12 @@ pub fn load<F: Folder>(
     ensures files_stay { F.files folder.new ≡ F.files folder.old }
     ensures created_stay { F.created folder.new ≡ F.created folder.old }
 {
-    match first_bad(words) {
-        Some(name) => return Err(refused(alloc, name, Refusal::BadName)),
-        None => {}
+    if let Some(name) = first_bad(words) {
+        return Err(refused(alloc, name, Refusal::BadName));
     }
     let Ok(roles) = Roles::new(alloc, words.web(), words.change(), words.out()) else {
         return Err(LoadFault::NoMemory);
     };
-    match load_files(alloc, &roles, folder) {
-        Ok(files) => Ok((files, roles)),
-        Err(fault) => Err(fault),
-    }
+    let files = load_files(alloc, &roles, folder)?;
+    Ok((files, roles))
 }

@@ -1,5 +1,5 @@
 //! A folder in memory, for tests: it tells its files, and can be made to fail.
-ghost use Rattle.std.specs.Prelude.{◌≡◌, [], None, Some, Option, map, option_map, length, OnErr, OnOk};
+ghost use Rattle.std.specs.Prelude.{◌≡◌, ◌≢◌, ℕ, List, [], None, Some, Option, map, option_map, length, OnErr, OnOk};
 ghost use Rattle.std.specs.Option.{option_copied};
 ghost use Rattle.ctangle_cli.specs.Folder.{bytes_of, with_last};
 ghost use Rattle.ctangle_cli.specs.MemoryFolder.{file_of, held_files};
@@ -101,9 +101,15 @@ impl MemoryFolder {
         }
     }
 
-    /// Puts a file of these bytes into the folder, in place of one of the same name.
+    /// Puts a file of these bytes into the folder, in place of one of the same name. Files of other names stay.
+    ///
+    /// # Errors
+    ///
+    /// `AllocError` where a growth is refused; the files are then what they were.
     pub fn put(&mut self, alloc: Global, name: &[u8], bytes: &[u8]) -> Result<(), AllocError>
         ensures ok { OnOk result (bytes_of (held_files self.new.files) name.now ≡ Some bytes.now) }
+        ensures others { OnOk result ((other : List ℕ) → other ≢ name.now
+            → bytes_of (held_files self.new.files) other ≡ bytes_of (held_files self.old.files) other) }
         ensures err { OnErr result (held_files self.new.files ≡ held_files self.old.files) }
         ensures kept { self.new ≡ record self.old { files = self.new.files } }
     {

@@ -67,6 +67,10 @@ fn write_no_memory<E: Sink>(program: &[u8], err: &mut E) -> Result<u128, WriteFa
 }
 
 /// Writes the line of a loading that ended without its files, behind the program's name, and gives its length.
+///
+/// # Errors
+///
+/// `WriteFault(n)` where the stream failed, or took no byte, after the first `n` bytes of the line.
 pub fn write_load<E: Sink>(
     program: &[u8],
     fault: &LoadFault,

@@ -98,6 +98,9 @@ fn run_named<F: Folder, E: Sink>(alloc: Global, words: &Words, folder: &mut F, e
 /// main file first. The status is 0, or 1 where an error is among the faults. It is 2 where the words give no names,
 /// with the usage line. It is 3, with a line that says why, where a file can't be read or written or is refused, or
 /// memory is wanting, and where the error stream fails.
+///
+/// Of CTANGLE's command line it has the three names, their extensions and `-` for no change file; flags are taken
+/// and have no effect (`docs/programs.md`).
 pub fn run_ctangle<F: Folder, E: Sink>(
     alloc: Global,
     words: &[&[u8]],

@@ -156,12 +156,7 @@ fn push_program(text: &mut Vec<u8>, web: &Web) -> Result<(), NoMemory>
 pub fn has_program(web: &Web) -> bool
     ensures { result ≡ program_is_there web.now }
 {
-    for piece in web.pieces() {
-        if is_program(piece) {
-            return true;
-        }
-    }
-    false
+    web.pieces().iter().any(|piece| is_program(piece))
 }
 
 /// Writes all macros, unless a C part has `@h`.

@@ -195,6 +195,13 @@ fn complete_all(alloc: Global, names: &[&[u8]]) -> Result<Words, WordFault>
 /// of the web, of the change file (`-` for none) and of the main file. `.w`, `.ch` and `.c` are added to a name
 /// whose part after the last `/` has no dot. Where the main file isn't named, it is the web's part after the
 /// last `/`, cut before its last dot, with `.c`.
+///
+/// Of CTANGLE's command line it has the three names, their extensions and `-` for no change file; flags are taken
+/// and have no effect (`docs/programs.md`).
+///
+/// # Errors
+///
+/// `Usage` where there is no name among the words, or more than three; `NoMemory` where a growth is refused.
 pub fn read_words(alloc: Global, words: &[&[u8]]) -> Result<Words, WordFault>
     ensures ok { IfOk result (λ w. names_of (map (λ v. v.now) words.now) ≡ Some w) }
     ensures usage { IfErr result (λ fault. fault ≢ NoMemory → names_of (map (λ v. v.now) words.now) ≡ None) }

@@ -64,7 +64,7 @@ fn words(kind: FaultKind) -> (&'static [u8], Ending)
     }
 }
 
-/// Writes the line of a fault: how many bytes it has.
+/// Writes the line of a fault: how many bytes it has. CWEB's programs word their faults otherwise: see docs/faults.md.
 ///
 /// # Errors
 ///

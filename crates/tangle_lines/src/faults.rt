@@ -11,35 +11,65 @@ use std::marker::Model;
 /// `NoFullName` on of names and outputs.
 #[derive(Clone, Copy, Debug, PartialEq, Eq)]
 pub enum FaultKind {
+    /// A `@y` or `@z` where none may stand.
     StrayMark,
+    /// A change that ends without its `@y`.
     MissingY,
+    /// A change that ends without its `@z`.
     MissingZ,
+    /// A change without old lines.
     EmptyOld,
+    /// An inclusion without the name of a file.
     IncludeNoName,
+    /// An inclusion of a file that is not in the table. It tells the name.
     IncludeMissing,
+    /// An inclusion in the tenth file that is open.
     IncludeTooDeep,
+    /// Old lines of a change that the lines there do not match. It tells how many.
     ChangeMismatch,
+    /// A line behind the 2,000,000 that are read.
     SourceTooLong,
+    /// A change that was never used: the first of them.
     ChangeUnused,
+    /// A code that begins a definition, in C text.
     CodeInC,
+    /// A `@h` in a macro.
     MisplacedH,
+    /// A macro that does not start with an identifier.
     MacroName,
+    /// A control text that did not end.
     ControlText,
+    /// A single `@` in quoted or verbatim text.
     StringAt,
+    /// A quoted text that did not end.
     StringEnd,
+    /// A verbatim text that did not end on its line.
     VerbatimEnd,
+    /// A bad ASCII constant.
     AsciiBad,
+    /// A comment that did not end.
     CommentEnd,
+    /// A section name that did not end.
     NameEnd,
+    /// What looks like a definition, without a section start before it.
     NameEquals,
+    /// An abbreviation that begins no full name. It tells the abbreviation.
     NoFullName,
+    /// An abbreviation that begins several full names. It tells the abbreviation.
     Ambiguous,
+    /// A full name that begins another one. This is a warning, and tells the name.
     PrefixName,
+    /// A section that is used and never defined. It tells the name.
     Undefined,
+    /// A section that is never used. This is a warning, and tells the name.
     Unused,
+    /// A section that contains itself. It tells the name.
     SelfContaining,
+    /// A section whose text is too large, or without a place the unnamed program.
     TooLarge,
+    /// A file to be written that has the main file's name. It tells the name.
     FileClash,
+    /// A web without program text. This is a warning.
     NoProgram,
 }
 
@@ -119,20 +149,26 @@ impl Model for Fault {
 }
 
 impl Fault {
-    /// A fault at a line. Want of memory is the one error of this and the following two.
+    /// A fault at a line.
+    ///
+    /// # Errors
+    ///
+    /// `NoMemory`.
     pub fn at(alloc: Global, kind: FaultKind, file: &[u8], line: u32) -> Result<Self, NoMemory>
         ensures { IfOk result (λ f. f ≡ fault_at kind (record { file = file.now; line = line })) }
     {
-        let place = Place::new(alloc, file, line)?;
+        let place = Some(Place::new(alloc, file, line)?);
         Ok(Fault {
-            kind,
-            place: Some(place),
-            subject: Vec::new(alloc),
-            count: 0,
+            place,
+            ..Fault::unplaced(alloc, kind)
         })
     }
 
     /// A fault at a line, about a file or a name.
+    ///
+    /// # Errors
+    ///
+    /// `NoMemory`.
     pub fn about(
         alloc: Global,
         kind: FaultKind,
@@ -142,17 +178,18 @@ impl Fault {
     ) -> Result<Self, NoMemory>
         ensures { IfOk result (λ f. f ≡ fault_about kind (record { file = file.now; line = line }) subject.now) }
     {
-        let place = Place::new(alloc, file, line)?;
         let subject = Vec::from_slice(alloc, subject)?;
         Ok(Fault {
-            kind,
-            place: Some(place),
             subject,
-            count: 0,
+            ..Fault::at(alloc, kind, file, line)?
         })
     }
 
     /// A fault at a line, with a number.
+    ///
+    /// # Errors
+    ///
+    /// `NoMemory`.
     pub fn counting(
         alloc: Global,
         kind: FaultKind,
@@ -162,12 +199,9 @@ impl Fault {
     ) -> Result<Self, NoMemory>
         ensures { IfOk result (λ f. f ≡ fault_counting kind (record { file = file.now; line = line }) count) }
     {
-        let place = Place::new(alloc, file, line)?;
         Ok(Fault {
-            kind,
-            place: Some(place),
-            subject: Vec::new(alloc),
             count,
+            ..Fault::at(alloc, kind, file, line)?
         })
     }
 

@@ -50,7 +50,7 @@ impl Files {
     }
 
     /// Adds a file as the last one. Its bytes are cut at line feeds: a last line without one is a line, and no bytes
-    /// give no lines. Trailing spaces of a line are dropped.
+    /// give no lines. CWEB drops trailing blanks of a line, and so does this.
     ///
     /// # Errors
     ///
@@ -63,9 +63,8 @@ impl Files {
         ensures only { IfNone (add_refusal self.old name.now bytes.now) (IsOkUnless result Refusal.NoMemory) }
         ensures err { OnErr result (self.new ≡ self.old) }
     {
-        match self.refusal_to_add(name, bytes) {
-            Some(refusal) => return Err(refusal),
-            None => {}
+        if let Some(refusal) = self.refusal_to_add(name, bytes) {
+            return Err(refusal);
         }
         let alloc = *self.table.allocator();
         let lines = cut_lines(alloc, bytes)?;
@@ -105,7 +104,7 @@ impl Files {
         self.table.len()
     }
 
-    /// The name of the file of this number, from 0 on.
+    /// The name of the file of this number, from 0 on: `None` if there are not so many files.
     pub fn name(&self, number: usize) -> Option<&[u8]>
         ensures { option_copied result ≡ option_map (λ f. f.0) (slice_get self.now number) }
     {
@@ -115,7 +114,7 @@ impl Files {
         }
     }
 
-    /// The lines of the file of this name.
+    /// The lines of the file of this name: `None` if there is no such file.
     pub fn lines(&self, name: &[u8]) -> Option<&[Line]>
         ensures { option_copied result ≡ lines_of self.now name.now }
     {
@@ -174,8 +173,8 @@ impl Files {
     }
 }
 
-/// Whether the bytes are a file's name.
-pub(crate) fn is_file_name(name: &[u8]) -> bool
+/// Whether the bytes are a file's name: not empty, at most 255 bytes, and without a line feed.
+pub fn is_file_name(name: &[u8]) -> bool
     ensures { result ≡ is_name name.now }
 {
     0 < name.len() && name.len() <= LONGEST_NAME && !name.contains(&b'\n')

@@ -20,7 +20,7 @@ mod waiting;
 pub use cutting::Line;
 pub use fault_text::write_fault;
 pub use faults::{Fault, FaultKind, Origin, Place};
-pub use files::Files;
+pub use files::{Files, is_file_name};
 pub use reading::{read_source, reading_goes_step_by_step};
 pub use refusal::{NoMemory, Refusal, WriteFault};
 pub use roles::Roles;

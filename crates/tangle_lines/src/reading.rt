@@ -26,7 +26,8 @@ const LINE_LIMIT: usize = 2_000_000;
 
 /// Reads the web of these roles with its change file: each inclusion is replaced by the lines of its file, and the
 /// lines that a change takes by its new lines. A change is used where a line equals its first old line, in the order of
-/// the change file, and before that line is looked at as an inclusion.
+/// the change file, and before that line is looked at as an inclusion. CWEB's rules of `@i` and of change files: see
+/// docs/reading.md.
 ///
 /// # Errors
 ///
@@ -39,18 +40,18 @@ pub fn read_source<'a>(
     requires { fits files.now roles.now ≡ true }
     ensures { IfOk result (λ s. s ≡ source_of files.entry.now roles.now) }
 {
-    let mut found = Vec::new(alloc);
-    let (change_file, changes) = changes_of_file(alloc, files, roles.change(), &mut found)?;
+    let mut faults = Vec::new(alloc);
+    let (change_file, changes) = changes_of_file(alloc, files, roles.change(), &mut faults)?;
     let web = files.find_or_count(roles.web());
     let mut waiting = Waiting::new(alloc);
     waiting.open(OpenFile::new(web, files.lines_at(web), false, 1))?;
-    let (lines, faults) = read_on(
+    let lines = read_on(
         alloc,
         files,
         change_file,
         changes.as_slice(),
-        waiting,
-        found,
+        &mut waiting,
+        &mut faults,
     )?;
     Ok(Source {
         files,
@@ -114,11 +115,7 @@ fn read_plain<'a, 'c>(
     match included_name(line.text.bytes()) {
         Some(name) => include(alloc, files, waiting, faults, line, name),
         None => {
-            lines.push(SourceLine {
-                text: line.text,
-                place: line.place,
-                marked: line.marked,
-            })?;
+            lines.push(SourceLine::new(line.text, line.place, line.marked))?;
             Ok(())
         }
     }
@@ -267,19 +264,19 @@ fn note_unused(
     }
 }
 
-/// Reads the lines that wait, after these faults.
+/// Reads the lines that wait, and adds the faults to those before.
 fn read_on<'a, 'c>(
     alloc: Global,
     files: &'a Files,
     change_file: u16,
     changes: &'c [Change<'a>],
-    mut waiting: Waiting<'a, 'c>,
-    mut faults: Vec<Fault>,
-) -> Result<(Vec<SourceLine<'a>>, Vec<Fault>), NoMemory>
-    ensures read { IfOk result (λ r. before_reads (record { lines = []; faults = faults.items })
-        (reads_from files.entry.now change_file (record { waiting = waiting.entry; changes = changes.entry.now; taken = 0 }))
-        ≡ record { lines = r.0.items; faults = r.1.items }) }
-    ensures limit { IfOk result (λ r. length r.0.items ≤ line_limit) }
+    waiting: &mut Waiting<'a, 'c>,
+    faults: &mut Vec<Fault>,
+) -> Result<Vec<SourceLine<'a>>, NoMemory>
+    ensures read { IfOk result (λ lines. before_reads (record { lines = []; faults = faults.old.items })
+        (reads_from files.entry.now change_file (record { waiting = waiting.old; changes = changes.entry.now; taken = 0 }))
+        ≡ record { lines = lines.items; faults = faults.new.items }) }
+    ensures limit { IfOk result (λ lines. length lines.items ≤ line_limit) }
 {
     let mut lines = Vec::new(alloc);
     let mut changes = changes;
@@ -288,29 +285,21 @@ fn read_on<'a, 'c>(
         if taken >= LINE_LIMIT {
             let file = files.name_at(line.place.file);
             faults.push(Fault::at(alloc, FaultKind::SourceTooLong, file, line.place.line)?)?;
-            return Ok((lines, faults));
+            return Ok(lines);
         }
         match change_at(changes, &line) {
             Some(change) => {
-                taken += use_change(
-                    alloc,
-                    files,
-                    change_file,
-                    change,
-                    &line,
-                    &mut waiting,
-                    &mut faults,
-                )?;
+                taken += use_change(alloc, files, change_file, change, &line, waiting, faults)?;
                 changes = after_first(changes);
             }
             None => {
-                read_plain(alloc, files, &line, &mut waiting, &mut lines, &mut faults)?;
+                read_plain(alloc, files, &line, waiting, &mut lines, faults)?;
                 taken += 1;
             }
         }
     }
-    note_unused(alloc, files, change_file, changes, &mut faults)?;
-    Ok((lines, faults))
+    note_unused(alloc, files, change_file, changes, faults)?;
+    Ok(lines)
 }
 
 /// The changes of the change file, if there is one, and its number.

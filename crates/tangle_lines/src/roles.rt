@@ -8,7 +8,8 @@ use crate::refusal::{NoMemory, Refusal};
 use std::alloc::Global;
 use std::marker::Model;
 
-/// The names of the web, of the change file if there is one, and of the main file that is written.
+/// The names of the web, of the change file if there is one, and of the main file that is written. CWEB's programs take
+/// the same three from the command line.
 #[derive(Drop)]
 pub struct Roles {
     web: Vec<u8>,
@@ -59,7 +60,7 @@ impl Roles {
         self.web.as_slice()
     }
 
-    /// The name of the change file.
+    /// The name of the change file: `None` if there is none.
     pub fn change(&self) -> Option<&[u8]>
         ensures { option_copied result ≡ self.now.change }
     {

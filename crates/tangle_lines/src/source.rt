@@ -9,12 +9,14 @@ use crate::faults::{Fault, Origin};
 use crate::files::Files;
 use std::marker::Model;
 
-/// A source line, with its place, and whether it is from the change file.
+/// A source line, with its place, and whether it is from the change file. The place stands as its two numbers, so
+/// that a line takes 16 bytes.
 #[derive(Drop)]
 pub(crate) struct SourceLine<'a> {
-    pub(crate) text: &'a Line,
-    pub(crate) place: Origin,
-    pub(crate) marked: bool,
+    text: &'a Line,
+    number: u32,
+    file: u16,
+    marked: bool,
 }
 
 impl<'a> Model for SourceLine<'a> {
@@ -22,7 +24,31 @@ impl<'a> Model for SourceLine<'a> {
 
     ghost Value = { LineRead };
 
-    ghost view = { λ l. record { bytes = l.text.now; place = l.place; marked = l.marked } };
+    ghost view = { λ l. record { bytes = l.text.now; place = record { file = l.file; line = l.number }; marked = l.marked } };
+}
+
+impl<'a> SourceLine<'a> {
+    /// The line of this place.
+    pub(crate) fn new(text: &'a Line, place: Origin, marked: bool) -> Self
+        ensures { result ≡ record { bytes = text.now; place = place; marked = marked } }
+    {
+        let Origin { file, line: number } = place;
+        SourceLine {
+            text,
+            number,
+            file,
+            marked,
+        }
+    }
+
+    fn place(&self) -> Origin
+        ensures { result ≡ self.now.place }
+    {
+        Origin {
+            file: self.file,
+            line: self.number,
+        }
+    }
 }
 
 /// The source lines of a web, and the faults of its change file and of reading. It borrows its lines from the table
@@ -54,7 +80,7 @@ impl<'a> Source<'a> {
         self.lines.len()
     }
 
-    /// The bytes of the line of this number, from 0: at most 65,535.
+    /// The bytes of the line of this number, from 0: at most 65,535, and none behind the last line.
     pub fn line(&self, number: usize) -> &'a [u8]
         ensures bytes { result.now ≡ (get_or self.now.lines number no_line).bytes }
         ensures short { length result.now ≤ longest_line }
@@ -65,17 +91,18 @@ impl<'a> Source<'a> {
         }
     }
 
-    /// Where the line of this number stands in the files.
+    /// Where the line of this number, from 0, stands in the files: behind the last line, line 0 of file 0.
     pub fn origin(&self, number: usize) -> Origin
         ensures { result ≡ (get_or self.now.lines number no_line).place }
     {
         match self.lines.get(number) {
-            Some(line) => line.place,
+            Some(line) => line.place(),
             None => Origin { file: 0, line: 0 },
         }
     }
 
-    /// Whether the line of this number is from the change file, or from a file that such a line includes.
+    /// Whether the line of this number, from 0, is from the change file, or from a file that such a line includes.
+    /// Behind the last line none is.
     pub fn is_marked(&self, number: usize) -> bool
         ensures { result ≡ (get_or self.now.lines number no_line).marked }
     {
@@ -93,7 +120,7 @@ impl<'a> Source<'a> {
         self.files.count()
     }
 
-    /// The name of the file of a place.
+    /// The name of the file of a place: no bytes if the table has no such file.
     pub fn file_name(&self, origin: Origin) -> &'a [u8]
         ensures { result.now ≡ name_at self.now.files origin.file }
     {

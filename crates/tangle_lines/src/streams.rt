@@ -1,7 +1,7 @@
 //! Writers that tell their bytes and count their failures.
-ghost use Rattle.std.specs.Prelude.{◌≡◌, ℕ, ◌≤◌, List, length, Option, None, IfSome};
+ghost use Rattle.std.specs.Prelude.{◌≡◌, ℕ, ◌≤◌, ◌⊎◌, List, length, Option, None, IfSome};
 ghost use Rattle.std.specs.Io.KnownBytes.{Keeps};
-ghost use Rattle.tangle_lines.specs.Streams.{Takes, counted, PutsOutMore};
+ghost use Rattle.tangle_lines.specs.Streams.{Takes, counted, one_more_failure, PutsOutMore};
 
 use crate::refusal::WriteFault;
 use std::io::Write;
@@ -41,10 +41,10 @@ impl<W: Write> IoSink<W> {
         IoSink { inner, failures: 0 }
     }
 
-    /// Hands on what the writer has kept back. To fail in it is a failure.
+    /// Hands on what the writer has kept back. To fail in it is one more failure.
     pub fn flush(&mut self)
         ensures kept { Keeps (W.contents self.old.inner) (W.contents self.new.inner) }
-        ensures failed { self.old.failures ≤ self.new.failures }
+        ensures failed { (self.new.failures ≡ self.old.failures) ⊎ (self.new.failures ≡ one_more_failure self.old.failures) }
     {
         if self.inner.flush().is_err() {
             self.failures = self.failures.saturating_add(1);

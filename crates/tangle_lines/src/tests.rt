@@ -242,9 +242,11 @@ fn limits_of_files(rt: HostRuntime) -> Result<(), Fail> {
     }
     let too_long = repeated(alloc, b'f', 256)?;
     for name in [b"".as_slice(), b"a\nb", too_long.as_slice()] {
+        assert!(rt; !is_file_name(name));
         assert_eq!(rt; files.add(name, long.as_slice()), Err(Refusal::BadName));
     }
     assert_eq!(rt; files.add(b"f", long.as_slice()), Err(Refusal::FileExists));
+    assert!(rt; is_file_name(b"a.w"));
     files.add(b"a.w", b"")?;
     assert_eq!(rt;
         files.add(b"b.w", long.as_slice()),

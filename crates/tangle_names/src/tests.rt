@@ -77,6 +77,17 @@ fn an_abbreviation_in_front_of_its_name(rt: HostRuntime) -> Result<(), Fail> {
 }
 
 #[test]
+fn an_abbreviation_gives_its_name_the_first_number(rt: HostRuntime) -> Result<(), Fail> {
+    let alloc = rt.alloc();
+    let web = web_of(alloc, b"@ A.\n@c\n@<b...@>@<a@>@<bc@>\n")?;
+    let table = NameTable::build(alloc, &web)?;
+    assert_names(&rt, &table, &[b"bc", b"a"]);
+    let resolved = [Resolved::Name(0), Resolved::Name(1), Resolved::Name(0)];
+    assert_resolved(&rt, &web, &table, &resolved);
+    assert_faults(&rt, alloc, &table, b"")
+}
+
+#[test]
 fn an_abbreviation_of_two_names(rt: HostRuntime) -> Result<(), Fail> {
     let alloc = rt.alloc();
     let text = b"@ A.\n@c\n@<Ini...@>\n@ @<Initialize@>=\nx=0;\n@ @<Init table@>=\n";

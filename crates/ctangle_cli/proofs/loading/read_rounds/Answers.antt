@@ -1,28 +1,30 @@
 use Rattle.std.proofs.Common.{◌≡◌, ◌∙◌, subst, sym, length}
+use Rattle.std.proofs.lemmas.Result.{err_from_is_err_and}
 use Rattle.ctangle_cli.specs.Loading.{AreAbsent, ending_of}
 use Rattle.ctangle_cli.proofs.LoadLemmas.{grows_fits, rounds_stop, rounds_last, rounds_on}
 use Rattle.ctangle_cli.proofs.loading.read_rounds.Goals as goal
 
-pub loop-faults-preserved : goal.loop-faults-preserved
-loop-faults-preserved g c =
-    let changed : length c.read_inclusions.new.files ≡ length c.loop-faults.files → ⊥ = λ e. c.if-count.false (c.count.ensures.count ∙ e ∙ sym c.count-count.ensures.count) in
+pub loop-absent-preserved : goal.loop-absent-preserved
+loop-absent-preserved g c =
+    let changed : length c.read_inclusions.new.files ≡ length c.loop-absent.files → ⊥ = λ e. c.if-count.false (c.count.ensures.count ∙ e ∙ sym c.count-count.ensures.count) in
     record {
-      fits = grows_fits c.loop-faults.files c.read_inclusions.new.files c.args.roles.now c.in-Ok-read_inclusions.ensures.grows c.loop-faults.invariant.fits;
-      absent = subst (λ t. AreAbsent t c.read_inclusions.new.absent) c.loop-faults.invariant.files_stay c.in-Ok-read_inclusions.ensures.absent;
-      loads = rounds_on _ _ c.args.roles.now c.args.files.now c.loop-faults.files c.read_inclusions.new.files _ _ _ c.loop-faults.invariant.files_stay
-          (rw c.as_slice.ensures.value c.in-Ok.ensures) c.loop-faults.invariant.loads c.in-Ok-read_inclusions.ensures.ok changed;
-      unfailed = c.in-Ok-read_inclusions.ensures.ok.1 ∙ c.loop-faults.invariant.unfailed;
-      files_stay = c.in-Ok-read_inclusions.ensures.files_stay ∙ c.loop-faults.invariant.files_stay;
-      created_stay = c.in-Ok-read_inclusions.ensures.created_stay ∙ c.loop-faults.invariant.created_stay;
+      fits = grows_fits c.loop-absent.files c.read_inclusions.new.files c.args.roles.now c.in_ok-read_inclusions.ensures.grows c.loop-absent.invariant.fits;
+      absent = subst (λ t. AreAbsent t c.read_inclusions.new.absent) c.loop-absent.invariant.files_stay c.in_ok-read_inclusions.ensures.absent;
+      loads = rounds_on _ _ c.args.roles.now c.args.files.now c.loop-absent.files c.read_inclusions.new.files _ _ _ c.loop-absent.invariant.files_stay
+          (rw c.as_slice.ensures.value c.in_ok-faults.ensures) c.loop-absent.invariant.loads c.in_ok-read_inclusions.ensures.ok changed;
+      unfailed = c.in_ok-read_inclusions.ensures.ok.1 ∙ c.loop-absent.invariant.unfailed;
+      files_stay = c.in_ok-read_inclusions.ensures.files_stay ∙ c.loop-absent.invariant.files_stay;
+      created_stay = c.in_ok-read_inclusions.ensures.created_stay ∙ c.loop-absent.invariant.created_stay;
     }
 
 pub returns-then-count-clause-ok : goal.returns-then-count-clause-ok
 returns-then-count-clause-ok g c =
-    let same : length c.read_inclusions.new.files ≡ length c.loop-faults.files = sym c.count.ensures.count ∙ c.if-count.true ∙ c.count-count.ensures.count in
-    rounds_last _ _ c.args.roles.now c.args.files.now c.loop-faults.files c.read_inclusions.new.files _ _ _ _ c.loop-faults.invariant.files_stay
-    (rw c.as_slice.ensures.value c.in-Ok.ensures) c.loop-faults.invariant.loads c.loop-faults.invariant.unfailed c.in-Ok-read_inclusions.ensures.ok same
+    let same : length c.read_inclusions.new.files ≡ length c.loop-absent.files = sym c.count.ensures.count ∙ c.if-count.true ∙ c.count-count.ensures.count in
+    rounds_last _ _ c.args.roles.now c.args.files.now c.loop-absent.files c.read_inclusions.new.files _ _ _ _ c.loop-absent.invariant.files_stay
+    (rw c.as_slice.ensures.value c.in_ok-faults.ensures) c.loop-absent.invariant.loads c.loop-absent.invariant.unfailed c.in_ok-read_inclusions.ensures.ok same
 
-pub returns-in-Err-clause-err : goal.returns-in-Err-clause-err
-returns-in-Err-clause-err g c =
-    rounds_stop _ _ c.args.roles.now c.args.files.now c.loop-faults.files _ _ _ _ (ending_of c.in-Err.fault) c.loop-faults.invariant.files_stay
-    (rw c.as_slice.ensures.value c.in-Ok.ensures) c.loop-faults.invariant.loads c.loop-faults.invariant.unfailed c.in-Err.ensures.err
+pub returns-in_err-read_inclusions-clause-err : goal.returns-in_err-read_inclusions-clause-err
+returns-in_err-read_inclusions-clause-err g c =
+    let left = err_from_is_err_and c.from_residual-in_err-read_inclusions.result c.from_residual-in_err-read_inclusions.ensures.1 in
+    rw (left.1, left.2) (rounds_stop _ _ c.args.roles.now c.args.files.now c.loop-absent.files _ _ _ _ (ending_of c.in_err-read_inclusions.field-0.0) c.loop-absent.invariant.files_stay
+    (rw c.as_slice.ensures.value c.in_ok-faults.ensures) c.loop-absent.invariant.loads c.loop-absent.invariant.unfailed c.in_err-read_inclusions.ensures.err)

@@ -4,8 +4,8 @@ use Rattle.ctangle_cli.specs.Loading.{AreAbsent, rounds_from}
 use Rattle.tangle_lines.specs.Roles.{fits}
 use Rattle.ctangle_cli.proofs.loading.read_rounds.Given as goal
 
-abbrev pub invariant-loop-faults : goal.invariant-loop-faults
-invariant-loop-faults g l = record {
+abbrev pub invariant-loop-absent : goal.invariant-loop-absent
+invariant-loop-absent g l = record {
   fits : fits l.files l.roles ≡ true;
   absent : AreAbsent (g.F.Folder.files l.initial.folder) l.absent;
   loads : IfSome (g.F.Folder.files l.initial.folder) (λ all. rounds_from all l.roles l.files ≡ rounds_from all l.roles l.initial.files);
@@ -14,5 +14,5 @@ invariant-loop-faults g l = record {
   created_stay : g.F.Folder.created l.folder ≡ g.F.Folder.created l.initial.folder;
 }
 
-abbrev pub decreases-loop-faults : goal.decreases-loop-faults
-decreases-loop-faults g l = 256 - length l.files
+abbrev pub decreases-loop-absent : goal.decreases-loop-absent
+decreases-loop-absent g l = 256 - length l.files
