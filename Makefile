@@ -1,8 +1,8 @@
 # make           proves and builds the programs into bin/
 # make example   tangles the web in examples/, compiles it and runs it
-# make check     runs the gate and the tests over the built programs; its last line is 'N passed, M failed'
+# make check     runs the gate and the tests over the built programs; it ends with 'N passed, M failed'
 #
-# The kit's command rt, cc, python3 and git have to be on the path.
+# The kit's command rt, cc and python3 have to be on the path.
 
 sources := $(shell find crates crates.txt -name out -prune -o -type f -print)
 

@@ -1,11 +1,10 @@
 """Holds a built ctangle against the reference tangler on generated webs, and runs it on webs cut after every byte.
 
-usage: compare.py generated CTANGLE REFERENCE KNOWN FIRST COUNT
-       compare.py cut CTANGLE REFERENCE KNOWN WEB..
+usage: compare.py generated CTANGLE REFERENCE FIRST COUNT
+       compare.py cut CTANGLE REFERENCE WEB..
 
 REFERENCE is the folder of the reference tangler, or 'none'; then a cut web only has to end with status 0 or 1.
-KNOWN is what the program knows of CWEB: 'reading' or 'scanning' (the faults of reading are compared alone), or
-'names' (all faults so far, and the unnamed pieces).
+Until names are expanded the reference is asked for the faults so far and the unnamed pieces.
 The last line is 'N passed, M failed'.
 """
 import os
@@ -21,14 +20,12 @@ MEMORY = 6 << 30
 
 
 class Expected:
-    """What the reference says of a run: the exact outcome, or only how standard error begins."""
+    """What the reference says of a run."""
 
-    def __init__(self, status, stderr, files, is_exact=True):
-        self.status, self.stderr, self.files, self.is_exact = status, stderr, files, is_exact
+    def __init__(self, status, stderr, files):
+        self.status, self.stderr, self.files = status, stderr, files
 
     def agrees(self, status, stderr, created):
-        if not self.is_exact:
-            return status in self.status and stderr.startswith(self.stderr)
         return (status, stderr, created) == (self.status, self.stderr, self.files)
 
     def __str__(self):
@@ -38,11 +35,11 @@ class Expected:
 class Reference:
     """The reference tangler, asked for what the program is to do by now."""
 
-    def __init__(self, folder, known):
+    def __init__(self, folder):
         sys.path.insert(0, folder)
         import gen
         import tangle
-        self.gen, self.tangle, self.known = gen.gen, tangle, known
+        self.gen, self.tangle = gen.gen, tangle
 
     def expected(self, words, folder):
         tangle = self.tangle
@@ -53,12 +50,7 @@ class Reference:
             files, roles = tangle.load(names, tangle.DirFolder(folder))
         except tangle.LoadFault as fault:
             return Expected(3, fault.line(b'ctangle'), {})
-        result = tangle.Result(files, roles)
-        if self.known == 'names':
-            return self.without_expansion(result, roles.out)
-        has_error = any(map(tangle.is_error, result.read_faults))
-        lines = b''.join(map(tangle.fault_line, result.read_faults))
-        return Expected([1] if has_error else [0, 1], lines, {}, is_exact=False)
+        return self.without_expansion(tangle.Result(files, roles), roles.out)
 
     def without_expansion(self, result, out):
         """The unnamed pieces with a space and a mark for each use, and the faults that need no graph of names."""
@@ -174,15 +166,15 @@ def cut(program, reference, folder, webs):
 
 
 def main():
-    mode, program, reference_folder, known = sys.argv[1:5]
+    mode, program, reference_folder = sys.argv[1:4]
     resource.setrlimit(resource.RLIMIT_AS, (MEMORY, MEMORY))
     program = os.path.abspath(program)
-    reference = None if reference_folder == 'none' else Reference(reference_folder, known)
+    reference = None if reference_folder == 'none' else Reference(reference_folder)
     with tempfile.TemporaryDirectory() as room:
         folder = os.path.join(room, 'folder')
         if mode == 'generated':
-            return generated(program, reference, folder, int(sys.argv[5]), int(sys.argv[6]))
-        return cut(program, reference, folder, sys.argv[5:])
+            return generated(program, reference, folder, int(sys.argv[4]), int(sys.argv[5]))
+        return cut(program, reference, folder, sys.argv[4:])
 
 
 if __name__ == '__main__':

@@ -7,9 +7,7 @@ test_limits() {
     test_file_names
     test_file_count
     test_lines_taken
-    case " $groups " in
-    *' names '*) test_long_name ;;
-    esac
+    test_long_name
 }
 
 repeated() { # COUNT TEXT
@@ -31,6 +29,17 @@ test_line_length() {
     { repeated 65535 x; repeated 9 ' '; } >"$case/in/a.w"
     only_limbo
     run_case 'line of 65,535 bytes before its trailing spaces' "$case"
+
+    begin_case a a
+    printf '@i b.w\n' >"$case/in/a.w"
+    repeated 65536 x >"$case/in/b.w"
+    : >"$case/in/a.ch"
+    must_end 3 'ctangle: b.w: LineTooLong'
+    run_case 'line of 65,536 bytes in an included file' "$case"
+
+    cp "$case/in/b.w" "$case/in/a.ch"
+    must_end 3 'ctangle: a.ch: LineTooLong'
+    run_case 'line of 65,536 bytes in the change file' "$case"
 }
 
 test_line_count() {
@@ -68,6 +77,15 @@ test_file_names() {
     begin_case "$name"
     must_end 3 "ctangle: $name.w: BadName"
     run_case 'web with a name of 256 bytes' "$case"
+
+    # the change file's name is looked at before the main file's, and both before any file is read
+    begin_case a "$name" "$name"
+    must_end 3 "ctangle: $name.ch: BadName"
+    run_case 'change file with a name of 257 bytes' "$case"
+
+    begin_case a - "$name"
+    must_end 3 "ctangle: $name.c: BadName"
+    run_case 'main file with a name of 256 bytes' "$case"
 
     # such a file is not asked for
     begin_case a

@@ -12,9 +12,6 @@ set -u
 LC_ALL=C
 export LC_ALL
 
-# What the program knows of CWEB by now, of: reading scanning names.
-groups='reading'
-
 top=$(cd "$(dirname "$0")/.." && pwd)
 program=${CTANGLE:-$top/bin/ctangle}
 reference=${TANGLE_REFERENCE:-$top/../shared/oracle}

@@ -1,0 +1,5 @@
+@x
+@y
+int z;
+@x
+int a;
