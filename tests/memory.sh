@@ -52,27 +52,20 @@ survived() { # CASE
     [ -z "$problem" ]
 }
 
-# The tests of the crates, which ask the library for their own refusals.
+# The tests of the crates, which ask the library for their own refusals. The library makes the file when it refuses a
+# growth; without it the tests would pass and show nothing.
 test_crates() {
     kit=$(dirname "$(rt doc)")
+    tests=$top/crates/tangle_tests/out/tangle_tests_tests
     mkdir "$room/tests"
-    found=0
-    for tests in "$top"/crates/*/out/*_tests; do
-        [ -x "$tests" ] || continue
-        found=$((found + 1))
-        test_crate "${tests##*/}" "$tests"
-    done
-    [ "$found" -gt 0 ] || fail 'refused growths in the crates' 'no test programs: run make check'
-}
-
-# The library makes the file when it refuses a growth; without it the tests would pass and show nothing.
-test_crate() { # NAME PROGRAM
     rm -f "$room/told"
-    if ! (cd "$room/tests" && REFUSE_TOLD="$room/told" LD_PRELOAD="$room/refuse.so" "$kit/bin/rattle-test" --seconds 60 "$2") \
+    if [ ! -x "$tests" ]; then
+        fail 'refused growths in the crates' 'no test program: run make check'
+    elif ! (cd "$room/tests" && REFUSE_TOLD="$room/told" LD_PRELOAD="$room/refuse.so" "$kit/bin/rattle-test" --seconds 60 "$tests") \
         >"$room/log" 2>&1; then
-        fail "$1 with refused growths" "$(tail -n 5 "$room/log")"
+        fail 'refused growths in the crates' "$(tail -n 5 "$room/log")"
     elif [ ! -e "$room/told" ]; then
-        fail "$1 with refused growths" 'no growth was refused'
+        fail 'refused growths in the crates' 'no growth was refused'
     else
         pass
     fi

@@ -13,8 +13,6 @@ mod run;
 mod tangling;
 mod tangling_items;
 mod tangling_text;
-#[cfg(test)]
-mod tests;
 mod words;
 mod writing;
 

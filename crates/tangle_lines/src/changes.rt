@@ -7,7 +7,7 @@ ghost use Rattle.tangle_lines.specs.Changes.{kind_of, next_part, closed, at_end,
 ghost use Rattle.tangle_lines.specs.declared.changes.Part.TheVariants.{Outside, InOld, InNew};
 
 use crate::cutting::Line;
-use crate::faults::{Fault, FaultKind};
+use crate::faults::{Fault, FaultKind, note};
 use crate::inclusion::is_white_byte;
 use crate::refusal::NoMemory;
 use std::alloc::Global;
@@ -174,7 +174,7 @@ fn next_outside<'a>(
         LineKind::BeginsChange => Ok(Part::InOld(Change::new(alloc, number))),
         LineKind::IsText => Ok(Part::Outside),
         LineKind::BeginsNew | LineKind::EndsChange => {
-            faults.push(Fault::at(alloc, FaultKind::StrayMark, file, number)?)?;
+            note(alloc, FaultKind::StrayMark, file, number, faults)?;
             Ok(Part::Outside)
         }
     }
@@ -196,16 +196,16 @@ fn next_in_old<'a>(
     let mut change = change;
     match kind {
         LineKind::BeginsChange => {
-            faults.push(Fault::at(alloc, FaultKind::MissingY, file, change.at)?)?;
+            note(alloc, FaultKind::MissingY, file, change.at, faults)?;
             Ok(Part::InOld(Change::new(alloc, number)))
         }
         LineKind::EndsChange => {
-            faults.push(Fault::at(alloc, FaultKind::MissingY, file, change.at)?)?;
+            note(alloc, FaultKind::MissingY, file, change.at, faults)?;
             Ok(Part::Outside)
         }
         LineKind::BeginsNew => {
             if change.is_empty() {
-                faults.push(Fault::at(alloc, FaultKind::EmptyOld, file, change.at)?)?;
+                note(alloc, FaultKind::EmptyOld, file, change.at, faults)?;
             }
             Ok(Part::InNew(change))
         }
@@ -236,12 +236,12 @@ fn next_in_new<'a>(
     let mut change = change;
     match kind {
         LineKind::BeginsChange => {
-            faults.push(Fault::at(alloc, FaultKind::MissingZ, file, change.at)?)?;
+            note(alloc, FaultKind::MissingZ, file, change.at, faults)?;
             keep(change, changes)?;
             Ok(Part::InOld(Change::new(alloc, number)))
         }
         LineKind::BeginsNew => {
-            faults.push(Fault::at(alloc, FaultKind::StrayMark, file, number)?)?;
+            note(alloc, FaultKind::StrayMark, file, number, faults)?;
             Ok(Part::InNew(change))
         }
         LineKind::EndsChange => {
@@ -269,12 +269,13 @@ fn finish<'a>(
     match part {
         Part::Outside => Ok(()),
         Part::InOld(change) => {
-            faults.push(Fault::at(alloc, FaultKind::MissingY, file, change.at)?)?;
-            Ok(())
+            let at = change.at;
+            note(alloc, FaultKind::MissingY, file, at, faults)
         }
         Part::InNew(change) => {
-            faults.push(Fault::at(alloc, FaultKind::MissingZ, file, change.at)?)?;
-            keep(change, changes)
+            let at = change.at;
+            keep(change, changes)?;
+            note(alloc, FaultKind::MissingZ, file, at, faults)
         }
     }
 }

@@ -1,5 +1,5 @@
 //! Places and faults.
-ghost use Rattle.std.specs.Prelude.{◌≡◌, IfOk};
+ghost use Rattle.std.specs.Prelude.{◌≡◌, [], ◌∷◌, ◌++◌, IfOk, OnOk};
 ghost use Rattle.std.specs.Option.{option_copied};
 ghost use Rattle.tangle_lines.specs.Faults.{fault_at, fault_about, fault_counting, fault_unplaced, is_error, is_error_kind};
 
@@ -251,4 +251,18 @@ impl Fault {
     {
         self.kind.is_error()
     }
+}
+
+/// Adds a fault at a line to the others.
+pub(crate) fn note(
+    alloc: Global,
+    kind: FaultKind,
+    file: &[u8],
+    line: u32,
+    faults: &mut Vec<Fault>,
+) -> Result<(), NoMemory>
+    ensures { OnOk result (faults.new.items ≡ faults.old.items ++ fault_at kind (record { file = file.now; line = line }) ∷ []) }
+{
+    faults.push(Fault::at(alloc, kind, file, line)?)?;
+    Ok(())
 }

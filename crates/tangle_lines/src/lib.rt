@@ -26,6 +26,3 @@ pub use refusal::{NoMemory, Refusal, WriteFault};
 pub use roles::Roles;
 pub use source::Source;
 pub use streams::{IoSink, Sink, put};
-
-#[cfg(test)]
-mod tests;

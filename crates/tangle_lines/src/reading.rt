@@ -9,7 +9,7 @@ ghost use Rattle.tangle_lines.specs.Waiting.{IsPlain, IsUsed};
 
 use crate::changes::{Change, changes_of};
 use crate::cutting::Line;
-use crate::faults::{Fault, FaultKind};
+use crate::faults::{Fault, FaultKind, note};
 use crate::files::Files;
 use crate::inclusion::included_name;
 use crate::refusal::NoMemory;
@@ -78,26 +78,26 @@ fn include<'a, 'c>(
     ensures opened { OnOk result (waiting.new ≡ (inclusion files.entry.now line.now name.now).0 ++ waiting.old) }
     ensures noted { OnOk result (faults.new.items ≡ faults.old.items ++ (inclusion files.entry.now line.now name.now).1) }
 {
-    let file = files.name_at(line.place.file);
+    let place = line.place;
+    let file = files.name_at(place.file);
     if name.is_empty() {
-        faults.push(Fault::at(alloc, FaultKind::IncludeNoName, file, line.place.line)?)?;
-        return Ok(());
+        return note(alloc, FaultKind::IncludeNoName, file, place.line, faults);
     }
     match files.find(name) {
         None => {
             let kind = FaultKind::IncludeMissing;
-            faults.push(Fault::about(alloc, kind, file, line.place.line, name)?)?;
+            faults.push(Fault::about(alloc, kind, file, place.line, name)?)?;
+            Ok(())
+        }
+        Some(_) if line.depth >= DEPTH_LIMIT => {
+            note(alloc, FaultKind::IncludeTooDeep, file, place.line, faults)
         }
         Some(number) => {
-            if line.depth < DEPTH_LIMIT {
-                let lines = files.lines_at(number);
-                waiting.open(OpenFile::new(number, lines, line.marked, line.depth + 1))?;
-            } else {
-                faults.push(Fault::at(alloc, FaultKind::IncludeTooDeep, file, line.place.line)?)?;
-            }
+            let lines = files.lines_at(number);
+            waiting.open(OpenFile::new(number, lines, line.marked, line.depth + 1))?;
+            Ok(())
         }
     }
-    Ok(())
 }
 
 /// Reads a line that no change takes: a source line or an inclusion.
@@ -258,8 +258,7 @@ fn note_unused(
         [] => Ok(()),
         [change, ..] => {
             let file = files.name_at(change_file);
-            faults.push(Fault::at(alloc, FaultKind::ChangeUnused, file, change.at())?)?;
-            Ok(())
+            note(alloc, FaultKind::ChangeUnused, file, change.at(), faults)
         }
     }
 }
@@ -284,7 +283,13 @@ fn read_on<'a, 'c>(
     while let Some(line) = waiting.take() {
         if taken >= LINE_LIMIT {
             let file = files.name_at(line.place.file);
-            faults.push(Fault::at(alloc, FaultKind::SourceTooLong, file, line.place.line)?)?;
+            note(
+                alloc,
+                FaultKind::SourceTooLong,
+                file,
+                line.place.line,
+                faults,
+            )?;
             return Ok(lines);
         }
         match change_at(changes, &line) {

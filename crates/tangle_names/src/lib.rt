@@ -21,6 +21,3 @@ pub enum Resolved {
     /// Several full names begin with it.
     Ambiguous,
 }
-
-#[cfg(test)]
-mod tests;

@@ -29,6 +29,3 @@ pub use occurrences::{Occurrence, OccurrenceRole};
 pub use pieces::{Macro, Piece};
 pub use scanning::scan;
 pub use webs::Web;
-
-#[cfg(test)]
-mod tests;

@@ -14,8 +14,7 @@ returns-then-taken-ge-LINE_LIMIT-clause-read c =
     ∙ ap (λ (fs : List Finding). let r : Reads = record { lines = read; faults = fs } in r)
     (ap (λ p. noted ++ fault_at SourceTooLong (named c.args.files.now p) ∷ []) (sym place)
     ∙ ap (λ n. noted ++ fault_at SourceTooLong (record { file = n; line = c.line.inside.place.line }) ∷ []) (sym c.name_at-file.ensures)
-    ∙ ap (λ (f : Finding). noted ++ f ∷ []) (sym c.in_ok-at.ensures)
-    ∙ sym c.in_ok-push.ensures.items)
+    ∙ sym c.in_ok-note.ensures)
 
 pub loop-line-preserved-in-Some-change_at : goal.loop-line-preserved-in-Some-change_at
 loop-line-preserved-in-Some-change_at c = record {

@@ -1,6 +1,6 @@
 //! The names that words give.
-use crate::tests::words_in;
-use crate::{WordFault, read_words};
+use crate::support::words_in;
+use ctangle_cli::{WordFault, read_words};
 use std::alloc::Global;
 use std::process::Abort;
 use std::test::Fail;

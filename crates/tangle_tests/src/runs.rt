@@ -1,5 +1,5 @@
 //! Whole runs: the main file, the lines of the faults and the status, byte for byte.
-use crate::tests::{check_only_output, folder_with, run};
+use crate::support::{check_only_output, folder_with, run};
 use std::alloc::Global;
 use std::process::Abort;
 use std::test::Fail;

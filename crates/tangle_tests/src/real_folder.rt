@@ -1,6 +1,6 @@
 //! The real folder.
-use crate::tests::AMPLE;
-use crate::{Disk, Folder, FolderFault, MemorySink, run_ctangle};
+use crate::support::AMPLE;
+use ctangle_cli::{Disk, Folder, FolderFault, MemorySink, run_ctangle};
 use std::fs;
 use std::test::Fail;
 

@@ -1,12 +1,12 @@
-//! What no clause says: what the items, places and faults of small webs are, and that the calls succeed.
-ghost use Rattle.std.specs.Prelude.{◌<◌, ◌^◌};
+//! What the items, places, names and faults of small webs are.
 ghost use Rattle.std.specs.List.{All};
 ghost use Rattle.tangle_scan.specs.SourceOrder.{IsInRange};
 
-use super::*;
+use crate::fault_lines::lines_of;
+use crate::support::web_of;
 use std::alloc::Global;
 use std::test::Fail;
-use tangle_lines::{Files, IoSink, Roles, read_source, write_fault};
+use tangle_scan::{Item, Occurrence, OccurrenceRole, Web};
 
 // Webs, and what they are: sections, macros, pieces, names and faults. An item is its kind with its text: `w` a word, `s` a sign, `q` quoted, `v` verbatim,
 // `_` a blank, `/` a line end.
@@ -158,6 +158,26 @@ fn show_occurrence(alloc: Global, shown: &mut Vec<u8>, name: &Occurrence) -> Res
     Ok(())
 }
 
+fn show_macros(alloc: Global, shown: &mut Vec<u8>, web: &Web) -> Result<(), Fail> {
+    for definition in web.macros() {
+        shown.extend_from_slice(b"macro ")?;
+        show_items(alloc, shown, web, definition.items())?;
+    }
+    Ok(())
+}
+
+fn show_pieces(alloc: Global, shown: &mut Vec<u8>, web: &Web) -> Result<(), Fail> {
+    for piece in web.pieces() {
+        let line = piece.place().line;
+        shown.extend_from_slice(format!(in alloc; "{} at {line} ", piece.section())?.as_bytes())?;
+        if let Some(name) = piece.name() {
+            shown.extend_from_slice(format!(in alloc; "named {name} ")?.as_bytes())?;
+        }
+        show_items(alloc, shown, web, piece.items())?;
+    }
+    Ok(())
+}
+
 /// What a web is, each part on a line.
 fn show_web(alloc: Global, web: &Web) -> Result<Vec<u8>, Fail> {
     let mut shown = Vec::new(alloc);
@@ -166,94 +186,22 @@ fn show_web(alloc: Global, web: &Web) -> Result<Vec<u8>, Fail> {
         shown.extend_from_slice(b" with @h")?;
     }
     shown.push(b'\n')?;
-    for definition in web.macros() {
-        shown.extend_from_slice(b"macro ")?;
-        show_items(alloc, &mut shown, web, definition.items())?;
-    }
-    for piece in web.pieces() {
-        let place = piece.place();
-        shown.extend_from_slice(format!(in alloc;
-            "{} at {} ",
-            piece.section(),
-            place.line
-        )?.as_bytes())?;
-        if let Some(name) = piece.name() {
-            shown.extend_from_slice(format!(in alloc; "named {name} ")?.as_bytes())?;
-        }
-        show_items(alloc, &mut shown, web, piece.items())?;
-    }
+    show_macros(alloc, &mut shown, web)?;
+    show_pieces(alloc, &mut shown, web)?;
     for name in web.occurrences() {
         show_occurrence(alloc, &mut shown, name)?;
     }
-    for fault in web.faults() {
-        let mut line = Vec::new(alloc);
-        let mut sink = IoSink::new(&mut line);
-        let _written = write_fault(fault, &mut sink);
-        sink.flush();
-        shown.extend_from_slice(&line)?;
-    }
+    shown.extend_from_slice(&lines_of(alloc, web.faults())?)?;
     Ok(shown)
-}
-
-fn scan_web(alloc: Global, bytes: &[u8]) -> Result<Web, Fail> {
-    let mut files = Files::new(alloc);
-    files.add(b"a.w", bytes)?;
-    let roles = Roles::new(alloc, b"a.w", None, b"a.c")?;
-    if !roles.fits(&files) {
-        return Err(Fail::from("the web is there"));
-    }
-    let source = read_source(alloc, &files, &roles)?;
-    Ok(scan(alloc, &source)?)
 }
 
 #[test]
 fn items_places_and_faults(rt: HostRuntime) -> Result<(), Fail> {
     let alloc = rt.alloc();
     for (web, wanted) in WEBS {
-        let web = scan_web(alloc, web)?;
+        let web = web_of(alloc, web)?;
         let shown = show_web(alloc, &web)?;
         assert_eq!(rt; shown.as_slice(), wanted);
     }
     Ok(())
-}
-
-// Refuses the nth growth from here on, none at 0, where the harness of `tests/` stands before the allocator, and says
-// whether it does. Without it no memory is so large, and nothing is refused.
-fn refuse_growth(alloc: Global, nth: usize) -> bool
-    requires { nth < 2 ^ 32 }
-{
-    Vec::<u8>::with_capacity(alloc, (1 << 62) + nth).is_ok()
-}
-
-// Whether that refusal is still to come.
-fn is_waiting(alloc: Global) -> bool {
-    Vec::<u8>::with_capacity(alloc, 3 << 61).is_ok()
-}
-
-#[test]
-fn each_growth_of_scan_refused(rt: HostRuntime) -> Result<(), Fail> {
-    let alloc = rt.alloc();
-    let is_harnessed = refuse_growth(alloc, 0);
-    let mut files = Files::new(alloc);
-    files.add(
-        b"a.w",
-        b"@ A.\n@d N 10\n@d 3\n@c\n@h\nint x@&\n=N;@d\n@<u@>\n@ @<u@>=\n1\n",
-    )?;
-    let roles = Roles::new(alloc, b"a.w", None, b"a.c")?;
-    if !roles.fits(&files) {
-        return Err(Fail::from("the web is there"));
-    }
-    let source = read_source(alloc, &files, &roles)?;
-    for nth in 1..1000u32 {
-        refuse_growth(alloc, nth as usize);
-        let scanned = scan(alloc, &source);
-        let was_spared = is_waiting(alloc) || !is_harnessed;
-        refuse_growth(alloc, 0);
-        if was_spared {
-            assert_eq!(rt; scanned?.pieces().len(), 2);
-            return Ok(());
-        }
-        assert!(rt; scanned.is_err());
-    }
-    Err(Fail::from("never scanned"))
 }

@@ -1,6 +1,6 @@
 //! Which files a run asks the folder for, and in which order.
-use crate::tests::{AMPLE, folder_with, run};
-use crate::{LoadFault, MemoryFolder, MemorySink, load, read_words, write_load};
+use crate::support::{AMPLE, folder_with, run};
+use ctangle_cli::{LoadFault, MemoryFolder, MemorySink, load, read_words, write_load};
 use std::alloc::Global;
 use std::process::Abort;
 use std::test::Fail;
@@ -87,25 +87,27 @@ fn long_name_of_an_inclusion_is_not_asked_for(rt: HostRuntime) -> Result<(), Fai
     Ok(())
 }
 
-// Loads `a.w`, which includes 256 files of which the last may be missing.
-fn load_many(alloc: Global, all: bool) -> Result<Result<usize, LoadFault>, Fail> {
-    let mut folder = MemoryFolder::new(alloc, AMPLE);
+// Puts 256 files into a folder, the last one only if all are wanted, and the web `a.w`, which includes them all.
+fn put_many(alloc: Global, folder: &mut MemoryFolder, all: bool) -> Result<(), Fail> {
     let mut web = Vec::new(alloc);
     for number in 0..=255u8 {
-        web.extend_from_slice(b"@i ")?;
         let name = [b'f', b'a' + number / 16, b'a' + number % 16];
+        web.extend_from_slice(b"@i ")?;
         web.extend_from_slice(&name)?;
         web.push(b'\n')?;
         if all || number < 255 {
             folder.put(alloc, &name, b"")?;
         }
     }
-    folder.put(alloc, b"a.w", web.as_slice())?;
+    Ok(folder.put(alloc, b"a.w", web.as_slice())?)
+}
+
+// Loads `a.w`, which includes 256 files of which the last may be missing.
+fn load_many(alloc: Global, all: bool) -> Result<Result<usize, LoadFault>, Fail> {
+    let mut folder = MemoryFolder::new(alloc, AMPLE);
+    put_many(alloc, &mut folder, all)?;
     let words = read_words(alloc, &[b"a"])?;
-    match load(alloc, &words, &mut folder) {
-        Ok((files, _)) => Ok(Ok(files.count())),
-        Err(fault) => Ok(Err(fault)),
-    }
+    Ok(load(alloc, &words, &mut folder).map(|(files, _)| files.count()))
 }
 
 #[test]

@@ -1,5 +1,5 @@
 //! Runs over webs with macros, quoted texts, codes and section names, byte for byte.
-use crate::tests::{check_only_output, folder_with, run};
+use crate::support::{check_only_output, folder_with, run};
 use std::alloc::Global;
 use std::process::Abort;
 use std::test::Fail;

@@ -1,6 +1,6 @@
 //! Runs that end with status 2 or 3: the line on standard error, and the files that stand.
-use crate::tests::{AMPLE, check_only_output, folder_with, run, words_in};
-use crate::{FILE_LIMIT, MemoryFolder, MemorySink, run_ctangle};
+use crate::support::{AMPLE, check_only_output, folder_with, run, words_in};
+use ctangle_cli::{FILE_LIMIT, MemoryFolder, MemorySink, run_ctangle};
 use std::alloc::Global;
 use std::process::Abort;
 use std::test::Fail;
@@ -107,28 +107,44 @@ fn names_are_tested_before_files_are_read(rt: HostRuntime) -> Result<(), Fail> {
     )
 }
 
+// A run over this folder tells that `a.c` cannot be written, and leaves these bytes of it.
+fn check_cut_short(
+    rt: &impl Abort,
+    alloc: Global,
+    folder: MemoryFolder,
+    bytes: &[u8],
+) -> Result<(), Fail> {
+    let mut folder = folder;
+    let (status, err) = run(alloc, b"a", &mut folder)?;
+    assert_eq!(rt; status, 3);
+    assert_eq!(rt; err.bytes(), b"ctangle: cannot write a.c\n".as_slice());
+    check_only_output(rt, &folder, bytes);
+    Ok(())
+}
+
 #[test]
-fn outputs_that_are_not_written(rt: HostRuntime) -> Result<(), Fail> {
+fn output_that_is_not_created(rt: HostRuntime) -> Result<(), Fail> {
     let alloc = rt.alloc();
-    let line = b"ctangle: cannot write a.c\n".as_slice();
     let mut folder = folder_with(alloc, &[(b"a.w", WEB)])?;
     folder.fail_after(1);
-    check_stop(&rt, alloc, b"a", folder, line, 3)?;
-    // The closing fails.
+    check_stop(&rt, alloc, b"a", folder, b"ctangle: cannot write a.c\n", 3)
+}
+
+#[test]
+fn output_that_is_not_closed(rt: HostRuntime) -> Result<(), Fail> {
+    let alloc = rt.alloc();
     let mut folder = folder_with(alloc, &[(b"a.w", WEB)])?;
     folder.fail_after(2);
-    let (status, err) = run(alloc, b"a", &mut folder)?;
-    assert_eq!(rt; status, 3);
-    assert_eq!(rt; err.bytes(), line);
-    check_only_output(&rt, &folder, b"/*1:*/\n#line 2 \"a.w\"\n\nint x;\n/*:1*/\n");
-    // The disk is full.
+    let output = b"/*1:*/\n#line 2 \"a.w\"\n\nint x;\n/*:1*/\n";
+    check_cut_short(&rt, alloc, folder, output)
+}
+
+#[test]
+fn output_on_a_full_disk(rt: HostRuntime) -> Result<(), Fail> {
+    let alloc = rt.alloc();
     let mut folder = MemoryFolder::new(alloc, 7);
     folder.put(alloc, b"a.w", WEB)?;
-    let (status, err) = run(alloc, b"a", &mut folder)?;
-    assert_eq!(rt; status, 3);
-    assert_eq!(rt; err.bytes(), line);
-    check_only_output(&rt, &folder, b"/*1:*/\n");
-    Ok(())
+    check_cut_short(&rt, alloc, folder, b"/*1:*/\n")
 }
 
 #[test]

@@ -1,0 +1,243 @@
+//! What a fault's line reads like, and what of it stands where the stream takes no more.
+ghost use Rattle.std.specs.Prelude.{◌<◌};
+
+use std::alloc::Global;
+use std::io::{self, ErrorKind, Write};
+use std::process::Abort;
+use std::test::Fail;
+use tangle_lines::{Fault, FaultKind, IoSink, Sink, WriteFault, put, write_fault};
+
+// The lines of faults of every kind, as a user reads them. A fault in a file stands at line 7 of `a.w`.
+const PLAIN_FAULTS: [(FaultKind, &[u8]); 19] = [
+    (
+        FaultKind::StrayMark,
+        b"a.w:7: error: @y or @z out of place\n",
+    ),
+    (FaultKind::MissingY, b"a.w:7: error: change without @y\n"),
+    (FaultKind::MissingZ, b"a.w:7: error: change without @z\n"),
+    (
+        FaultKind::EmptyOld,
+        b"a.w:7: error: change without old lines\n",
+    ),
+    (
+        FaultKind::IncludeNoName,
+        b"a.w:7: error: inclusion without a file name\n",
+    ),
+    (
+        FaultKind::IncludeTooDeep,
+        b"a.w:7: error: inclusion too deep\n",
+    ),
+    (FaultKind::SourceTooLong, b"a.w:7: error: too many lines\n"),
+    (
+        FaultKind::ChangeUnused,
+        b"a.w:7: error: change never used\n",
+    ),
+    (
+        FaultKind::CodeInC,
+        b"a.w:7: error: definition code in C text\n",
+    ),
+    (FaultKind::MisplacedH, b"a.w:7: error: @h in a macro\n"),
+    (
+        FaultKind::MacroName,
+        b"a.w:7: error: macro must start with an identifier\n",
+    ),
+    (
+        FaultKind::ControlText,
+        b"a.w:7: error: control text did not end\n",
+    ),
+    (
+        FaultKind::StringAt,
+        b"a.w:7: error: single @ in quoted text\n",
+    ),
+    (
+        FaultKind::StringEnd,
+        b"a.w:7: error: quoted text did not end\n",
+    ),
+    (
+        FaultKind::VerbatimEnd,
+        b"a.w:7: error: verbatim text did not end\n",
+    ),
+    (FaultKind::AsciiBad, b"a.w:7: error: bad ASCII constant\n"),
+    (
+        FaultKind::CommentEnd,
+        b"a.w:7: error: comment did not end\n",
+    ),
+    (
+        FaultKind::NameEnd,
+        b"a.w:7: error: section name did not end\n",
+    ),
+    (
+        FaultKind::NameEquals,
+        b"a.w:7: error: missing section start before a definition\n",
+    ),
+];
+
+const FAULTS_ABOUT_N: [(FaultKind, &[u8]); 9] = [
+    (
+        FaultKind::IncludeMissing,
+        b"a.w:7: error: included file not found: n\n",
+    ),
+    (
+        FaultKind::NoFullName,
+        b"a.w:7: error: no full name for <n>\n",
+    ),
+    (
+        FaultKind::Ambiguous,
+        b"a.w:7: error: several full names for <n>\n",
+    ),
+    (
+        FaultKind::PrefixName,
+        b"a.w:7: warning: begins another name: <n>\n",
+    ),
+    (FaultKind::Undefined, b"a.w:7: error: undefined: <n>\n"),
+    (FaultKind::Unused, b"a.w:7: warning: never used: <n>\n"),
+    (
+        FaultKind::SelfContaining,
+        b"a.w:7: error: contains itself: <n>\n",
+    ),
+    (FaultKind::TooLarge, b"a.w:7: error: too large: <n>\n"),
+    (
+        FaultKind::FileClash,
+        b"a.w:7: error: file name is the main file's: <n>\n",
+    ),
+];
+
+const FAULTS_WITHOUT_A_PLACE: [(FaultKind, &[u8]); 2] = [
+    (
+        FaultKind::TooLarge,
+        b"error: too large: the unnamed program\n",
+    ),
+    (FaultKind::NoProgram, b"warning: no program text\n"),
+];
+
+fn assert_line(rt: &impl Abort, alloc: Global, fault: &Fault, line: &[u8]) {
+    let mut bytes = Vec::new(alloc);
+    let mut sink = IoSink::new(&mut bytes);
+    let written = write_fault(fault, &mut sink).expect(rt, "a vector takes the line");
+    assert_eq!(rt; written, line.len() as u128);
+    assert_eq!(rt; sink.failures(), 0);
+    sink.flush();
+    assert!(rt; bytes.as_slice() == line);
+    assert_eq!(rt; fault.is_error(), !is_warning(line));
+}
+
+/// The lines of these faults, one after the other.
+pub(crate) fn lines_of(alloc: Global, faults: &[Fault]) -> Result<Vec<u8>, Fail> {
+    let mut bytes = Vec::new(alloc);
+    let mut sink = IoSink::new(&mut bytes);
+    for fault in faults {
+        write_fault(fault, &mut sink)?;
+    }
+    sink.flush();
+    Ok(bytes)
+}
+
+/// The lines of these faults are these bytes.
+pub(crate) fn assert_faults(
+    rt: &impl Abort,
+    alloc: Global,
+    faults: &[Fault],
+    lines: &[u8],
+) -> Result<(), Fail> {
+    assert!(rt; lines_of(alloc, faults)?.as_slice() == lines);
+    Ok(())
+}
+
+fn is_warning(line: &[u8]) -> bool {
+    line.starts_with(b"warning: ") || line.starts_with(b"a.w:7: warning: ")
+}
+
+#[test]
+fn lines_of_faults_at_a_place(rt: HostRuntime) -> Result<(), Fail> {
+    let alloc = rt.alloc();
+    for (kind, line) in &PLAIN_FAULTS {
+        let fault = Fault::at(alloc, *kind, b"a.w", 7)?;
+        assert_line(&rt, alloc, &fault, line);
+    }
+    Ok(())
+}
+
+#[test]
+fn lines_of_faults_about_a_name(rt: HostRuntime) -> Result<(), Fail> {
+    let alloc = rt.alloc();
+    for (kind, line) in &FAULTS_ABOUT_N {
+        let fault = Fault::about(alloc, *kind, b"a.w", 7, b"n")?;
+        assert_line(&rt, alloc, &fault, line);
+    }
+    Ok(())
+}
+
+#[test]
+fn lines_of_faults_without_a_place(rt: HostRuntime) -> Result<(), Fail> {
+    let alloc = rt.alloc();
+    for (kind, line) in &FAULTS_WITHOUT_A_PLACE {
+        let fault = Fault::unplaced(alloc, *kind);
+        assert_line(&rt, alloc, &fault, line);
+    }
+    Ok(())
+}
+
+fn assert_place(rt: &impl Abort, fault: &Fault, file: &[u8], line: u32) -> Result<(), Fail> {
+    let place = fault.place().ok_or("a place")?;
+    assert!(rt; place.file() == file);
+    assert_eq!(rt; place.line(), line);
+    Ok(())
+}
+
+#[test]
+fn a_fault_that_counts(rt: HostRuntime) -> Result<(), Fail> {
+    let alloc = rt.alloc();
+    let fault = Fault::counting(alloc, FaultKind::ChangeMismatch, b"a.ch", 1, 12)?;
+    let line = b"a.ch:1: error: old lines that do not match: 12\n";
+    assert_line(&rt, alloc, &fault, line);
+    assert_eq!(rt; fault.kind(), FaultKind::ChangeMismatch);
+    assert_eq!(rt; fault.count(), 12);
+    assert!(rt; fault.subject().is_empty());
+    assert_place(&rt, &fault, b"a.ch", 1)
+}
+
+// Into so little room goes the front of the line that fits.
+fn assert_cut_off(rt: &impl Abort, fault: &Fault, line: &[u8; 29], room: usize)
+    requires { room < 29 }
+{
+    let mut bytes = [0u8; 29];
+    let mut sink = IoSink::new(&mut bytes[..room]);
+    let written = write_fault(fault, &mut sink);
+    assert_eq!(rt; written, Err(WriteFault(room as u128)));
+    assert_eq!(rt; sink.failures(), 1);
+    assert!(rt; bytes[..room] == line[..room]);
+}
+
+#[test]
+fn a_fault_line_cut_off_after_each_byte(rt: HostRuntime) -> Result<(), Fail> {
+    let alloc = rt.alloc();
+    let fault = Fault::about(alloc, FaultKind::Undefined, b"a.w", 7, b"n")?;
+    for room in 0..29 {
+        assert_cut_off(&rt, &fault, b"a.w:7: error: undefined: <n>\n", room);
+    }
+    Ok(())
+}
+
+// A writer that takes all and can't hand it on.
+#[derive(Drop)]
+struct Stuck;
+
+impl Write for Stuck {
+    fn write(&mut self, bytes: &[u8]) -> io::Result<usize> {
+        Ok(bytes.len())
+    }
+
+    fn flush(&mut self) -> io::Result<()> {
+        Err(io::Error::from(ErrorKind::StorageFull))
+    }
+}
+
+#[test]
+fn a_failed_flush_is_a_failure(rt: HostRuntime) -> Result<(), Fail> {
+    let mut sink = IoSink::new(Stuck);
+    assert_eq!(rt; put(&mut sink, Ok(0), b"kept back"), Ok(9));
+    assert_eq!(rt; sink.failures(), 0);
+    sink.flush();
+    assert_eq!(rt; sink.failures(), 1);
+    Ok(())
+}

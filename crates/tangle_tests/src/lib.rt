@@ -1,0 +1,31 @@
+//! The tests of the crates below: what no clause of theirs says.
+//!
+//! They stand in a crate of their own, since a crate that has tests is proved once more for them.
+#![tactic(auto)]
+
+#[cfg(test)]
+mod fault_lines;
+#[cfg(test)]
+mod files;
+#[cfg(test)]
+mod growths;
+#[cfg(test)]
+mod loads;
+#[cfg(test)]
+mod reading;
+#[cfg(test)]
+mod real_folder;
+#[cfg(test)]
+mod runs;
+#[cfg(test)]
+mod scanning;
+#[cfg(test)]
+mod section_names;
+#[cfg(test)]
+mod stops;
+#[cfg(test)]
+mod support;
+#[cfg(test)]
+mod webs;
+#[cfg(test)]
+mod words;

@@ -1,0 +1,60 @@
+//! Sources with inclusions and a change file.
+use crate::fault_lines::assert_faults;
+use crate::files::repeated;
+use crate::support::{files_with, read};
+use std::alloc::Global;
+use std::process::Abort;
+use std::test::Fail;
+use tangle_lines::{Origin, Roles, Source};
+
+#[test]
+fn reading_stops_at_two_million_lines(rt: HostRuntime) -> Result<(), Fail> {
+    let alloc = rt.alloc();
+    let most = repeated(alloc, b'\n', 1_000_000)?;
+    let files = [
+        (b"a.w".as_slice(), b"@i b.w\n@i b.w\n@i b.w\n".as_slice()),
+        (b"b.w", most.as_slice()),
+    ];
+    let files = files_with(alloc, &files)?;
+    let source = read(alloc, &files, None)?;
+    assert_eq!(rt; source.count(), 1_999_998);
+    let lines = b"b.w:999999: error: too many lines\n";
+    assert_faults(&rt, alloc, source.faults(), lines)
+}
+
+#[test]
+fn roles_of_three_files(rt: HostRuntime) -> Result<(), Fail> {
+    let roles = Roles::new(rt.alloc(), b"a.w", Some(b"a.ch"), b"a.c")?;
+    assert!(rt; roles.web() == b"a.w".as_slice());
+    assert!(rt; roles.change().ok_or("a change file")? == b"a.ch".as_slice());
+    assert!(rt; roles.out() == b"a.c".as_slice());
+    Ok(())
+}
+
+// The second line is `int z;`, from line 6 of the change file.
+fn assert_changed(rt: &impl Abort, source: &Source) {
+    assert!(rt; source.line(1) == b"int z;".as_slice());
+    assert!(rt; source.is_marked(1));
+    assert_eq!(rt; source.origin(1), Origin { file: 2, line: 6 });
+    assert!(rt; source.file_name(source.origin(1)) == b"a.ch".as_slice());
+}
+
+#[test]
+fn a_change_across_the_end_of_an_included_file(rt: HostRuntime) -> Result<(), Fail> {
+    let alloc = rt.alloc();
+    let change = b"@x\nint a;\nint b;\ny\n@y\nint z;\n@z\n@x\nno\n@y\n@z\n";
+    let files = [
+        (b"a.w".as_slice(), b"@ A.\n@i b.w\nint b;\nx\n".as_slice()),
+        (b"b.w", b"int a;\n"),
+        (b"a.ch", change),
+    ];
+    let files = files_with(alloc, &files)?;
+    let source = read(alloc, &files, Some(b"a.ch"))?;
+    assert_eq!(rt; source.count(), 2);
+    assert!(rt; source.line(0) == b"@ A.".as_slice());
+    assert!(rt; !source.is_marked(0));
+    assert_changed(&rt, &source);
+    let lines =
+        b"a.ch:1: error: old lines that do not match: 1\na.ch:8: error: change never used\n";
+    assert_faults(&rt, alloc, source.faults(), lines)
+}

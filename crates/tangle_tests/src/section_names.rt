@@ -1,0 +1,151 @@
+//! What the names of webs resolve to.
+ghost use Rattle.std.specs.Prelude.{◌≡◌};
+ghost use Rattle.tangle_names.specs.NameTable.{table_of};
+
+use crate::fault_lines::assert_faults;
+use crate::support::web_of;
+use std::alloc::Global;
+use std::process::Abort;
+use std::test::Fail;
+use tangle_names::{NameTable, Resolved};
+use tangle_scan::Web;
+
+pub(crate) fn assert_names(rt: &impl Abort, table: &NameTable, names: &[&[u8]]) {
+    assert_eq!(rt; table.count(), names.len());
+    for (id, name) in names.iter().enumerate() {
+        assert!(rt; table.text(id) == *name);
+        assert_eq!(rt; table.find(name), Some(id));
+    }
+}
+
+fn assert_resolved(rt: &impl Abort, web: &Web, table: &NameTable, wanted: &[Resolved])
+    requires { table.now ≡ table_of web.now }
+{
+    assert_eq!(rt; web.occurrences().len(), wanted.len());
+    for (occurrence, resolved) in wanted.iter().enumerate() {
+        assert_eq!(rt; table.resolve(occurrence), *resolved);
+    }
+}
+
+fn table_for(alloc: Global, text: &[u8]) -> Result<NameTable, Fail> {
+    let web = web_of(alloc, text)?;
+    Ok(NameTable::build(alloc, &web)?)
+}
+
+// The web with this text has these names, its occurrences resolve so, and the lines of its faults are these.
+fn check_names(
+    rt: &impl Abort,
+    alloc: Global,
+    text: &[u8],
+    names: &[&[u8]],
+    resolved: &[Resolved],
+    lines: &[u8],
+) -> Result<(), Fail> {
+    let web = web_of(alloc, text)?;
+    let table = NameTable::build(alloc, &web)?;
+    assert_names(rt, &table, names);
+    assert_resolved(rt, &web, &table, resolved);
+    assert_faults(rt, alloc, table.faults(), lines)
+}
+
+#[test]
+fn a_name_used_in_front_of_its_definition(rt: HostRuntime) -> Result<(), Fail> {
+    let text = b"@ A.\n@c\nint x=@<v@>;\n@ @<v@>=\n1\n";
+    let resolved = [Resolved::Name(0), Resolved::Name(0)];
+    check_names(&rt, rt.alloc(), text, &[b"v"], &resolved, b"")
+}
+
+#[test]
+fn an_abbreviation_in_front_of_its_name(rt: HostRuntime) -> Result<(), Fail> {
+    let text = b"@ A.\n@c\n@<Ini...@>\n@ @<Initialize@>=\nx=0;\n";
+    let resolved = [Resolved::Name(0), Resolved::Name(0)];
+    check_names(&rt, rt.alloc(), text, &[b"Initialize"], &resolved, b"")
+}
+
+#[test]
+fn an_abbreviation_gives_its_name_the_first_number(rt: HostRuntime) -> Result<(), Fail> {
+    let text = b"@ A.\n@c\n@<b...@>@<a@>@<bc@>\n";
+    let resolved = [Resolved::Name(0), Resolved::Name(1), Resolved::Name(0)];
+    check_names(&rt, rt.alloc(), text, &[b"bc", b"a"], &resolved, b"")
+}
+
+#[test]
+fn an_abbreviation_of_two_names(rt: HostRuntime) -> Result<(), Fail> {
+    let text = b"@ A.\n@c\n@<Ini...@>\n@ @<Initialize@>=\nx=0;\n@ @<Init table@>=\n";
+    let names = [b"Initialize".as_slice(), b"Init table"];
+    let resolved = [Resolved::Ambiguous, Resolved::Name(0), Resolved::Name(1)];
+    let lines = b"a.w:3: error: several full names for <Ini...>\n";
+    check_names(&rt, rt.alloc(), text, &names, &resolved, lines)
+}
+
+#[test]
+fn a_name_that_begins_another(rt: HostRuntime) -> Result<(), Fail> {
+    let text = b"@ A @<In it@>.\n@c\n@<  In   @>@<Zz...@>\n@<b@>=\n@<q\n@ B.\n";
+    let resolved = [
+        Resolved::Name(0),
+        Resolved::Name(1),
+        Resolved::NoFullName,
+        Resolved::Name(2),
+        Resolved::Name(3),
+    ];
+    let lines =
+        b"a.w:3: error: no full name for <Zz...>\na.w:3: warning: begins another name: <In>\n";
+    let names = [b"In it".as_slice(), b"In", b"b", b"q"];
+    check_names(&rt, rt.alloc(), text, &names, &resolved, lines)
+}
+
+#[test]
+fn an_abbreviation_is_no_full_name(rt: HostRuntime) -> Result<(), Fail> {
+    let alloc = rt.alloc();
+    let table = table_for(alloc, b"@ A.\n@c\n@<Zz...@>@<Zzz@>\n")?;
+    assert_eq!(rt; table.find(b"Zz"), None);
+    assert_eq!(rt; table.find(b"Zz..."), None);
+    Ok(())
+}
+
+#[test]
+fn a_file_marked_at_an_abbreviation(rt: HostRuntime) -> Result<(), Fail> {
+    let alloc = rt.alloc();
+    let table = table_for(alloc, b"@ A.\n@c\n@<u@>@<a.h@>\n@ @(a...@>=\n1\n")?;
+    assert_names(&rt, &table, &[b"u", b"a.h"]);
+    assert!(rt; table.count() > 1 && !table.is_file(0) && table.is_file(1));
+    Ok(())
+}
+
+#[test]
+fn empty_names_and_dots(rt: HostRuntime) -> Result<(), Fail> {
+    let resolved = [Resolved::Name(0), Resolved::Name(0)];
+    let text = b"@ A.\n@c\n@<...@>@<@>\n";
+    check_names(&rt, rt.alloc(), text, &[b""], &resolved, b"")?;
+    let text = b"@ A.\n@c\n@<....@>@<...@>\n@<.x@>@<@>@<\xFF\x80@>@<\xFF...@>\n";
+    let names = [b".x".as_slice(), b"", b"\xFF\x80"];
+    let resolved = [
+        Resolved::Name(0),
+        Resolved::Ambiguous,
+        Resolved::Name(0),
+        Resolved::Name(1),
+        Resolved::Name(2),
+        Resolved::Name(2),
+    ];
+    let lines =
+        b"a.w:3: error: several full names for <...>\na.w:4: warning: begins another name: <>\n";
+    check_names(&rt, rt.alloc(), text, &names, &resolved, lines)
+}
+
+#[test]
+fn a_name_of_sixty_thousand_bytes(rt: HostRuntime) -> Result<(), Fail> {
+    let alloc = rt.alloc();
+    let name = vec![in alloc; b'n'; 60_000]?;
+    let mut text = b"@ A.\n@c\n@<nn...@>@<".to_vec(alloc)?;
+    text.extend_from_slice(name.as_slice())?;
+    text.extend_from_slice(b"@>\n")?;
+    let resolved = [Resolved::Name(0), Resolved::Name(0)];
+    check_names(
+        &rt,
+        alloc,
+        text.as_slice(),
+        &[name.as_slice()],
+        &resolved,
+        b"",
+    )
+}

@@ -1,0 +1,73 @@
+//! What the tests share: files, sources, webs and runs, all in memory.
+use ctangle_cli::{MemoryFolder, MemorySink, run_ctangle};
+use std::alloc::Global;
+use std::process::Abort;
+use std::test::Fail;
+use tangle_lines::{Files, Roles, Source, read_source};
+use tangle_scan::{Web, scan};
+
+/// Room for all that a test writes.
+pub(crate) const AMPLE: usize = 1_000_000;
+
+/// A folder with these files.
+pub(crate) fn folder_with(alloc: Global, files: &[(&[u8], &[u8])]) -> Result<MemoryFolder, Fail> {
+    let mut folder = MemoryFolder::new(alloc, AMPLE);
+    for (name, bytes) in files {
+        folder.put(alloc, name, bytes)?;
+    }
+    Ok(folder)
+}
+
+/// The words of a text, which stand between single spaces.
+pub(crate) fn words_in<'a>(alloc: Global, text: &'a [u8]) -> Result<Vec<&'a [u8]>, Fail> {
+    Ok(text.split(|b| *b == b' ').collect(alloc)?)
+}
+
+/// Runs `ctangle` with these words, and gives its status and what it wrote on standard error.
+pub(crate) fn run(
+    alloc: Global,
+    words: &[u8],
+    folder: &mut MemoryFolder,
+) -> Result<(u8, MemorySink), Fail> {
+    let mut err = MemorySink::new(alloc, AMPLE);
+    let words = words_in(alloc, words)?;
+    let status = run_ctangle(alloc, words.as_slice(), folder, &mut err);
+    Ok((status, err))
+}
+
+/// The files that were created are one, `a.c` with these bytes.
+pub(crate) fn check_only_output(rt: &impl Abort, folder: &MemoryFolder, bytes: &[u8]) {
+    let created = folder.created();
+    assert_eq!(rt; created.len(), 1);
+    assert_eq!(rt; created[0].name.as_slice(), b"a.c".as_slice());
+    assert_eq!(rt; created[0].bytes.as_slice(), bytes);
+}
+
+/// A table of these files.
+pub(crate) fn files_with(alloc: Global, files: &[(&[u8], &[u8])]) -> Result<Files, Fail> {
+    let mut table = Files::new(alloc);
+    for (name, bytes) in files {
+        table.add(name, bytes)?;
+    }
+    Ok(table)
+}
+
+/// The source of the web `a.w` of these files, with this change file.
+pub(crate) fn read<'a>(
+    alloc: Global,
+    files: &'a Files,
+    change: Option<&[u8]>,
+) -> Result<Source<'a>, Fail> {
+    let roles = Roles::new(alloc, b"a.w", change, b"a.c")?;
+    if !roles.fits(files) {
+        return Err(Fail::from("a file of the roles is not there"));
+    }
+    Ok(read_source(alloc, files, &roles)?)
+}
+
+/// The web of a file `a.w` with this text.
+pub(crate) fn web_of(alloc: Global, text: &[u8]) -> Result<Web, Fail> {
+    let files = files_with(alloc, &[(b"a.w", text)])?;
+    let source = read(alloc, &files, None)?;
+    Ok(scan(alloc, &source)?)
+}
