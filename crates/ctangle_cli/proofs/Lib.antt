@@ -1,5 +1,4 @@
 mod LoadLemmas
-mod MemoryFolderLemmas
 mod Quiet
 mod RunLemmas
 mod WriteLemmas

@@ -16,7 +16,7 @@ use Rattle.tangle_lines.specs.Lines.{FileTable, cut, lines_of}
 use Rattle.tangle_lines.specs.Adding.{add_refusal, added, has_file, is_name}
 use Rattle.tangle_lines.specs.Roles.{RoleNames, is_there, is_there_if_any, fits}
 use Rattle.tangle_lines.specs.Streams.{Failed}
-use Rattle.ctangle_cli.specs.Folder.{File, Reads, bytes_of, file_limit}
+use Rattle.tangle_folders.specs.Folder.{File, Reads, bytes_of, file_limit}
 use Rattle.ctangle_cli.specs.Loading.{AreAbsent, missing_of, Ending, Grows, IsEnding, Loaded, LoadsTo, StopsFor, add_bytes, add_present, after_round, and_then, refused_as, rounds_from, rounds_in, unless_refused, with_inclusion, with_inclusions, with_round, with_wanted}
 use Rattle.ctangle_cli.specs.Loading.Ending.{Unreadable, Refuses, Memory}
 

@@ -4,8 +4,8 @@ use Rattle.std.specs.Prelude.{codes}
 use Rattle.tangle_lines.specs.Streams.{Failed}
 use Rattle.tangle_lines.specs.Faults.{Finding, is_error}
 use Rattle.tangle_lines.specs.Roles.{RoleNames}
-use Rattle.ctangle_cli.specs.declared.folder.FolderFault.{FolderFault}
-use Rattle.ctangle_cli.specs.declared.folder.FolderFault.TheVariants.{Missing, TooBig, Failed as IsFailed, NoMemory as NoRoom}
+use Rattle.tangle_folders.specs.declared.folder.FolderFault.{FolderFault}
+use Rattle.tangle_folders.specs.declared.folder.FolderFault.TheVariants.{Missing, TooBig, Failed as IsFailed, NoMemory as NoRoom}
 use Rattle.ctangle_cli.specs.Loading.{Ending}
 use Rattle.ctangle_cli.specs.Loading.Ending.{Unreadable, Refuses, Memory}
 use Rattle.ctangle_cli.specs.Messages.{ending_line, fault_lines, no_memory_line, status_of, unwritten_line}

@@ -11,9 +11,10 @@ use Rattle.tangle_lines.specs.Faults.{Finding}
 use Rattle.tangle_lines.specs.FaultText.{fault_line}
 use Rattle.tangle_lines.specs.Lines.{FileTable}
 use Rattle.tangle_lines.specs.Roles.{RoleNames}
-use Rattle.ctangle_cli.specs.Folder.{AddsPart, File, with_created}
-use Rattle.ctangle_cli.specs.declared.folder.FolderFault.{FolderFault}
-use Rattle.ctangle_cli.specs.declared.folder.FolderFault.TheVariants.{Missing, NoMemory, TooBig, Failed as IsFailed}
+use Rattle.tangle_folders.specs.Folder.{File, with_created}
+use Rattle.ctangle_cli.specs.Writing.{AddsPart}
+use Rattle.tangle_folders.specs.declared.folder.FolderFault.{FolderFault}
+use Rattle.tangle_folders.specs.declared.folder.FolderFault.TheVariants.{Missing, NoMemory, TooBig, Failed as IsFailed}
 use Rattle.ctangle_cli.proofs.WriteLemmas.{with_created-append}
 use Rattle.ctangle_cli.specs.Loading.{LoadsTo, load_of}
 use Rattle.ctangle_cli.specs.Tangle.{Tangling, tangle_of}

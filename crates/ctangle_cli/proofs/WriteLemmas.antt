@@ -1,8 +1,9 @@
 -- What creating, writing and closing leave of the list of files created.
 use Rattle.std.proofs.Common.{◌≡◌, ◌∙◌, ◌++◌, inr, ℕ, List, [], ◌∷◌, Option, Some, None, ap, subst, refl, append_assoc, append-nil, take, zero, suc, Result, Ok, Err, OnOk, OnErr}
 use Rattle.std.specs.Io.KnownBytes.{Appends}
-use Rattle.ctangle_cli.specs.declared.folder.FolderFault.{FolderFault}
-use Rattle.ctangle_cli.specs.Folder.{AddsPart, Begins, Closes, ClosesWithin, File, with_created, with_last}
+use Rattle.tangle_folders.specs.declared.folder.FolderFault.{FolderFault}
+use Rattle.tangle_folders.specs.Folder.{Begins, Closes, ClosesWithin, File, with_created, with_last}
+use Rattle.ctangle_cli.specs.Writing.{AddsPart}
 
 with_last-push : (files : List File) (f : File) (bytes : List ℕ) → with_last (files ++ f ∷ []) bytes ≡ files ++ (f.0, bytes) ∷ []
 with_last-push [] f bytes = refl

@@ -1,6 +1,5 @@
-pub mod Folder
-pub mod MemoryFolder
 pub mod Words
+pub mod Writing
 pub mod Loading
 pub mod TangleText
 pub mod TangleItems

@@ -10,7 +10,7 @@ use Rattle.tangle_lines.specs.Adding.{add_refusal, added, has_file, is_name}
 use Rattle.tangle_lines.specs.Reading.{source_of}
 use Rattle.tangle_lines.specs.Roles.{RoleNames}
 use Rattle.tangle_lines.specs.Streams.{Failed}
-use Rattle.ctangle_cli.specs.Folder.{File, bytes_of, file_limit}
+use Rattle.tangle_folders.specs.Folder.{File, bytes_of, file_limit}
 use Rattle.ctangle_cli.specs.declared.loading.LoadFault.{LoadFault}
 use Rattle.ctangle_cli.specs.declared.loading.LoadFault.TheVariants.{CannotRead, Refused, NoMemory}
 

@@ -6,8 +6,8 @@ use Rattle.tangle_lines.specs.declared.refusal.Refusal.TheVariants.{BadName, Fil
 use Rattle.tangle_lines.specs.Faults.{Finding, is_error}
 use Rattle.tangle_lines.specs.FaultText.{fault_line}
 use Rattle.tangle_lines.specs.Streams.{Failed}
-use Rattle.ctangle_cli.specs.declared.folder.FolderFault.{FolderFault}
-use Rattle.ctangle_cli.specs.declared.folder.FolderFault.TheVariants.{Missing, TooBig, Failed as IsFailed, NoMemory as NoRoom}
+use Rattle.tangle_folders.specs.declared.folder.FolderFault.{FolderFault}
+use Rattle.tangle_folders.specs.declared.folder.FolderFault.TheVariants.{Missing, TooBig, Failed as IsFailed, NoMemory as NoRoom}
 use Rattle.ctangle_cli.specs.Loading.{Ending}
 use Rattle.ctangle_cli.specs.Loading.Ending.{Unreadable, Refuses, Memory}
 

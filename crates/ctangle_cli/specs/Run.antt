@@ -3,9 +3,10 @@ use Rattle.std.specs.Prelude.{◌≡◌, ◌≢◌, slice_get, ◌⊎◌, ℕ, L
 use Rattle.tangle_lines.specs.Streams.{Failed}
 use Rattle.tangle_lines.specs.Lines.{FileTable}
 use Rattle.tangle_lines.specs.Roles.{RoleNames}
-use Rattle.ctangle_cli.specs.declared.folder.FolderFault.{FolderFault}
-use Rattle.ctangle_cli.specs.declared.folder.FolderFault.TheVariants.{NoMemory}
-use Rattle.ctangle_cli.specs.Folder.{File, IsPart, with_created}
+use Rattle.tangle_folders.specs.declared.folder.FolderFault.{FolderFault}
+use Rattle.tangle_folders.specs.declared.folder.FolderFault.TheVariants.{NoMemory}
+use Rattle.tangle_folders.specs.Folder.{File, with_created}
+use Rattle.ctangle_cli.specs.Writing.{IsPart}
 use Rattle.ctangle_cli.specs.Words.{names_of}
 use Rattle.ctangle_cli.specs.Loading.{Ending, LoadsTo, StopsFor, load_of}
 use Rattle.ctangle_cli.specs.Messages.{TakesAll, TakesFront, usage_line, ending_line, no_memory_line, unwritten_line, fault_lines, status_of}

@@ -1,13 +1,10 @@
-//! What a program does between its `main` and the layers below: words, folders, loading, tangling, messages, a run.
+//! What a program does between its `main` and the layers below: words, loading, tangling, messages, a run.
 //!
-//! [`run_ctangle`] is a whole run of `ctangle` over a [`Folder`] and an error stream. [`Disk`] is the real folder,
-//! [`MemoryFolder`] one in memory.
+//! [`run_ctangle`] is a whole run of `ctangle` over a [`Folder`] and an error stream. The folders are those of
+//! `tangle_folders`, handed on.
 #![tactic(auto)]
 
-mod disk;
-mod folder;
 mod loading;
-mod memory_folder;
 mod messages;
 mod run;
 mod tangling;
@@ -16,10 +13,10 @@ mod tangling_text;
 mod words;
 mod writing;
 
-pub use disk::Disk;
-pub use folder::{FILE_LIMIT, Folder, FolderFault};
 pub use loading::{LoadFault, load};
-pub use memory_folder::{CreatedFile, MemoryFolder, MemorySink};
 pub use messages::write_load;
 pub use run::run_ctangle;
+pub use tangle_folders::{
+    CreatedFile, Disk, FILE_LIMIT, Folder, FolderFault, MemoryFolder, MemorySink,
+};
 pub use words::{WordFault, Words, read_words};

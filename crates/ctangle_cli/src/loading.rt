@@ -3,18 +3,18 @@ ghost use Rattle.std.specs.Prelude.{◌≡◌, ◌≤◌, ◌∷◌, ℕ, List, 
 ghost use Rattle.std.specs.List.{list_any};
 ghost use Rattle.std.specs.Option.{option_copied};
 ghost use Rattle.std.specs.Str.{bytes_eq};
-ghost use Rattle.ctangle_cli.specs.Folder.{file_limit};
+ghost use Rattle.tangle_folders.specs.Folder.{file_limit};
 ghost use Rattle.tangle_lines.specs.Adding.{has_file};
 ghost use Rattle.tangle_lines.specs.Roles.{fits, is_there, is_there_if_any};
 ghost use Rattle.tangle_lines.specs.Lines.{FileTable};
 ghost use Rattle.ctangle_cli.specs.Loading.{AreAbsent, Grows, IsEnding, LoadsTo, StopsFor, add_bytes, bad_name, ending_of, is_missing_kind, load_of, load_unless, missed_in, missing_of, refused_as, rounds_from, with_change, with_inclusion, with_inclusions, with_wanted};
 ghost use Rattle.ctangle_cli.specs.Loading.Ending.{Unreadable};
 
-use crate::folder::{Folder, FolderFault};
 use crate::words::Words;
 use indexmap::IndexSet;
 use std::alloc::Global;
 use std::marker::Model;
+use tangle_folders::{Folder, FolderFault};
 use tangle_lines::{Fault, FaultKind, Files, NoMemory, Refusal, Roles, is_file_name, read_source};
 
 /// Why the files of a run are not loaded.

@@ -5,8 +5,8 @@ ghost use Rattle.ctangle_cli.specs.Loading.{ending_of};
 ghost use Rattle.ctangle_cli.specs.Loading.Ending.{Memory, Refuses, Unreadable};
 ghost use Rattle.ctangle_cli.specs.Messages.{TakesAll, TakesFront, cannot_write_line, ending_line, fault_lines, refusal_name, unwritten_line, usage_line};
 
-use crate::folder::FolderFault;
 use crate::loading::LoadFault;
+use tangle_folders::FolderFault;
 use tangle_lines::{Fault, Refusal, Sink, WriteFault, put, write_fault};
 
 // A refusal's name.

@@ -3,13 +3,13 @@ ghost use Rattle.std.specs.Prelude.{◌≡◌, ℕ, List, map};
 ghost use Rattle.ctangle_cli.specs.Messages.{status_of};
 ghost use Rattle.ctangle_cli.specs.Run.{NamedEnds, RunEnds, TangledEnds, quiet};
 
-use crate::folder::Folder;
 use crate::loading::{LoadFault, load};
 use crate::messages::{write_faults, write_load, write_unwritten, write_usage};
 use crate::tangling::{Tangled, tangle};
 use crate::words::{WordFault, Words, read_words};
 use crate::writing::write_outputs;
 use std::alloc::Global;
+use tangle_folders::Folder;
 use tangle_lines::{Fault, Sink};
 
 fn status(faults: &[Fault]) -> u8

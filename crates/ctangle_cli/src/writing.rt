@@ -1,13 +1,14 @@
 //! The writing of files.
 ghost use Rattle.std.specs.Prelude.{◌≡◌, ◌≢◌, ◌∷◌, [], IfErr, OnErr, OnOk};
 ghost use Rattle.tangle_lines.specs.Streams.{Failed};
-ghost use Rattle.ctangle_cli.specs.Folder.{AddsPart, with_created};
-ghost use Rattle.ctangle_cli.specs.declared.folder.FolderFault.TheVariants.{NoMemory};
+ghost use Rattle.tangle_folders.specs.Folder.{with_created};
+ghost use Rattle.tangle_folders.specs.declared.folder.FolderFault.TheVariants.{NoMemory};
+ghost use Rattle.ctangle_cli.specs.Writing.{AddsPart};
 ghost use Rattle.ctangle_cli.specs.Run.{StopsAt};
 
-use crate::folder::{Folder, FolderFault};
 use crate::tangling::Output;
 use std::alloc::Global;
+use tangle_folders::{Folder, FolderFault};
 use tangle_lines::put;
 
 /// Creates a file with these bytes. Its writer is closed also where it failed.

@@ -1,10 +1,10 @@
 //! What a fault's line reads like, and what of it stands where the stream takes no more.
-ghost use Rattle.std.specs.Prelude.{◌<◌};
-
+use crate::support::AMPLE;
 use std::alloc::Global;
 use std::io::{self, ErrorKind, Write};
 use std::process::Abort;
 use std::test::Fail;
+use tangle_folders::MemorySink;
 use tangle_lines::{Fault, FaultKind, IoSink, Sink, WriteFault, put, write_fault};
 
 // The lines of faults of every kind, as a user reads them. A fault in a file stands at line 7 of `a.w`.
@@ -111,25 +111,20 @@ const FAULTS_WITHOUT_A_PLACE: [(FaultKind, &[u8]); 2] = [
 ];
 
 fn assert_line(rt: &impl Abort, alloc: Global, fault: &Fault, line: &[u8]) {
-    let mut bytes = Vec::new(alloc);
-    let mut sink = IoSink::new(&mut bytes);
-    let written = write_fault(fault, &mut sink).expect(rt, "a vector takes the line");
-    assert_eq!(rt; written, line.len() as u128);
-    assert_eq!(rt; sink.failures(), 0);
-    sink.flush();
-    assert!(rt; bytes.as_slice() == line);
+    let mut sink = MemorySink::new(alloc, AMPLE);
+    let written = write_fault(fault, &mut sink);
+    assert_eq!(rt; written, Ok(line.len() as u128));
+    assert!(rt; sink.bytes() == line);
     assert_eq!(rt; fault.is_error(), !is_warning(line));
 }
 
 /// The lines of these faults, one after the other.
-pub(crate) fn lines_of(alloc: Global, faults: &[Fault]) -> Result<Vec<u8>, Fail> {
-    let mut bytes = Vec::new(alloc);
-    let mut sink = IoSink::new(&mut bytes);
+pub(crate) fn lines_of(alloc: Global, faults: &[Fault]) -> Result<MemorySink, Fail> {
+    let mut sink = MemorySink::new(alloc, AMPLE);
     for fault in faults {
         write_fault(fault, &mut sink)?;
     }
-    sink.flush();
-    Ok(bytes)
+    Ok(sink)
 }
 
 /// The lines of these faults are these bytes.
@@ -139,7 +134,7 @@ pub(crate) fn assert_faults(
     faults: &[Fault],
     lines: &[u8],
 ) -> Result<(), Fail> {
-    assert!(rt; lines_of(alloc, faults)?.as_slice() == lines);
+    assert!(rt; lines_of(alloc, faults)?.bytes() == lines);
     Ok(())
 }
 
@@ -177,10 +172,18 @@ fn lines_of_faults_without_a_place(rt: HostRuntime) -> Result<(), Fail> {
     Ok(())
 }
 
-fn assert_place(rt: &impl Abort, fault: &Fault, file: &[u8], line: u32) -> Result<(), Fail> {
+// It is a fault of a change with 12 lines that do not match, and about no name.
+fn assert_counting(rt: &impl Abort, fault: &Fault) {
+    let numbers = (fault.kind(), fault.count());
+    assert_eq!(rt; numbers, (FaultKind::ChangeMismatch, 12));
+    assert!(rt; fault.subject().is_empty());
+}
+
+// It stands at line 1 of the change file.
+fn assert_place(rt: &impl Abort, fault: &Fault) -> Result<(), Fail> {
     let place = fault.place().ok_or("a place")?;
-    assert!(rt; place.file() == file);
-    assert_eq!(rt; place.line(), line);
+    assert!(rt; place.file() == b"a.ch".as_slice());
+    assert_eq!(rt; place.line(), 1);
     Ok(())
 }
 
@@ -190,22 +193,17 @@ fn a_fault_that_counts(rt: HostRuntime) -> Result<(), Fail> {
     let fault = Fault::counting(alloc, FaultKind::ChangeMismatch, b"a.ch", 1, 12)?;
     let line = b"a.ch:1: error: old lines that do not match: 12\n";
     assert_line(&rt, alloc, &fault, line);
-    assert_eq!(rt; fault.kind(), FaultKind::ChangeMismatch);
-    assert_eq!(rt; fault.count(), 12);
-    assert!(rt; fault.subject().is_empty());
-    assert_place(&rt, &fault, b"a.ch", 1)
+    assert_counting(&rt, &fault);
+    assert_place(&rt, &fault)
 }
 
 // Into so little room goes the front of the line that fits.
-fn assert_cut_off(rt: &impl Abort, fault: &Fault, line: &[u8; 29], room: usize)
-    requires { room < 29 }
-{
-    let mut bytes = [0u8; 29];
-    let mut sink = IoSink::new(&mut bytes[..room]);
+fn assert_cut_off(rt: &impl Abort, alloc: Global, fault: &Fault, line: &[u8], room: usize) {
+    let mut sink = MemorySink::new(alloc, room);
     let written = write_fault(fault, &mut sink);
     assert_eq!(rt; written, Err(WriteFault(room as u128)));
     assert_eq!(rt; sink.failures(), 1);
-    assert!(rt; bytes[..room] == line[..room]);
+    assert!(rt; sink.bytes().len() == room && line.starts_with(sink.bytes()));
 }
 
 #[test]
@@ -213,8 +211,24 @@ fn a_fault_line_cut_off_after_each_byte(rt: HostRuntime) -> Result<(), Fail> {
     let alloc = rt.alloc();
     let fault = Fault::about(alloc, FaultKind::Undefined, b"a.w", 7, b"n")?;
     for room in 0..29 {
-        assert_cut_off(&rt, &fault, b"a.w:7: error: undefined: <n>\n", room);
+        assert_cut_off(&rt, alloc, &fault, b"a.w:7: error: undefined: <n>\n", room);
     }
+    Ok(())
+}
+
+// Into three bytes of a program's memory go the first three of the line.
+fn assert_front(rt: &impl Abort, fault: &Fault) {
+    let mut bytes = [0u8; 3];
+    let mut sink = IoSink::new(bytes.as_mut_slice());
+    let written = write_fault(fault, &mut sink);
+    assert_eq!(rt; written, Err(WriteFault(3)));
+    assert!(rt; bytes == *b"a.w");
+}
+
+#[test]
+fn a_fault_line_in_a_short_slice(rt: HostRuntime) -> Result<(), Fail> {
+    let fault = Fault::about(rt.alloc(), FaultKind::Undefined, b"a.w", 7, b"n")?;
+    assert_front(&rt, &fault);
     Ok(())
 }
 
@@ -235,9 +249,10 @@ impl Write for Stuck {
 #[test]
 fn a_failed_flush_is_a_failure(rt: HostRuntime) -> Result<(), Fail> {
     let mut sink = IoSink::new(Stuck);
-    assert_eq!(rt; put(&mut sink, Ok(0), b"kept back"), Ok(9));
-    assert_eq!(rt; sink.failures(), 0);
+    let written = put(&mut sink, Ok(0), b"kept back");
+    let failures = sink.failures();
     sink.flush();
-    assert_eq!(rt; sink.failures(), 1);
+    assert_eq!(rt; written, Ok(9));
+    assert_eq!(rt; (failures, sink.failures()), (0, 1));
     Ok(())
 }

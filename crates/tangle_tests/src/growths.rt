@@ -1,23 +1,21 @@
 //! Each growth of a call refused in turn: the call says so, and leaves its object as it was.
-ghost use Rattle.std.specs.Prelude.{◌≡◌, ◌<◌, ◌^◌, true};
+ghost use Rattle.std.specs.Prelude.{◌≡◌, true};
 ghost use Rattle.tangle_lines.specs.Roles.{fits};
 
-use crate::section_names::assert_names;
 use crate::support::{AMPLE, check_only_output, files_with, folder_with, read, web_of};
-use ctangle_cli::{MemoryFolder, MemorySink, run_ctangle};
+use ctangle_cli::run_ctangle;
 use std::alloc::Global;
 use std::process::Abort;
 use std::test::Fail;
+use tangle_folders::{MemoryFolder, MemorySink};
 use tangle_lines::{Files, NoMemory, Refusal, Roles, Source, read_source};
 use tangle_names::NameTable;
-use tangle_scan::scan;
+use tangle_scan::{Web, scan};
 
 // Refuses the nth growth from here on, none at 0, where the harness of `tests/` stands before the allocator, and says
 // whether it does. Without it no memory is so large, and nothing is refused.
-fn refuse_growth(alloc: Global, nth: usize) -> bool
-    requires { nth < 2 ^ 32 }
-{
-    Vec::<u8>::with_capacity(alloc, (1 << 62) + nth).is_ok()
+fn refuse_growth(alloc: Global, nth: u32) -> bool {
+    Vec::<u8>::with_capacity(alloc, (1 << 62) + nth as usize).is_ok()
 }
 
 // Ends the refusals, and says whether the last one never came.
@@ -27,44 +25,52 @@ fn end_refusals(alloc: Global, is_harnessed: bool) -> bool {
     is_waiting || !is_harnessed
 }
 
+// Adds a file with this growth refused, and says whether none was.
+fn addition_is_spared(rt: &impl Abort, alloc: Global, files: &mut Files, nth: u32) -> bool {
+    let is_harnessed = refuse_growth(alloc, nth);
+    let added = files.add(b"a.w", b"@ A.\n@c\n\nint x;");
+    let was_spared = end_refusals(alloc, is_harnessed);
+    let wanted = if was_spared {
+        Ok(())
+    } else {
+        Err(Refusal::NoMemory)
+    };
+    assert_eq!(rt; added, wanted);
+    assert_eq!(rt; files.count(), usize::from(was_spared));
+    assert_eq!(rt; files.lines(b"a.w").is_some(), was_spared);
+    was_spared
+}
+
 #[test]
 fn each_growth_of_add_refused(rt: HostRuntime) -> Result<(), Fail> {
-    let alloc = rt.alloc();
-    let is_harnessed = refuse_growth(alloc, 0);
-    let mut files = Files::new(alloc);
-    for nth in 1..100u32 {
-        refuse_growth(alloc, nth as usize);
-        let added = files.add(b"a.w", b"@ A.\n@c\n\nint x;");
-        let was_spared = end_refusals(alloc, is_harnessed);
-        if was_spared {
-            assert_eq!(rt; added, Ok(()));
-            assert_eq!(rt; files.count(), 1);
+    let mut files = Files::new(rt.alloc());
+    for nth in 1..100 {
+        if addition_is_spared(&rt, rt.alloc(), &mut files, nth) {
             return Ok(());
         }
-        assert_eq!(rt; added, Err(Refusal::NoMemory));
-        assert_eq!(rt; files.count(), 0);
-        assert!(rt; files.lines(b"a.w").is_none());
     }
     Err(Fail::from("never added"))
 }
 
+// Makes roles with this growth refused, and says whether none was.
+fn roles_are_spared(rt: &impl Abort, alloc: Global, nth: u32) -> bool {
+    let is_harnessed = refuse_growth(alloc, nth);
+    let refusal = Roles::new(alloc, b"a.w", Some(b"a.ch"), b"a.c").err();
+    let was_spared = end_refusals(alloc, is_harnessed);
+    let wanted = if was_spared {
+        None
+    } else {
+        Some(Refusal::NoMemory)
+    };
+    assert_eq!(rt; refusal, wanted);
+    was_spared
+}
+
 #[test]
 fn each_growth_of_roles_refused(rt: HostRuntime) -> Result<(), Fail> {
-    let alloc = rt.alloc();
-    let is_harnessed = refuse_growth(alloc, 0);
-    for nth in 1..100u32 {
-        refuse_growth(alloc, nth as usize);
-        let roles = Roles::new(alloc, b"a.w", Some(b"a.ch"), b"a.c");
-        let was_spared = end_refusals(alloc, is_harnessed);
-        match roles {
-            Ok(_) => {
-                assert!(rt; was_spared);
-                return Ok(());
-            }
-            Err(refusal) => {
-                assert!(rt; !was_spared);
-                assert_eq!(rt; refusal, Refusal::NoMemory);
-            }
+    for nth in 1..100 {
+        if roles_are_spared(&rt, rt.alloc(), nth) {
+            return Ok(());
         }
     }
     Err(Fail::from("never made"))
@@ -76,34 +82,34 @@ fn count_faults(alloc: Global, files: &Files, roles: &Roles) -> Result<usize, No
     Ok(read_source(alloc, files, roles)?.faults().len())
 }
 
+// Reads these files with this growth refused, and says whether none was.
+fn reading_is_spared(rt: &impl Abort, alloc: Global, files: &Files, roles: &Roles, nth: u32) -> bool
+    requires { fits files.now roles.now ≡ true }
+{
+    let is_harnessed = refuse_growth(alloc, nth);
+    let faults = count_faults(alloc, files, roles);
+    let was_spared = end_refusals(alloc, is_harnessed);
+    assert_eq!(rt; matches!(faults, Ok(count) if count > 4), was_spared);
+    was_spared
+}
+
+// A web that includes itself, and a change file with faults.
+fn faulty_files(alloc: Global) -> Result<Files, Fail> {
+    let web = b"@i\n@i none.w\n@i a.w\nint a;\nint b;\n";
+    let change = b"@z\n@x\nint a;\nint c;\n@y\nint z;\n@x\nno\n@y\n";
+    files_with(alloc, &[(b"a.w", web), (b"a.ch", change)])
+}
+
 #[test]
 fn each_growth_of_reading_refused(rt: HostRuntime) -> Result<(), Fail> {
-    let alloc = rt.alloc();
-    let is_harnessed = refuse_growth(alloc, 0);
-    let change = b"@z\n@x\nint a;\nint c;\n@y\nint z;\n@x\nno\n@y\n";
-    let files = [
-        (
-            b"a.w".as_slice(),
-            b"@i\n@i none.w\n@i a.w\nint a;\nint b;\n".as_slice(),
-        ),
-        (b"a.ch", change),
-    ];
-    let files = files_with(alloc, &files)?;
-    let roles = Roles::new(alloc, b"a.w", Some(b"a.ch"), b"a.c")?;
+    let files = faulty_files(rt.alloc())?;
+    let roles = Roles::new(rt.alloc(), b"a.w", Some(b"a.ch"), b"a.c")?;
     if !roles.fits(&files) {
         return Err(Fail::from("a file of the roles is not there"));
     }
-    for nth in 1..1000u32 {
-        refuse_growth(alloc, nth as usize);
-        let faults = count_faults(alloc, &files, &roles);
-        let was_spared = end_refusals(alloc, is_harnessed);
-        match faults {
-            Ok(count) => {
-                assert!(rt; was_spared);
-                assert!(rt; count > 4);
-                return Ok(());
-            }
-            Err(NoMemory) => assert!(rt; !was_spared),
+    for nth in 1..1000 {
+        if reading_is_spared(&rt, rt.alloc(), &files, &roles, nth) {
+            return Ok(());
         }
     }
     Err(Fail::from("never read"))
@@ -113,46 +119,49 @@ fn count_pieces(alloc: Global, source: &Source) -> Result<usize, NoMemory> {
     Ok(scan(alloc, source)?.pieces().len())
 }
 
+// Scans a source of two pieces with this growth refused, and says whether none was.
+fn scanning_is_spared(rt: &impl Abort, alloc: Global, source: &Source, nth: u32) -> bool {
+    let is_harnessed = refuse_growth(alloc, nth);
+    let pieces = count_pieces(alloc, source);
+    let was_spared = end_refusals(alloc, is_harnessed);
+    assert_eq!(rt; matches!(pieces, Ok(2)), was_spared);
+    was_spared
+}
+
 #[test]
 fn each_growth_of_scan_refused(rt: HostRuntime) -> Result<(), Fail> {
-    let alloc = rt.alloc();
-    let is_harnessed = refuse_growth(alloc, 0);
     let text = b"@ A.\n@d N 10\n@d 3\n@c\n@h\nint x@&\n=N;@d\n@<u@>\n@ @<u@>=\n1\n";
-    let files = files_with(alloc, &[(b"a.w", text)])?;
-    let source = read(alloc, &files, None)?;
-    for nth in 1..1000u32 {
-        refuse_growth(alloc, nth as usize);
-        let pieces = count_pieces(alloc, &source);
-        let was_spared = end_refusals(alloc, is_harnessed);
-        match pieces {
-            Ok(count) => {
-                assert!(rt; was_spared);
-                assert_eq!(rt; count, 2);
-                return Ok(());
-            }
-            Err(NoMemory) => assert!(rt; !was_spared),
+    let files = files_with(rt.alloc(), &[(b"a.w", text)])?;
+    let source = read(rt.alloc(), &files, None)?;
+    for nth in 1..1000 {
+        if scanning_is_spared(&rt, rt.alloc(), &source, nth) {
+            return Ok(());
         }
     }
     Err(Fail::from("never scanned"))
 }
 
+fn count_names(alloc: Global, web: &Web) -> Result<(usize, usize), NoMemory> {
+    let table = NameTable::build(alloc, web)?;
+    Ok((table.count(), table.faults().len()))
+}
+
+// Builds the table of a web of four names and three faults with this growth refused, and says whether none was.
+fn building_is_spared(rt: &impl Abort, alloc: Global, web: &Web, nth: u32) -> bool {
+    let is_harnessed = refuse_growth(alloc, nth);
+    let names = count_names(alloc, web);
+    let was_spared = end_refusals(alloc, is_harnessed);
+    assert_eq!(rt; matches!(names, Ok((4, 3))), was_spared);
+    was_spared
+}
+
 #[test]
 fn each_growth_of_build_refused(rt: HostRuntime) -> Result<(), Fail> {
-    let alloc = rt.alloc();
-    let is_harnessed = refuse_growth(alloc, 0);
-    let web = web_of(alloc, b"@ A.\n@c\n@<a...@>@<a@>@<ab@>@<c...@>@<b@>@(d@>\n")?;
-    for nth in 1..1000u32 {
-        refuse_growth(alloc, nth as usize);
-        let table = NameTable::build(alloc, &web);
-        let was_spared = end_refusals(alloc, is_harnessed);
-        match table {
-            Ok(table) => {
-                assert!(rt; was_spared);
-                assert_names(&rt, &table, &[b"a", b"ab", b"b", b"d"]);
-                assert_eq!(rt; table.faults().len(), 3);
-                return Ok(());
-            }
-            Err(NoMemory) => assert!(rt; !was_spared),
+    let text = b"@ A.\n@c\n@<a...@>@<a@>@<ab@>@<c...@>@<b@>@(d@>\n";
+    let web = web_of(rt.alloc(), text)?;
+    for nth in 1..1000 {
+        if building_is_spared(&rt, rt.alloc(), &web, nth) {
+            return Ok(());
         }
     }
     Err(Fail::from("never built"))
@@ -160,6 +169,18 @@ fn each_growth_of_build_refused(rt: HostRuntime) -> Result<(), Fail> {
 
 const OUTPUT: &[u8] =
     b"/*1:*/\n#line 2 \"a.w\"\n\n#line 4 \"a.ch\"\nint z;\n#line 1 \"b.w\"\nint b;\n/*:1*/\n";
+
+// A folder with a web, its change file and an included file.
+fn folder_of_three(alloc: Global) -> Result<MemoryFolder, Fail> {
+    let web = b"@ A.\n@c\nint a;\n@i b.w\n@i n.w\n";
+    let change = b"@x\nint a;\n@y\nint z;\n@z\n";
+    let files = [
+        (b"a.w".as_slice(), web.as_slice()),
+        (b"a.ch", change),
+        (b"b.w", b"int b;\n"),
+    ];
+    folder_with(alloc, &files)
+}
 
 // Each file that was created is the main file, or a front of it.
 fn assert_fronts(rt: &impl Abort, folder: &MemoryFolder) {
@@ -169,22 +190,24 @@ fn assert_fronts(rt: &impl Abort, folder: &MemoryFolder) {
     }
 }
 
+// Runs with this growth refused, and gives the status, and whether none was.
+fn run_without(
+    alloc: Global,
+    folder: &mut MemoryFolder,
+    err: &mut MemorySink,
+    nth: u32,
+) -> (u8, bool) {
+    let words = [b"a".as_slice(), b"a"];
+    let is_harnessed = refuse_growth(alloc, nth);
+    let status = run_ctangle(alloc, &words, folder, err);
+    (status, end_refusals(alloc, is_harnessed))
+}
+
 // Runs with this growth refused, and says whether none was.
 fn run_is_spared(rt: &impl Abort, alloc: Global, nth: u32) -> Result<bool, Fail> {
-    let files = [
-        (
-            b"a.w".as_slice(),
-            b"@ A.\n@c\nint a;\n@i b.w\n@i n.w\n".as_slice(),
-        ),
-        (b"a.ch", b"@x\nint a;\n@y\nint z;\n@z\n"),
-        (b"b.w", b"int b;\n"),
-    ];
-    let mut folder = folder_with(alloc, &files)?;
+    let mut folder = folder_of_three(alloc)?;
     let mut err = MemorySink::new(alloc, AMPLE);
-    let words = [b"a".as_slice(), b"a"];
-    let is_harnessed = refuse_growth(alloc, nth as usize);
-    let status = run_ctangle(alloc, &words, &mut folder, &mut err);
-    let was_spared = end_refusals(alloc, is_harnessed);
+    let (status, was_spared) = run_without(alloc, &mut folder, &mut err, nth);
     assert_eq!(rt; status, if was_spared { 1 } else { 3 });
     assert_fronts(rt, &folder);
     if was_spared {
@@ -197,7 +220,7 @@ fn run_is_spared(rt: &impl Abort, alloc: Global, nth: u32) -> Result<bool, Fail>
 
 #[test]
 fn each_growth_of_a_run_refused(rt: HostRuntime) -> Result<(), Fail> {
-    for nth in 1..1000u32 {
+    for nth in 1..1000 {
         if run_is_spared(&rt, rt.alloc(), nth)? {
             return Ok(());
         }

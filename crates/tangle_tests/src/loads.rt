@@ -1,24 +1,33 @@
 //! Which files a run asks the folder for, and in which order.
 use crate::support::{AMPLE, folder_with, run};
-use ctangle_cli::{LoadFault, MemoryFolder, MemorySink, load, read_words, write_load};
+use ctangle_cli::{LoadFault, load, read_words, write_load};
 use std::alloc::Global;
 use std::process::Abort;
 use std::test::Fail;
+use tangle_folders::{MemoryFolder, MemorySink};
 use tangle_lines::{Refusal, Sink};
 
+// The names that the folder was asked for, each on a line.
+fn lines_asked(alloc: Global, folder: &MemoryFolder) -> Result<Vec<u8>, Fail> {
+    let mut lines = Vec::new(alloc);
+    for name in folder.asked() {
+        lines.extend_from_slice(name.as_slice())?;
+        lines.push(b'\n')?;
+    }
+    Ok(lines)
+}
+
+// A run over these files asks for these names, each on a line.
 fn check_asked(
     rt: &impl Abort,
     alloc: Global,
     words: &[u8],
     files: &[(&[u8], &[u8])],
-    asked: &[&[u8]],
+    names: &[u8],
 ) -> Result<(), Fail> {
     let mut folder = folder_with(alloc, files)?;
     run(alloc, words, &mut folder)?;
-    assert_eq!(rt; folder.asked().len(), asked.len());
-    for (name, wanted) in folder.asked().iter().zip(asked) {
-        assert_eq!(rt; name.as_slice(), *wanted);
-    }
+    assert!(rt; lines_asked(alloc, &folder)?.as_slice() == names);
     Ok(())
 }
 
@@ -37,7 +46,7 @@ fn files_are_asked_for_round_by_round(rt: HostRuntime) -> Result<(), Fail> {
             (b"c.w", b""),
             (b"d.w", b""),
         ],
-        &[b"a.w", b"a.ch", b"b.w", b"c.w", b"d.w"],
+        b"a.w\na.ch\nb.w\nc.w\nd.w\n",
     )
 }
 
@@ -54,7 +63,7 @@ fn each_name_is_asked_for_once(rt: HostRuntime) -> Result<(), Fail> {
             (b"b.w", b"@i none.w\n@i c.w\n"),
             (b"c.w", b""),
         ],
-        &[b"a.w", b"none.w", b"b.w", b"c.w"],
+        b"a.w\nnone.w\nb.w\nc.w\n",
     )?;
     // A file that the table has is not loaded again: one that includes itself, a web that is its own change file.
     check_asked(
@@ -62,28 +71,31 @@ fn each_name_is_asked_for_once(rt: HostRuntime) -> Result<(), Fail> {
         alloc,
         b"a",
         &[(b"a.w", b"@i b.w\n@i b.w\n"), (b"b.w", b"@i a.w\n@i b.w\n")],
-        &[b"a.w", b"b.w"],
+        b"a.w\nb.w\n",
     )?;
     check_asked(
         &rt,
         alloc,
         b"a a.w",
         &[(b"a.w", b"@x\ny\n@y\n@z\n")],
-        &[b"a.w"],
+        b"a.w\n",
     )
+}
+
+// A run over a web that includes a name of so many bytes: its status, and how many names the folder was asked for.
+fn run_with_a_name_of(alloc: Global, length: u16) -> Result<(u8, usize), Fail> {
+    let mut web = Vec::from_slice(alloc, b"@i ")?;
+    web.resize(3 + usize::from(length), b'n')?;
+    let mut folder = folder_with(alloc, &[(b"a.w", web.as_slice())])?;
+    let (status, _) = run(alloc, b"a", &mut folder)?;
+    Ok((status, folder.asked().len()))
 }
 
 #[test]
 fn long_name_of_an_inclusion_is_not_asked_for(rt: HostRuntime) -> Result<(), Fail> {
     let alloc = rt.alloc();
-    for (length, asked) in [(255, 2), (256, 1)] {
-        let mut web = Vec::from_slice(alloc, b"@i ")?;
-        web.resize(3 + length, b'n')?;
-        let mut folder = folder_with(alloc, &[(b"a.w", web.as_slice())])?;
-        let (status, _) = run(alloc, b"a", &mut folder)?;
-        assert_eq!(rt; status, 1);
-        assert_eq!(rt; folder.asked().len(), asked);
-    }
+    assert_eq!(rt; run_with_a_name_of(alloc, 255)?, (1, 2));
+    assert_eq!(rt; run_with_a_name_of(alloc, 256)?, (1, 1));
     Ok(())
 }
 
@@ -110,21 +122,19 @@ fn load_many(alloc: Global, all: bool) -> Result<Result<usize, LoadFault>, Fail>
     Ok(load(alloc, &words, &mut folder).map(|(files, _)| files.count()))
 }
 
+// The line of this fault is these bytes.
+fn assert_load_line(rt: &impl Abort, alloc: Global, fault: &LoadFault, line: &[u8]) {
+    let mut err = MemorySink::new(alloc, AMPLE);
+    let written = write_load(b"ctangle", fault, &mut err);
+    assert_eq!(rt; written, Ok(line.len() as u128));
+    assert!(rt; err.bytes() == line);
+}
+
 #[test]
 fn too_many_files(rt: HostRuntime) -> Result<(), Fail> {
     let alloc = rt.alloc();
-    match load_many(alloc, false)? {
-        Ok(count) => assert_eq!(rt; count, 256),
-        Err(_) => assert!(rt; false),
-    }
-    match load_many(alloc, true)? {
-        Ok(_) => assert!(rt; false),
-        Err(fault) => {
-            let mut err = MemorySink::new(alloc, AMPLE);
-            let written = write_load(b"ctangle", &fault, &mut err);
-            assert_eq!(rt; written, Ok(27));
-            assert_eq!(rt; err.bytes(), b"ctangle: fpp: TooManyFiles\n".as_slice());
-        }
-    }
+    assert!(rt; matches!(load_many(alloc, false)?, Ok(256)));
+    let fault = load_many(alloc, true)?.err().ok_or("too many files")?;
+    assert_load_line(&rt, alloc, &fault, b"ctangle: fpp: TooManyFiles\n");
     Ok(())
 }

@@ -5,7 +5,7 @@ use crate::support::{files_with, read};
 use std::alloc::Global;
 use std::process::Abort;
 use std::test::Fail;
-use tangle_lines::{Origin, Roles, Source};
+use tangle_lines::{Files, Origin, Roles, Source};
 
 #[test]
 fn reading_stops_at_two_million_lines(rt: HostRuntime) -> Result<(), Fail> {
@@ -39,20 +39,24 @@ fn assert_changed(rt: &impl Abort, source: &Source) {
     assert!(rt; source.file_name(source.origin(1)) == b"a.ch".as_slice());
 }
 
-#[test]
-fn a_change_across_the_end_of_an_included_file(rt: HostRuntime) -> Result<(), Fail> {
-    let alloc = rt.alloc();
+// A web, the file that it includes, and a change whose old lines begin there and go on behind the inclusion.
+fn files_with_a_change(alloc: Global) -> Result<Files, Fail> {
     let change = b"@x\nint a;\nint b;\ny\n@y\nint z;\n@z\n@x\nno\n@y\n@z\n";
     let files = [
         (b"a.w".as_slice(), b"@ A.\n@i b.w\nint b;\nx\n".as_slice()),
         (b"b.w", b"int a;\n"),
         (b"a.ch", change),
     ];
-    let files = files_with(alloc, &files)?;
+    files_with(alloc, &files)
+}
+
+#[test]
+fn a_change_across_the_end_of_an_included_file(rt: HostRuntime) -> Result<(), Fail> {
+    let alloc = rt.alloc();
+    let files = files_with_a_change(alloc)?;
     let source = read(alloc, &files, Some(b"a.ch"))?;
     assert_eq!(rt; source.count(), 2);
-    assert!(rt; source.line(0) == b"@ A.".as_slice());
-    assert!(rt; !source.is_marked(0));
+    assert!(rt; source.line(0) == b"@ A.".as_slice() && !source.is_marked(0));
     assert_changed(&rt, &source);
     let lines =
         b"a.ch:1: error: old lines that do not match: 1\na.ch:8: error: change never used\n";

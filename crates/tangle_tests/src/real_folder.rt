@@ -1,8 +1,9 @@
 //! The real folder.
 use crate::support::AMPLE;
-use ctangle_cli::{Disk, Folder, FolderFault, MemorySink, run_ctangle};
+use ctangle_cli::run_ctangle;
 use std::fs;
 use std::test::Fail;
+use tangle_folders::{Disk, Folder, FolderFault, MemorySink};
 
 #[test]
 fn run_over_the_disk(rt: HostRuntime) -> Result<(), Fail> {

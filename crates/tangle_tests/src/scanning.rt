@@ -10,7 +10,7 @@ use tangle_scan::{Item, Occurrence, OccurrenceRole, Web};
 
 // Webs, and what they are: sections, macros, pieces, names and faults. An item is its kind with its text: `w` a word, `s` a sign, `q` quoted, `v` verbatim,
 // `_` a blank, `/` a line end.
-const WEBS: [(&[u8], &[u8]); 10] = [
+const WEBS: [(&[u8], &[u8]); 11] = [
     // Definitions, and their use.
     (
         b"@ A.\n@d N 10\n@c\n@h\nint x=N;\n",
@@ -64,6 +64,15 @@ const WEBS: [(&[u8], &[u8]); 10] = [
         b"@ A.\n@c\ns=\"a\\\nb\";@=u@@v@>\n#include <p@@q>\n",
         b"1 sections\n\
           1 at 2 / w:s s:= q:\"a\\ break q:b\" s:; v:u@ v:v / s:# w:include _ q:<p@ q:q> / \n",
+    ),
+    // A name, used and defined.
+    (
+        b"@ A.\n@c\nint x=@<v@>;\n@ @<v@>=\n1\n",
+        b"2 sections\n\
+          1 at 2 / w:int _ w:x s:= use:0 mark:a.w:3 s:; / \n\
+          2 at 4 named 1 / w:1 / \n\
+          use at 3: v\n\
+          definition at 4: v\n",
     ),
     // Mentions and uses of names, one that looks like a definition, and one that does not end.
     (
@@ -178,20 +187,31 @@ fn show_pieces(alloc: Global, shown: &mut Vec<u8>, web: &Web) -> Result<(), Fail
     Ok(())
 }
 
-/// What a web is, each part on a line.
-fn show_web(alloc: Global, web: &Web) -> Result<Vec<u8>, Fail> {
-    let mut shown = Vec::new(alloc);
+/// Writes how many sections a web has, and whether it shows the macros itself.
+fn show_sections(alloc: Global, shown: &mut Vec<u8>, web: &Web) -> Result<(), Fail> {
     shown.extend_from_slice(format!(in alloc; "{} sections", web.section_count())?.as_bytes())?;
     if web.has_defs_code() {
         shown.extend_from_slice(b" with @h")?;
     }
     shown.push(b'\n')?;
+    Ok(())
+}
+
+fn show_occurrences(alloc: Global, shown: &mut Vec<u8>, web: &Web) -> Result<(), Fail> {
+    for name in web.occurrences() {
+        show_occurrence(alloc, shown, name)?;
+    }
+    Ok(())
+}
+
+/// What a web is, each part on a line.
+fn show_web(alloc: Global, web: &Web) -> Result<Vec<u8>, Fail> {
+    let mut shown = Vec::new(alloc);
+    show_sections(alloc, &mut shown, web)?;
     show_macros(alloc, &mut shown, web)?;
     show_pieces(alloc, &mut shown, web)?;
-    for name in web.occurrences() {
-        show_occurrence(alloc, &mut shown, name)?;
-    }
-    shown.extend_from_slice(&lines_of(alloc, web.faults())?)?;
+    show_occurrences(alloc, &mut shown, web)?;
+    shown.extend_from_slice(lines_of(alloc, web.faults())?.bytes())?;
     Ok(shown)
 }
 

@@ -1,9 +1,10 @@
 //! Runs that end with status 2 or 3: the line on standard error, and the files that stand.
-use crate::support::{AMPLE, check_only_output, folder_with, run, words_in};
-use ctangle_cli::{FILE_LIMIT, MemoryFolder, MemorySink, run_ctangle};
+use crate::files::repeated;
+use crate::support::{check_only_output, folder_with, run, run_telling};
 use std::alloc::Global;
 use std::process::Abort;
 use std::test::Fail;
+use tangle_folders::{FILE_LIMIT, MemoryFolder};
 
 const WEB: &[u8] = b"@ A.\n@c\nint x;\n";
 
@@ -12,15 +13,13 @@ fn check_stop(
     rt: &impl Abort,
     alloc: Global,
     words: &[u8],
-    folder: MemoryFolder,
+    mut folder: MemoryFolder,
     line: &[u8],
     status: u8,
 ) -> Result<(), Fail> {
-    let mut folder = folder;
     let (answer, err) = run(alloc, words, &mut folder)?;
-    assert_eq!(rt; err.bytes(), line);
-    assert_eq!(rt; answer, status);
-    assert_eq!(rt; folder.created().len(), 0);
+    assert!(rt; err.bytes() == line);
+    assert_eq!(rt; (answer, folder.created().len()), (status, 0));
     Ok(())
 }
 
@@ -40,7 +39,7 @@ fn misused_words(rt: HostRuntime) -> Result<(), Fail> {
 }
 
 #[test]
-fn files_that_are_not_loaded(rt: HostRuntime) -> Result<(), Fail> {
+fn files_that_are_missing(rt: HostRuntime) -> Result<(), Fail> {
     let alloc = rt.alloc();
     check_stop(
         &rt,
@@ -57,16 +56,32 @@ fn files_that_are_not_loaded(rt: HostRuntime) -> Result<(), Fail> {
         folder_with(alloc, &[(b"a.w", WEB)])?,
         b"ctangle: cannot read b.ch\n",
         3,
-    )?;
-    let long = Vec::from_elem(alloc, b'x', 65_536)?;
+    )
+}
+
+// A run over a web that includes `b.w` with so many of one byte stops with this line.
+fn check_full(
+    rt: &impl Abort,
+    alloc: Global,
+    byte: u8,
+    count: usize,
+    line: &[u8],
+) -> Result<(), Fail> {
+    let full = repeated(alloc, byte, count)?;
+    let folder = folder_with(alloc, &[(b"a.w", b"@i b.w\n"), (b"b.w", full.as_slice())])?;
+    check_stop(rt, alloc, b"a", folder, line, 3)
+}
+
+#[test]
+fn files_over_a_limit(rt: HostRuntime) -> Result<(), Fail> {
+    let alloc = rt.alloc();
+    let long = repeated(alloc, b'x', 65_536)?;
     let folder = folder_with(alloc, &[(b"a.w", long.as_slice())])?;
     check_stop(&rt, alloc, b"a", folder, b"ctangle: a.w: LineTooLong\n", 3)?;
-    let many = Vec::from_elem(alloc, b'\n', 1_000_001)?;
-    let folder = folder_with(alloc, &[(b"a.w", b"@i b.w\n"), (b"b.w", many.as_slice())])?;
-    check_stop(&rt, alloc, b"a", folder, b"ctangle: b.w: TooManyLines\n", 3)?;
-    let big = Vec::from_elem(alloc, b' ', FILE_LIMIT + 1)?;
-    let folder = folder_with(alloc, &[(b"a.w", b"@i b.w\n"), (b"b.w", big.as_slice())])?;
-    check_stop(&rt, alloc, b"a", folder, b"ctangle: cannot read b.w\n", 3)
+    let many = b"ctangle: b.w: TooManyLines\n";
+    check_full(&rt, alloc, b'\n', 1_000_001, many)?;
+    let big = b"ctangle: cannot read b.w\n";
+    check_full(&rt, alloc, b' ', FILE_LIMIT + 1, big)
 }
 
 #[test]
@@ -111,13 +126,12 @@ fn names_are_tested_before_files_are_read(rt: HostRuntime) -> Result<(), Fail> {
 fn check_cut_short(
     rt: &impl Abort,
     alloc: Global,
-    folder: MemoryFolder,
+    mut folder: MemoryFolder,
     bytes: &[u8],
 ) -> Result<(), Fail> {
-    let mut folder = folder;
     let (status, err) = run(alloc, b"a", &mut folder)?;
     assert_eq!(rt; status, 3);
-    assert_eq!(rt; err.bytes(), b"ctangle: cannot write a.c\n".as_slice());
+    assert!(rt; err.bytes() == b"ctangle: cannot write a.c\n".as_slice());
     check_only_output(rt, &folder, bytes);
     Ok(())
 }
@@ -147,24 +161,24 @@ fn output_on_a_full_disk(rt: HostRuntime) -> Result<(), Fail> {
     check_cut_short(&rt, alloc, folder, b"/*1:*/\n")
 }
 
+// A run whose error stream takes three bytes ends with 3, has told these, and creates no file.
+fn check_short_stream(
+    rt: &impl Abort,
+    alloc: Global,
+    words: &[u8],
+    told: &[u8],
+) -> Result<(), Fail> {
+    let change = b"@x\nint x;\nint c;\n@y\nint z;\n@z\n";
+    let mut folder = folder_with(alloc, &[(b"a.w", WEB), (b"a.ch", change)])?;
+    let (status, err) = run_telling(alloc, words, &mut folder, 3)?;
+    assert!(rt; err.bytes() == told);
+    assert_eq!(rt; (status, folder.created().len()), (3, 0));
+    Ok(())
+}
+
 #[test]
 fn error_stream_that_fails(rt: HostRuntime) -> Result<(), Fail> {
-    let alloc = rt.alloc();
-    let change = b"@x\nint x;\nint c;\n@y\nint z;\n@z\n";
-    for (words, told) in [
-        (b"a a".as_slice(), b"a.c".as_slice()),
-        (b"a b".as_slice(), b"cta".as_slice()),
-        (b"-x".as_slice(), b"usa".as_slice()),
-    ] {
-        let mut folder = folder_with(alloc, &[(b"a.w", WEB), (b"a.ch", change)])?;
-        let mut err = MemorySink::new(alloc, 3);
-        let words = words_in(alloc, words)?;
-        assert_eq!(rt;
-            run_ctangle(alloc, words.as_slice(), &mut folder, &mut err),
-            3
-        );
-        assert_eq!(rt; err.bytes(), told);
-        assert_eq!(rt; folder.created().len(), 0);
-    }
-    Ok(())
+    check_short_stream(&rt, rt.alloc(), b"a a", b"a.c")?;
+    check_short_stream(&rt, rt.alloc(), b"a b", b"cta")?;
+    check_short_stream(&rt, rt.alloc(), b"-x", b"usa")
 }

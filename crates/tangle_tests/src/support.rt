@@ -1,8 +1,9 @@
 //! What the tests share: files, sources, webs and runs, all in memory.
-use ctangle_cli::{MemoryFolder, MemorySink, run_ctangle};
+use ctangle_cli::run_ctangle;
 use std::alloc::Global;
 use std::process::Abort;
 use std::test::Fail;
+use tangle_folders::{MemoryFolder, MemorySink};
 use tangle_lines::{Files, Roles, Source, read_source};
 use tangle_scan::{Web, scan};
 
@@ -29,7 +30,17 @@ pub(crate) fn run(
     words: &[u8],
     folder: &mut MemoryFolder,
 ) -> Result<(u8, MemorySink), Fail> {
-    let mut err = MemorySink::new(alloc, AMPLE);
+    run_telling(alloc, words, folder, AMPLE)
+}
+
+/// The same, where standard error takes so many bytes.
+pub(crate) fn run_telling(
+    alloc: Global,
+    words: &[u8],
+    folder: &mut MemoryFolder,
+    room: usize,
+) -> Result<(u8, MemorySink), Fail> {
+    let mut err = MemorySink::new(alloc, room);
     let words = words_in(alloc, words)?;
     let status = run_ctangle(alloc, words.as_slice(), folder, &mut err);
     Ok((status, err))
@@ -39,8 +50,8 @@ pub(crate) fn run(
 pub(crate) fn check_only_output(rt: &impl Abort, folder: &MemoryFolder, bytes: &[u8]) {
     let created = folder.created();
     assert_eq!(rt; created.len(), 1);
-    assert_eq!(rt; created[0].name.as_slice(), b"a.c".as_slice());
-    assert_eq!(rt; created[0].bytes.as_slice(), bytes);
+    assert!(rt; created[0].name.as_slice() == b"a.c".as_slice());
+    assert!(rt; created[0].bytes.as_slice() == bytes);
 }
 
 /// A table of these files.

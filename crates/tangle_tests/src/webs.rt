@@ -1,5 +1,5 @@
 //! Runs over webs with macros, quoted texts, codes and section names, byte for byte.
-use crate::support::{check_only_output, folder_with, run};
+use crate::runs::check_run;
 use std::alloc::Global;
 use std::process::Abort;
 use std::test::Fail;
@@ -13,12 +13,7 @@ fn check_web(
     told: &[u8],
     status: u8,
 ) -> Result<(), Fail> {
-    let mut folder = folder_with(alloc, &[(b"a.w", web)])?;
-    let (answer, err) = run(alloc, b"a", &mut folder)?;
-    assert_eq!(rt; err.bytes(), told);
-    assert_eq!(rt; answer, status);
-    check_only_output(rt, &folder, output);
-    Ok(())
+    check_run(rt, alloc, b"a", &[(b"a.w", web)], output, told, status)
 }
 
 #[test]

@@ -1,5 +1,5 @@
 use Rattle.std.proofs.Common.{◌≡◌, take}
-use Rattle.ctangle_cli.specs.Folder.{with_created}
+use Rattle.tangle_folders.specs.Folder.{with_created}
 use Rattle.ctangle_cli.proofs.writing.write_outputs.Given as goal
 
 abbrev pub invariant-loop-at : goal.invariant-loop-at

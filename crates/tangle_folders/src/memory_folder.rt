@@ -1,8 +1,8 @@
 //! A folder in memory, for tests: it tells its files, and can be made to fail.
 ghost use Rattle.std.specs.Prelude.{◌≡◌, ◌≢◌, ℕ, List, [], None, Some, Option, map, option_map, length, OnErr, OnOk};
 ghost use Rattle.std.specs.Option.{option_copied};
-ghost use Rattle.ctangle_cli.specs.Folder.{bytes_of, with_last};
-ghost use Rattle.ctangle_cli.specs.MemoryFolder.{file_of, held_files};
+ghost use Rattle.tangle_folders.specs.Folder.{bytes_of, with_last};
+ghost use Rattle.tangle_folders.specs.MemoryFolder.{file_of, held_files};
 
 use crate::folder::{FILE_LIMIT, Folder, FolderFault};
 use indexmap::IndexMap;

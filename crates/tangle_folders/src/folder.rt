@@ -1,7 +1,7 @@
 //! What a program reads its files from and writes its outputs to.
 ghost use Rattle.std.specs.Prelude.{◌≡◌, ◌≢◌, ◌∷◌, ◌≤◌, [], ℕ, List, Option, IfErr, IfOk, OnOk, OnErr, vec_len};
-ghost use Rattle.ctangle_cli.specs.Folder.{Begins, Closes, ClosesWithin, File, Reads, after_close, after_read, after_refusal, file_limit, with_created};
-ghost use Rattle.ctangle_cli.specs.declared.folder.FolderFault.TheVariants.{NoMemory};
+ghost use Rattle.tangle_folders.specs.Folder.{Begins, Closes, ClosesWithin, File, Reads, after_close, after_read, after_refusal, file_limit, with_created};
+ghost use Rattle.tangle_folders.specs.declared.folder.FolderFault.TheVariants.{NoMemory};
 
 use std::alloc::Global;
 use tangle_lines::Sink;

@@ -1,6 +1,6 @@
 use Rattle.std.proofs.Common.{◌≡◌, ◌+◌, ◌-◌, length, arith, ap}
-use Rattle.ctangle_cli.proofs.MemoryFolderLemmas.{last_set}
-use Rattle.ctangle_cli.proofs.memory_folder.set_last.Goals as goal
+use Rattle.tangle_folders.proofs.MemoryFolderLemmas.{last_set}
+use Rattle.tangle_folders.proofs.memory_folder.set_last.Goals as goal
 
 pub returns-then-count-gt0 : goal.returns-then-count-gt0
 returns-then-count-gt0 c =

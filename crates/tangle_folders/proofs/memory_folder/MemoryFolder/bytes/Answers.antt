@@ -1,6 +1,6 @@
 use Rattle.std.proofs.Common.{refl}
-use Rattle.ctangle_cli.proofs.MemoryFolderLemmas.{bytes_of-entries}
-use Rattle.ctangle_cli.proofs.memory_folder.MemoryFolder.bytes.Goals as goal
+use Rattle.tangle_folders.proofs.MemoryFolderLemmas.{bytes_of-entries}
+use Rattle.tangle_folders.proofs.memory_folder.MemoryFolder.bytes.Goals as goal
 
 pub returns-in-Some : goal.returns-in-Some
 returns-in-Some c = rw (bytes_of-entries, ← c.in-Some.ensures.value, c.as_slice.ensures.value) refl

@@ -1,12 +1,12 @@
 -- A folder: the files that it has, the files that it created, and the count of its failures.
-use Rattle.std.specs.Prelude.{◌≡◌, ◌<◌, ◌⊎◌, ℕ, ◌==◌, if◌then◌else◌, List, [], ◌∷◌, ◌++◌, Option, Some, None, Result, Ok, Err, ⊤, IsSomeAnd, length, take}
+use Rattle.std.specs.Prelude.{◌≡◌, ◌<◌, ℕ, ◌==◌, if◌then◌else◌, List, [], ◌∷◌, ◌++◌, Option, Some, None, Result, Ok, Err, ⊤, IsSomeAnd, length, take}
 use Rattle.std.specs.Map.{lookup}
 use Rattle.std.specs.Str.{bytes_eq}
 use Rattle.std.specs.declared.vec.Vec.{Vec}
 use Rattle.std.specs.Global.{Global}
 use Rattle.tangle_lines.specs.Streams.{one_more_failure}
-use Rattle.ctangle_cli.specs.declared.folder.FolderFault.{FolderFault}
-use Rattle.ctangle_cli.specs.declared.folder.FolderFault.TheVariants.{Missing, Failed, TooBig, NoMemory}
+use Rattle.tangle_folders.specs.declared.folder.FolderFault.{FolderFault}
+use Rattle.tangle_folders.specs.declared.folder.FolderFault.TheVariants.{Missing, Failed, TooBig, NoMemory}
 
 -- a name, and the bytes of the file
 abbrev pub File : Type 0
@@ -77,11 +77,3 @@ after_refusal (Err TooBig) n = one_more_failure n
 abbrev pub after_close : {T : Type 0} → Result T FolderFault → ℕ → ℕ → ℕ
 after_close (Ok done) failures n = if failures == 0 then n else one_more_failure n
 after_close (Err fault) failures n = one_more_failure n
-
--- of this file nothing was created, or it has a front of its bytes
-abbrev pub IsPart : File → List File → Type 0
-IsPart file part = (part ≡ []) ⊎ ((n : ℕ) × (part ≡ (file.0, take n file.1) ∷ []))
-
--- a part of the file was created
-abbrev pub AddsPart : Option (List File) → Option (List File) → File → Type 0
-AddsPart old new file = (part : List File) × IsPart file part × (new ≡ with_created old part)

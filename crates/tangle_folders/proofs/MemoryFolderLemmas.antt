@@ -7,9 +7,9 @@ use Rattle.indexmap.specs.IndexMap.{insert_entry}
 use Rattle.std.proofs.lemmas.Slice.Eq.{bytes_eq-Decides}
 use Rattle.std.specs.declared.vec.Vec.{Vec}
 use Rattle.std.specs.Global.{Global}
-use Rattle.ctangle_cli.specs.Folder.{bytes_of, with_last}
-use Rattle.ctangle_cli.specs.MemoryFolder.{file_of, held_file}
-use Rattle.ctangle_cli.specs.declared.memory_folder.CreatedFile.{CreatedFile}
+use Rattle.tangle_folders.specs.Folder.{bytes_of, with_last}
+use Rattle.tangle_folders.specs.MemoryFolder.{file_of, held_file}
+use Rattle.tangle_folders.specs.declared.memory_folder.CreatedFile.{CreatedFile}
 
 pub last_set : (xs : List CreatedFile) (n : ℕ) (e d : CreatedFile) → length xs ≡ n + 1 → e.name ≡ (slice_index_or xs n d).name
     → map file_of (slice_set xs n e) ≡ with_last (map file_of xs) e.bytes.items

@@ -5,8 +5,8 @@ use Rattle.std.specs.declared.hash.BuildHasherDefault.{BuildHasherDefault}
 use Rattle.std.specs.declared.vec.Vec.{Vec}
 use Rattle.std.specs.Global.{Global}
 use Rattle.indexmap.specs.IndexMap.{IndexMap}
-use Rattle.ctangle_cli.specs.Folder.{File}
-use Rattle.ctangle_cli.specs.declared.memory_folder.CreatedFile.{CreatedFile}
+use Rattle.tangle_folders.specs.Folder.{File}
+use Rattle.tangle_folders.specs.declared.memory_folder.CreatedFile.{CreatedFile}
 
 abbrev pub file_of : CreatedFile → File
 file_of file = (file.name.items, file.bytes.items)

@@ -1,6 +1,6 @@
 use Rattle.std.proofs.Common.{◌∙◌}
-use Rattle.ctangle_cli.proofs.MemoryFolderLemmas.{put_found, put_leaves}
-use Rattle.ctangle_cli.proofs.memory_folder.MemoryFolder.put.Goals as goal
+use Rattle.tangle_folders.proofs.MemoryFolderLemmas.{put_found, put_leaves}
+use Rattle.tangle_folders.proofs.memory_folder.MemoryFolder.put.Goals as goal
 
 pub returns-in-Ok-clause-ok : goal.returns-in-Ok-clause-ok
 returns-in-Ok-clause-ok c =
