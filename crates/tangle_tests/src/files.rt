@@ -21,46 +21,43 @@ fn assert_lines(rt: &impl Abort, files: &Files, name: &[u8], count: usize) -> Re
     Ok(())
 }
 
-#[test]
-fn longest_line(rt: HostRuntime) -> Result<(), Fail> {
-    let alloc = rt.alloc();
-    let longest = repeated(alloc, b'x', 65_535)?;
-    let mut files = files_with(alloc, &[(b"longest", longest.as_slice())])?;
-    assert_lines(&rt, &files, b"longest", 1)?;
-    let long = repeated(alloc, b'x', 65_536)?;
-    assert_refused(
-        &rt,
-        &mut files,
-        b"a.w",
-        long.as_slice(),
-        Refusal::LineTooLong,
-    );
+// A table of one file, with so many of one byte.
+fn one_file(alloc: Global, byte: u8, count: usize) -> Result<Files, Fail> {
+    let bytes = repeated(alloc, byte, count)?;
+    files_with(alloc, &[(b"full", bytes.as_slice())])
+}
+
+// A file `a.w` with so many line feeds, and so many bytes behind them, is refused.
+fn check_refused(
+    rt: &impl Abort,
+    alloc: Global,
+    files: &mut Files,
+    lines: u32,
+    more: u32,
+    refusal: Refusal,
+) -> Result<(), Fail> {
+    let mut bytes = repeated(alloc, b'\n', lines as usize)?;
+    bytes.resize(lines as usize + more as usize, b'x')?;
+    assert_refused(rt, files, b"a.w", bytes.as_slice(), refusal);
     Ok(())
 }
 
 #[test]
+fn longest_line(rt: HostRuntime) -> Result<(), Fail> {
+    let mut files = one_file(rt.alloc(), b'x', 65_535)?;
+    assert_lines(&rt, &files, b"full", 1)?;
+    let long = Refusal::LineTooLong;
+    check_refused(&rt, rt.alloc(), &mut files, 0, 65_536, long)
+}
+
+#[test]
 fn most_lines(rt: HostRuntime) -> Result<(), Fail> {
-    let alloc = rt.alloc();
-    let most = repeated(alloc, b'\n', 1_000_000)?;
-    let mut files = files_with(alloc, &[(b"most", most.as_slice())])?;
-    assert_lines(&rt, &files, b"most", 1_000_000)?;
-    let mut many = repeated(alloc, b'\n', 1_000_001)?;
-    assert_refused(
-        &rt,
-        &mut files,
-        b"a.w",
-        many.as_slice(),
-        Refusal::TooManyLines,
-    );
-    many.resize(1_065_537, b'x')?;
-    assert_refused(
-        &rt,
-        &mut files,
-        b"a.w",
-        many.as_slice(),
-        Refusal::LineTooLong,
-    );
-    Ok(())
+    let mut files = one_file(rt.alloc(), b'\n', 1_000_000)?;
+    assert_lines(&rt, &files, b"full", 1_000_000)?;
+    let many = Refusal::TooManyLines;
+    check_refused(&rt, rt.alloc(), &mut files, 1_000_001, 0, many)?;
+    let long = Refusal::LineTooLong;
+    check_refused(&rt, rt.alloc(), &mut files, 1_000_001, 65_536, long)
 }
 
 fn assert_full(rt: &impl Abort, files: &Files) -> Result<(), Fail> {
@@ -101,20 +98,9 @@ fn most_files(rt: HostRuntime) -> Result<(), Fail> {
     files.add(b"a.w", b"")?;
     assert_full(&rt, &files)?;
     let long = repeated(alloc, b'x', 65_536)?;
-    assert_refused(
-        &rt,
-        &mut files,
-        b"b.w",
-        long.as_slice(),
-        Refusal::TooManyFiles,
-    );
-    assert_refused(
-        &rt,
-        &mut files,
-        b"a.w",
-        long.as_slice(),
-        Refusal::FileExists,
-    );
+    let long = long.as_slice();
+    assert_refused(&rt, &mut files, b"b.w", long, Refusal::TooManyFiles);
+    assert_refused(&rt, &mut files, b"a.w", long, Refusal::FileExists);
     assert!(rt; files.lines(b"b.w").is_none());
     Ok(())
 }

@@ -25,19 +25,25 @@ fn end_refusals(alloc: Global, is_harnessed: bool) -> bool {
     is_waiting || !is_harnessed
 }
 
+// Whether the table has the file; else it has none.
+fn has_file(rt: &impl Abort, files: &Files) -> bool {
+    let has_file = files.lines(b"a.w").is_some();
+    assert_eq!(rt; files.count(), usize::from(has_file));
+    has_file
+}
+
 // Adds a file with this growth refused, and says whether none was.
 fn addition_is_spared(rt: &impl Abort, alloc: Global, files: &mut Files, nth: u32) -> bool {
     let is_harnessed = refuse_growth(alloc, nth);
-    let added = files.add(b"a.w", b"@ A.\n@c\n\nint x;");
+    let refusal = files.add(b"a.w", b"@ A.\n@c\n\nint x;").err();
     let was_spared = end_refusals(alloc, is_harnessed);
     let wanted = if was_spared {
-        Ok(())
+        None
     } else {
-        Err(Refusal::NoMemory)
+        Some(Refusal::NoMemory)
     };
-    assert_eq!(rt; added, wanted);
-    assert_eq!(rt; files.count(), usize::from(was_spared));
-    assert_eq!(rt; files.lines(b"a.w").is_some(), was_spared);
+    assert_eq!(rt; refusal, wanted);
+    assert_eq!(rt; has_file(rt, files), was_spared);
     was_spared
 }
 

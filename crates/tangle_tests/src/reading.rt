@@ -31,6 +31,13 @@ fn roles_of_three_files(rt: HostRuntime) -> Result<(), Fail> {
     Ok(())
 }
 
+// The first of two lines is the web's own.
+fn assert_unchanged(rt: &impl Abort, source: &Source) {
+    assert_eq!(rt; source.count(), 2);
+    assert!(rt; source.line(0) == b"@ A.".as_slice());
+    assert!(rt; !source.is_marked(0));
+}
+
 // The second line is `int z;`, from line 6 of the change file.
 fn assert_changed(rt: &impl Abort, source: &Source) {
     assert!(rt; source.line(1) == b"int z;".as_slice());
@@ -55,8 +62,7 @@ fn a_change_across_the_end_of_an_included_file(rt: HostRuntime) -> Result<(), Fa
     let alloc = rt.alloc();
     let files = files_with_a_change(alloc)?;
     let source = read(alloc, &files, Some(b"a.ch"))?;
-    assert_eq!(rt; source.count(), 2);
-    assert!(rt; source.line(0) == b"@ A.".as_slice() && !source.is_marked(0));
+    assert_unchanged(&rt, &source);
     assert_changed(&rt, &source);
     let lines =
         b"a.ch:1: error: old lines that do not match: 1\na.ch:8: error: change never used\n";

@@ -1,6 +1,6 @@
 //! Runs that end with status 2 or 3: the line on standard error, and the files that stand.
 use crate::files::repeated;
-use crate::support::{check_only_output, folder_with, run, run_telling};
+use crate::support::{check_only_output, folder_with, run, run_with_room};
 use std::alloc::Global;
 use std::process::Abort;
 use std::test::Fail;
@@ -170,7 +170,7 @@ fn check_short_stream(
 ) -> Result<(), Fail> {
     let change = b"@x\nint x;\nint c;\n@y\nint z;\n@z\n";
     let mut folder = folder_with(alloc, &[(b"a.w", WEB), (b"a.ch", change)])?;
-    let (status, err) = run_telling(alloc, words, &mut folder, 3)?;
+    let (status, err) = run_with_room(alloc, words, &mut folder, 3)?;
     assert!(rt; err.bytes() == told);
     assert_eq!(rt; (status, folder.created().len()), (3, 0));
     Ok(())

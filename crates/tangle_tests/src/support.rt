@@ -30,11 +30,11 @@ pub(crate) fn run(
     words: &[u8],
     folder: &mut MemoryFolder,
 ) -> Result<(u8, MemorySink), Fail> {
-    run_telling(alloc, words, folder, AMPLE)
+    run_with_room(alloc, words, folder, AMPLE)
 }
 
 /// The same, where standard error takes so many bytes.
-pub(crate) fn run_telling(
+pub(crate) fn run_with_room(
     alloc: Global,
     words: &[u8],
     folder: &mut MemoryFolder,
