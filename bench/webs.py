@@ -59,3 +59,33 @@ def names(count, as_names=True):
     for number in numbers:
         made += ['@ %sPart %07d of a long list of parts%s' % (opener, number, head), 'part(%d);' % number]
     return made
+
+
+def named_program(lines, parts=1000, files=10):
+    """A program of so many lines in parts with names, which the program and named files use.
+
+    There are at most so many parts, and each tenth begins a named file or the program: it uses those behind it.
+    """
+    size = max(16, lines // parts)
+    made, bodies = [], []
+    while sum(map(len, bodies)) + 4 * len(bodies) < lines:
+        bodies.append(c_program(size - 4, '')[3:] or [''])
+    count = len(bodies)
+    groups = min(files + 1, count)
+    for group in range(groups):
+        members = range(group, count, groups)
+        made += ['@ A file of the program.', '@c' if group == 0 else '@(part%d.h@>=' % group]
+        made += ['@<Part %d of the program@>' % number for number in members]
+    for number, body in enumerate(bodies):
+        made += ['@ Part %d.' % number, '@<Part %d of the program@>=' % number]
+        made += [line for line in body if not line.startswith('@')]
+    return made[:lines]
+
+
+def many_names(sections, names):
+    """So many sections, each a part of one of so many names; the program uses each name."""
+    made = ['@ The program uses each name.', '@c']
+    made += ['@<Name %05d@>' % number for number in range(names)]
+    for number in range(sections - 1):
+        made += ['@ @<Name %05d@>=' % (number % names), 'part(%d);' % number]
+    return made

@@ -1,73 +1,52 @@
-"""Holds a built ctangle against the reference tangler on generated webs, and runs it on webs cut after every byte.
+"""Holds the built programs against the reference tangler of tests/reference.
 
-usage: compare.py generated CTANGLE REFERENCE FIRST COUNT
-       compare.py cut CTANGLE REFERENCE WEB..
+usage: compare.py generated STAGE CTANGLE FIRST COUNT      generated webs, by their seeds
+       compare.py short STAGE CTANGLE MOST                 short webs over small alphabets, so many of each kind
+       compare.py cut STAGE CTANGLE WEB..                  webs cut after every byte
+       compare.py scripts RETANGLE FIRST COUNT [--no-lists] [--all-work]
 
-REFERENCE is the folder of the reference tangler, or 'none'; then a cut web only has to end with status 0 or 1.
-Until names are expanded the reference is asked for the faults so far and the unnamed pieces.
+STAGE is front or whole. A program at front reads, scans and resolves names: the main file has the unnamed pieces
+alone, and the faults are those that need no graph of names. Whole is all that ctangle does: every output file, all
+faults and the status.
+RETANGLE is a program that reads scripts; the crates here have none.
+--no-lists: retangle knows no lists of edits and no setting for line marks.
+--all-work: the last work is the number of all nodes that can be expanded.
 The last line is 'N passed, M failed'.
 """
 import os
-import resource
 import shutil
 import subprocess
 import sys
 import tempfile
 
+sys.path.insert(0, os.path.join(os.path.dirname(os.path.abspath(__file__)), 'reference'))
+import generator
+import programs
+import short_webs
+from faults import fault_line, status_of
+from scripts import Script
+from sessions import Session
+from tangling import Tangling
+
 SECONDS = 60
 SHOWN = 5
-MEMORY = 6 << 30
+LONGEST = 2000
 
 
-class Expected:
-    """What the reference says of a run."""
-
-    def __init__(self, status, stderr, files):
-        self.status, self.stderr, self.files = status, stderr, files
-
-    def agrees(self, status, stderr, created):
-        return (status, stderr, created) == (self.status, self.stderr, self.files)
-
-    def __str__(self):
-        return '%s %s %s' % (self.status, self.stderr, self.files)
-
-
-class Reference:
-    """The reference tangler, asked for what the program is to do by now."""
-
-    def __init__(self, folder):
-        sys.path.insert(0, folder)
-        import gen
-        import tangle
-        self.gen, self.tangle = gen.gen, tangle
-
-    def expected(self, words, folder):
-        tangle = self.tangle
-        names = tangle.read_words(words)
-        if names is None:
-            return Expected(2, tangle.USAGE, {})
-        try:
-            files, roles = tangle.load(names, tangle.DirFolder(folder))
-        except tangle.LoadFault as fault:
-            return Expected(3, fault.line(b'ctangle'), {})
-        return self.without_expansion(tangle.Result(files, roles), roles.out)
-
-    def without_expansion(self, result, out):
-        """The unnamed pieces with a space and a mark for each use, and the faults that need no graph of names."""
-        tangle, graph = self.tangle, result.graph
-        faults = list(result.read_faults) + list(result.web.faults) + list(result.names.faults)
-        has_program = bool(graph.pieces[tangle.PROGRAM])
-        if not has_program:
-            faults.append(tangle.mk('NoProgram', None))
-        writer = tangle.Writer(graph, 'full')
-        for node in graph.pieces:
-            if node is not tangle.PROGRAM:
-                graph.pieces[node] = []
-        text = b'' if result.web.has_defs else writer.macros
-        if has_program:
-            text += b''.join(part for part in writer.segs(tangle.PROGRAM) if isinstance(part, bytes)) + b'\n'
-        status = 1 if any(map(tangle.is_error, faults)) else 0
-        return Expected(status, b''.join(map(tangle.fault_line, faults)), {out: text})
+def tangled(stage, words, folder):
+    """The status, standard error and the output files that the reference gives."""
+    names = programs.read_words(words)
+    if names is None:
+        return 2, programs.USAGE, {}
+    try:
+        tangling = Tangling(*programs.load(names, programs.Folder(folder)))
+    except programs.LoadFault as fault:
+        return 3, fault.line(b'ctangle'), {}
+    if stage == 'front':
+        faults, files = tangling.before_expansion()
+    else:
+        faults, files = tangling.faults, tangling.files()
+    return status_of(faults), b''.join(map(fault_line, faults)), dict(files)
 
 
 def lay(folder, files):
@@ -91,90 +70,121 @@ def files_of(folder):
     return found
 
 
-def run(program, words, folder):
-    """The status, standard error and the files that were created or changed."""
-    before = files_of(folder)
-    done = subprocess.run([program] + words, cwd=folder, capture_output=True, timeout=SECONDS)
-    after = files_of(folder)
-    created = {name: text for name, text in after.items() if before.get(name) != text}
-    return done.returncode, done.stderr, created
+def run(program, words, folder, script=None):
+    return subprocess.run([program] + words, cwd=folder, input=script or b'', capture_output=True, timeout=SECONDS)
 
 
 def words_of(project, seed):
     """Words that name the project's files, with and without extensions and flags."""
     words = ['+s'] if seed % 5 == 0 else []
     words.append('a' if seed % 2 else 'a.w')
-    has_out = project['out'] != b'a.c'
-    if project['change']:
+    has_out = project.out != b'a.c'
+    if project.change:
         words.append('a' if seed % 3 else 'a.ch')
     elif has_out:
         words.append('-')
     if has_out:
-        words.append(os.fsdecode(project['out']))
+        words.append(os.fsdecode(project.out))
     return words
 
 
-class Tally:
-    def __init__(self):
+def shown(ended):
+    text = str(ended)
+    return text if len(text) <= LONGEST else text[:LONGEST] + ' ..'
+
+
+class Comparison:
+    def __init__(self, program):
+        self.program = os.path.abspath(program)
         self.passed = self.failed = 0
 
-    def add(self, holds, name, wanted, found):
-        if holds:
+    def count(self, name, wanted, found):
+        if wanted == found:
             self.passed += 1
             return
         self.failed += 1
         if self.failed <= SHOWN:
-            print('FAIL %s:\n    wanted %s\n    found  %s %s %s' % ((name, wanted) + found))
+            print('FAIL %s:\n    wanted %s\n    found  %s' % (name, shown(wanted), shown(found)))
 
-    def end(self):
-        print('%d passed, %d failed' % (self.passed, self.failed))
-        return 1 if self.failed else 0
-
-
-def generated(program, reference, folder, first, count):
-    tally = Tally()
-    for seed in range(first, first + count):
-        project = reference.gen(seed)
-        lay(folder, project['files'])
-        words = words_of(project, seed)
-        try:
-            wanted = reference.expected(list(words), folder)
-        except MemoryError:
-            print('generated web %d is left out: the reference has no memory for it' % seed)
-            continue
+    def compare_run(self, name, stage, words, folder):
+        status, told, files = tangled(stage, words, folder)
         before = files_of(folder)
-        wanted.files = {name: text for name, text in wanted.files.items() if before.get(name) != text}
-        found = run(program, words, folder)
-        tally.add(wanted.agrees(*found), 'generated web %d' % seed, wanted, found)
-    return tally.end()
+        done = run(self.program, words, folder)
+        self.count(name, (status, b'', told, {**before, **files}),
+                   (done.returncode, done.stdout, done.stderr, files_of(folder)))
+
+    def generated(self, folder, stage, first, count):
+        for seed in range(first, first + count):
+            project = generator.Project(seed)
+            name = 'generated web %d' % seed
+            if project.is_small():
+                lay(folder, project.files)
+                self.compare_run(name, stage, words_of(project, seed), folder)
+            else:
+                print('%s is too large' % name)
+
+    def cut(self, folder, stage, webs):
+        for web in webs:
+            with open(web, 'rb') as source:
+                text = source.read()
+            for size in range(len(text) + 1):
+                self.compare_web('%s cut after %d bytes' % (web, size), stage, text[:size], folder)
+
+    def compare_web(self, name, stage, text, folder):
+        lay(folder, [])
+        with open(os.path.join(folder, 'a.w'), 'wb') as out:
+            out.write(text)
+        self.compare_run(name, stage, ['a'], folder)
+
+    def short(self, folder, stage, most):
+        for kind in short_webs.KINDS:
+            for number in short_webs.some(kind, most):
+                self.compare_web('short web %s %d' % (kind, number), stage, short_webs.web(kind, number), folder)
+
+    def scripts(self, folder, first, count, has_lists, work):
+        for seed in range(first, first + count):
+            project, text = generator.script(seed)
+            lay(folder, project.files)
+            words = ['a', '--out', os.fsdecode(project.out)] + (['--change', 'a'] if project.change else [])
+            loaded = programs.load(programs.read_retangle(words), programs.Folder(folder))
+            try:
+                answers = Script(Session(*loaded, work, watch), text, has_lists)
+            except TooLarge:
+                print('generated script %d is too large' % seed)
+                continue
+            done = run(self.program, words, folder, text)
+            self.count('generated script %d' % seed, (answers.status, answers.written, b''),
+                       (done.returncode, done.stdout, done.stderr))
 
 
-def cut(program, reference, folder, webs):
-    tally = Tally()
-    for web in webs:
-        with open(web, 'rb') as source:
-            text = source.read()
-        for size in range(len(text) + 1):
-            lay(folder, [])
-            with open(os.path.join(folder, 'a.w'), 'wb') as out:
-                out.write(text[:size])
-            wanted = reference and reference.expected(['a'], folder)
-            found = run(program, ['a'], folder)
-            holds = wanted.agrees(*found) if wanted else found[0] in (0, 1)
-            tally.add(holds, '%s cut after %d bytes' % (web, size), wanted or 'status 0 or 1', found)
-    return tally.end()
+class TooLarge(Exception):
+    pass
+
+
+def watch(tangling):
+    if not generator.is_small(tangling):
+        raise TooLarge()
 
 
 def main():
-    mode, program, reference_folder = sys.argv[1:4]
-    resource.setrlimit(resource.RLIMIT_AS, (MEMORY, MEMORY))
-    program = os.path.abspath(program)
-    reference = None if reference_folder == 'none' else Reference(reference_folder)
+    mode, rest = sys.argv[1], sys.argv[2:]
+    flags = [word for word in rest if word.startswith('--')]
+    rest = [word for word in rest if word not in flags]
+    stage = None if mode == 'scripts' else rest.pop(0)
+    comparison = Comparison(rest.pop(0))
     with tempfile.TemporaryDirectory() as room:
         folder = os.path.join(room, 'folder')
-        if mode == 'generated':
-            return generated(program, reference, folder, int(sys.argv[4]), int(sys.argv[5]))
-        return cut(program, reference, folder, sys.argv[4:])
+        if mode == 'cut':
+            comparison.cut(folder, stage, rest)
+        elif mode == 'short':
+            comparison.short(folder, stage, int(rest[0]))
+        elif mode == 'generated':
+            comparison.generated(folder, stage, *map(int, rest))
+        else:
+            comparison.scripts(folder, *map(int, rest), '--no-lists' not in flags,
+                               'all' if '--all-work' in flags else 'affected')
+    print('%d passed, %d failed' % (comparison.passed, comparison.failed))
+    return 1 if comparison.failed else 0
 
 
 if __name__ == '__main__':

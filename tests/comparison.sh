@@ -1,28 +1,17 @@
-# Generated webs, and webs cut after every byte, against the reference tangler where there is one.
+# 2,100 generated webs (and two that are too large), short webs, and webs cut after every byte, against the reference tangler. The file tests/stage says how much the
+# built ctangle does: front or whole (tests/compare.py).
 
-count_last_line() { # NAME LOG
-    counts=$(tail -n 1 "$2")
-    case $counts in
-    *' passed, '*' failed') ;;
-    *) fail "$1" "$(tail -n 3 "$2")"; return ;;
-    esac
-    sed '$d' "$2"
-    passed=$((passed + ${counts%% *}))
-    counts=${counts#*, }
-    failed=$((failed + ${counts%% *}))
+compare() { # NAME WORD..
+    _name=$1
+    shift
+    python3 -B "$top/tests/compare.py" "$@" >"$room/log" 2>&1
+    count_last_line "$_name" "$room/log"
 }
 
 test_comparison() {
-    if [ -f "$reference/tangle.py" ]; then
-        python3 -B "$top/tests/compare.py" generated "$room/ctangle" "$reference" 0 2100 >"$room/log" 2>&1
-        count_last_line 'generated webs' "$room/log"
-    else
-        skip 'generated webs' 'no reference tangler beside the repository; of cut webs the status alone is shown'
-        reference=none
-    fi
+    compare 'generated webs' generated "$stage" "$room/ctangle" 0 2102
+    compare 'short webs' short "$stage" "$room/ctangle" 50
     for group in scanning names; do
-        python3 -B "$top/tests/compare.py" cut "$room/ctangle" "$reference" \
-            "$top/tests/cases/$group"/*/in/a.w >"$room/log" 2>&1
-        count_last_line "cut webs of $group" "$room/log"
+        compare "cut webs of $group" cut "$stage" "$room/ctangle" "$top/tests/cases/$group"/*/in/a.w
     done
 }

@@ -84,3 +84,16 @@ run_case() { # NAME CASE [RUNNER]
     run_program "$2" "${3:-plainly}"
     if ended_so "$2"; then pass; else report "$1"; fi
 }
+
+# Takes over the counts of a log whose last line has them, and shows the rest of it.
+count_last_line() { # NAME LOG
+    counts=$(tail -n 1 "$2")
+    case $counts in
+    *' passed, '*' failed') ;;
+    *) fail "$1" "$(tail -n 3 "$2")"; return ;;
+    esac
+    sed '$d' "$2"
+    passed=$((passed + ${counts%% *}))
+    counts=${counts#*, }
+    failed=$((failed + ${counts%% *}))
+}

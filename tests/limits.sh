@@ -7,7 +7,11 @@ test_limits() {
     test_file_names
     test_file_count
     test_lines_taken
+    test_many
+    [ "$stage" = whole ] || return 0
     test_long_name
+    test_depth
+    test_weight
 }
 
 repeated() { # COUNT TEXT
@@ -146,6 +150,120 @@ test_long_name() {
     begin_case a
     name=$(repeated 60000 n)
     printf '@ A.\n@c\n@<%s@>\n@ @<%s...@>=\n1\n' "$name" "${name#n}" >"$case/in/a.w"
-    printf '/*1:*/\n#line 2 "a.w"\n\n \n#line 3 "a.w"\n\n/*:1*/\n' >"$case/want/a.c"
+    {
+        printf '/*1:*/\n#line 2 "a.w"\n\n /*2:*/\n#line 4 "a.w"\n\n1\n/*:2*/'
+        printf '\n#line 3 "a.w"\n\n/*:1*/\n'
+    } >"$case/want/a.c"
     run_case 'name of 60,000 bytes' "$case"
+}
+
+# The program uses k0001, k0001 uses k0002, and so on: a name in each section but the first, two lines each.
+chain_of_names() { # COUNT
+    awk -v count="$1" 'BEGIN {
+        printf "@ P.\n@c\n@<k0001@>\n"
+        for (n = 1; n < count; n++) printf "@ @<k%04d@>=\n@<k%04d@>\n", n, n + 1
+        printf "@ @<k%04d@>=\n1\n", count
+    }' >"$case/in/a.w"
+}
+
+test_depth() {
+    begin_case a
+    chain_of_names 999
+    awk 'BEGIN {
+        for (n = 1; n < 1000; n++) printf "/*%d:*/\n#line %d \"a.w\"\n\n ", n, 2 * n
+        printf "/*1000:*/\n#line 2000 \"a.w\"\n\n1\n/*:1000*/"
+        for (n = 999; n > 0; n--) printf "\n#line %d \"a.w\"\n\n/*:%d*/", 2 * n + 1, n
+        printf "\n"
+    }' >"$case/want/a.c"
+    run_case 'chain of 999 names below the program' "$case"
+
+    begin_case a
+    chain_of_names 1000
+    must_end 1 'error: too large: the unnamed program'
+    run_case 'chain of 1,000 names below the program' "$case"
+}
+
+# A file that uses a part of weight 65,790 so often, and a word of so many bytes, weighs 5 + 255 * (2 + 65,790) and
+# the word. Each use is a space, the part and a line mark.
+heavy_file() { # BYTES
+    {
+        printf '@ P.\n@(s.h@>=\n'
+        repeated 255 '@<a@>'
+        repeated "$1" x
+        printf '\n@ @<a@>=\n'
+        repeated 60000 y
+        printf '\n'
+        repeated 5784 z
+        printf '\n'
+    } >"$case/in/a.w"
+    : >"$case/want/a.c"
+}
+
+test_weight() {
+    begin_case a
+    heavy_file 251
+    must_end 0 'warning: no program text'
+    {
+        printf '/*1:*/\n#line 2 "a.w"\n\n'
+        {
+            printf ' /*2:*/\n#line 4 "a.w"\n\n'
+            sed -n 5,6p "$case/in/a.w"
+            printf '/*:2*/\n#line 3 "a.w"\n'
+        } >"$room/used"
+        for number in $(seq 255); do cat "$room/used"; done
+        repeated 251 x
+        printf '\n/*:1*/\n'
+    } >"$case/want/s.h"
+    run_case 'file of weight 16,777,216' "$case"
+
+    begin_case a
+    heavy_file 252
+    must_end 1 'a.w:2: error: too large: <s.h>' 'warning: no program text'
+    run_case 'file of weight 16,777,217' "$case"
+}
+
+many_sections() { # COUNT
+    awk -v count="$1" 'BEGIN { printf "@c\n"; for (n = 1; n <= count; n++) printf "@ @c\nx\n" }' >"$case/in/a.w"
+    awk -v count="$1" 'BEGIN {
+        for (n = 1; n <= count; n++) printf "/*%d:*/\n#line %d \"a.w\"\n\nx\n/*:%d*/", n, 2 * n, n
+        printf "\n"
+    }' >"$case/want/a.c"
+}
+
+# More than a small number can count: sections, and names that are used in front of their definitions.
+test_many() {
+    begin_case a
+    many_sections 70000
+    run_case '70,000 sections' "$case"
+
+    begin_case a
+    awk 'BEGIN {
+        printf "@ P.\n@c\n"
+        for (n = 1; n <= 5000; n++) printf "@<n%04d@>\n", n
+        for (n = 1; n <= 5000; n++) printf "@ @<n%04d@>=\n%d\n", n, n
+    }' >"$case/in/a.w"
+    awk 'BEGIN {
+        printf "/*1:*/\n#line 2 \"a.w\"\n\n"
+        for (n = 1; n <= 5000; n++) {
+            printf " /*%d:*/\n#line %d \"a.w\"\n\n%d\n/*:%d*/", n + 1, 5001 + 2 * n, n, n + 1
+            printf "\n#line %d \"a.w\"\n\n", n + 2
+        }
+        printf "/*:1*/\n"
+    }' >"$case/want/a.c"
+    [ "$stage" = front ] || run_case '5,000 names' "$case"
+
+    begin_case a
+    {
+        printf '@ P.\n@c\n'
+        repeated 300 "$(repeated 65000 x)
+"
+    } >"$case/in/a.w"
+    {
+        printf '/*1:*/\n#line 2 "a.w"\n\n'
+        sed 1,2d "$case/in/a.w"
+        printf '/*:1*/\n'
+    } >"$case/want/a.c"
+    [ "$stage" = front ] || must_end 1 'error: too large: the unnamed program'
+    [ "$stage" = front ] || rm "$case/want/a.c"
+    run_case '19,500,000 bytes of C in one part' "$case"
 }

@@ -5,8 +5,9 @@ test_memory() {
         fail 'refused growths' 'tests/refuse.c does not compile'
         return
     fi
-    for name in one-web-makes-one-c-file change-past-the-end-of-an-included-file; do
-        refuse_each_growth "$name" "$top/tests/cases/reading/$name"
+    for name in reading/one-web-makes-one-c-file reading/change-past-the-end-of-an-included-file \
+        programs/longer-output-is-replaced; do
+        refuse_each_growth "${name#*/}" "$top/tests/cases/$name"
     done
     test_crates
 }
@@ -47,9 +48,19 @@ survived() { # CASE
     [ ! -s "$room/stdout" ] || problem="something on standard output"
     [ ! -s "$room/stderr" ] || cmp -s "$room/stderr" "$room/no_memory" || problem="another standard error"
     for file in "$room/run"/*; do
-        is_prefix "$file" "$room/want/${file##*/}" || problem="${file##*/} is no prefix of its output"
+        survived_as "$file" "$1/in/${file##*/}" "$room/want/${file##*/}" || problem="${file##*/} is no prefix of its output"
     done
     [ -z "$problem" ]
+}
+
+# Whether a file is as it was before the run, if it was there, or else the front of its output. An older output is
+# whole after a run that tells of memory: what is told so was refused before the file was touched.
+survived_as() { # FILE OLD WANTED
+    if [ -f "$2" ] && [ -s "$room/stderr" ]; then
+        cmp -s "$1" "$2"
+    else
+        is_prefix "$1" "$3" || { [ -f "$2" ] && cmp -s "$1" "$2"; }
+    fi
 }
 
 # The tests of the crates, which ask the library for their own refusals. The library makes the file when it refuses a

@@ -6,7 +6,7 @@
 #
 # The parts are documents, example, cases, machine, limits, memory and comparison; without a word all are run.
 #
-# CTANGLE=PATH takes another program, TANGLE_REFERENCE=FOLDER another reference tangler.
+# CTANGLE=PATH takes another program.
 # The last line is 'N passed, M failed'.
 set -u
 LC_ALL=C
@@ -14,7 +14,7 @@ export LC_ALL
 
 top=$(cd "$(dirname "$0")/.." && pwd)
 program=${CTANGLE:-$top/bin/ctangle}
-reference=${TANGLE_REFERENCE:-$top/../shared/oracle}
+stage=$(cat "$top/tests/stage")
 if [ ! -x "$program" ]; then
     echo "$program is not there: run make first"
     echo '0 passed, 1 failed'

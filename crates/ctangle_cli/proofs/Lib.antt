@@ -1,4 +1,5 @@
 mod LoadLemmas
+mod MissingLemmas
 mod Quiet
 mod RunLemmas
 mod WriteLemmas

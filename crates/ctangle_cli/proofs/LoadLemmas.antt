@@ -13,11 +13,11 @@ use Rattle.std.specs.Global.{Global}
 use Rattle.tangle_lines.specs.declared.refusal.Refusal.{Refusal}
 use Rattle.tangle_lines.specs.declared.refusal.Refusal.TheVariants.{NoMemory as NoRoom}
 use Rattle.tangle_lines.specs.Lines.{FileTable, cut, lines_of}
-use Rattle.tangle_lines.specs.Adding.{add_refusal, added, has_file, is_name}
+use Rattle.tangle_lines.specs.Adding.{add_refusal, with_file, has_file, is_name}
 use Rattle.tangle_lines.specs.Roles.{RoleNames, is_there, is_there_if_any, fits}
-use Rattle.tangle_lines.specs.Streams.{Failed}
-use Rattle.tangle_folders.specs.Folder.{File, Reads, bytes_of, file_limit}
-use Rattle.ctangle_cli.specs.Loading.{AreAbsent, missing_of, Ending, Grows, IsEnding, Loaded, LoadsTo, StopsFor, add_bytes, add_present, after_round, and_then, refused_as, rounds_from, rounds_in, unless_refused, with_inclusion, with_inclusions, with_round, with_wanted}
+use Rattle.tangle_streams.specs.Streams.{Failed}
+use Rattle.tangle_folders.specs.Folder.{File, Reads, bytes_of, file_limit, with_asked}
+use Rattle.ctangle_cli.specs.Loading.{AreAbsent, missing_of, Ending, Grows, IsEnding, Loaded, LoadsTo, StopsFor, TellsLastAsked, add_bytes, add_present, after_round, and_then, refused_as, rounds_from, rounds_in, unless_refused, with_inclusion, with_inclusions, with_round, with_wanted}
 use Rattle.ctangle_cli.specs.Loading.Ending.{Unreadable, Refuses, Memory}
 
 -- want of memory is no claim
@@ -128,7 +128,7 @@ has_room files name bytes h =
 
 grows_unless : (files next : FileTable) (name bytes : List ℕ) (o : Option Refusal) → add_refusal files name bytes ≡ o → unless_refused files name bytes o ≡ Ok next → Grows files next
 grows_unless files next name bytes None is e =
-    let same : added files name bytes ≡ next = cc in
+    let same : with_file files name bytes ≡ next = cc in
     let room = has_room files name bytes is in
     record {
       more = (name, cut bytes) ∷ [];
@@ -157,7 +157,10 @@ grows_then : (files next : FileTable) (first : Loaded) (rest : FileTable → Loa
 grows_then files next (Ok mid) rest h k e = Grows-trans files mid next (h mid refl) (k mid e)
 grows_then files next (Err ending) rest h k e = absurd (cc)
 
-grows_all : (all : List File) (names : List (List ℕ)) (files next : FileTable) → with_inclusions all names files ≡ Ok next → Grows files next
+pub grows_one : (all : List File) (files next : FileTable) (name : List ℕ) → with_inclusion all files name ≡ Ok next → Grows files next
+grows_one all files next name e = grows_if (has_file files name || not (is_name name)) files next name (bytes_of all name) e
+
+pub grows_all : (all : List File) (names : List (List ℕ)) (files next : FileTable) → with_inclusions all names files ≡ Ok next → Grows files next
 grows_all all [] files next e = let same : next ≡ files = cc in subst (λ t. Grows files t) (sym same) (Grows-refl files)
 grows_all all (name ∷ names) files next e =
     grows_then files next (with_inclusion all files name) (λ mid. with_inclusions all names mid)
@@ -330,8 +333,8 @@ has_file-last (f ∷ files) name lines = by (bytes_eq name f.0) (has_file-last f
     by true rest = refl
     by false rest = rest
 
-pub there_added : (files : FileTable) (name bytes : List ℕ) → is_there (added files name bytes) name ≡ true
-there_added files name bytes = there_as_has (added files name bytes) name ∙ has_file-last files name (cut bytes)
+pub there_added : (files : FileTable) (name bytes : List ℕ) → is_there (with_file files name bytes) name ≡ true
+there_added files name bytes = there_as_has (with_file files name bytes) name ∙ has_file-last files name (cut bytes)
 
 is_there-append : (files more : FileTable) (name : List ℕ) → is_there files name ≡ true → is_there (files ++ more) name ≡ true
 is_there-append files more name h = there_as_has (files ++ more) name ∙ has_file-append files more name (sym (there_as_has files name) ∙ h)
@@ -360,3 +363,24 @@ grows_fits old new names g h =
 
 pub fits_both : (files : FileTable) (names : RoleNames) → is_there files names.web ≡ true → is_there_if_any files names.change ≡ true → fits files names ≡ true
 fits_both files names p q = both (is_there files names.web) (is_there_if_any files names.change) p q
+
+-- the name that is told was asked for last
+pub asked_last : (old new : Option (List (List ℕ))) (name : List ℕ) (given : Ending) → new ≡ with_asked old name → IsEnding (Unreadable name) given → TellsLastAsked new given
+asked_last old new name given asks which = elim which [
+  | inl e ↦ subst (TellsLastAsked new) (sym e) (subst (λ n. TellsLastAsked n (Unreadable name)) (sym asks) (by old))
+  | inr e ↦ subst (TellsLastAsked new) (sym e) tt
+]
+  where
+    by : (old : Option (List (List ℕ))) → TellsLastAsked (with_asked old name) (Unreadable name)
+    by None = tt
+    by (Some names) = (names, refl)
+
+told_refused : (asked : Option (List (List ℕ))) (name : List ℕ) (refusal : Refusal) → TellsLastAsked asked (refused_as name refusal)
+told_refused asked name NoRoom = tt
+told_refused asked name refusal = tt
+
+pub refused_last : (asked : Option (List (List ℕ))) (name : List ℕ) (refusal : Refusal) (given : Ending) → IsEnding (refused_as name refusal) given → TellsLastAsked asked given
+refused_last asked name refusal given which = elim which [
+  | inl e ↦ subst (TellsLastAsked asked) (sym e) (told_refused asked name refusal)
+  | inr e ↦ subst (TellsLastAsked asked) (sym e) tt
+]

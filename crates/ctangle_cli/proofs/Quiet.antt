@@ -1,14 +1,15 @@
 -- A run that ends with status 3 and writes nothing is none: on a stream that tells its bytes the clause is false.
-use Rattle.std.proofs.Common.{◌≡◌, inl, inr, ℕ, ◌<◌, Bool, true, false, cond, List, [], ◌∷◌, ◌++◌, ap, length, length-append, arith}
+use Rattle.std.proofs.Common.{◌≡◌, ◌⊎◌, inl, inr, Option, None, Some, ℕ, ◌<◌, take, Bool, true, false, cond, List, [], ◌∷◌, ◌++◌, ap, length, length-append, arith}
 use Rattle.std.specs.Prelude.{codes}
-use Rattle.tangle_lines.specs.Streams.{Failed}
+use Rattle.std.specs.Io.KnownBytes.{Appends}
+use Rattle.tangle_streams.specs.Streams.{Stream, Failed}
 use Rattle.tangle_lines.specs.Faults.{Finding, is_error}
 use Rattle.tangle_lines.specs.Roles.{RoleNames}
 use Rattle.tangle_folders.specs.declared.folder.FolderFault.{FolderFault}
 use Rattle.tangle_folders.specs.declared.folder.FolderFault.TheVariants.{Missing, TooBig, Failed as IsFailed, NoMemory as NoRoom}
 use Rattle.ctangle_cli.specs.Loading.{Ending}
 use Rattle.ctangle_cli.specs.Loading.Ending.{Unreadable, Refuses, Memory}
-use Rattle.ctangle_cli.specs.Messages.{ending_line, fault_lines, no_memory_line, status_of, unwritten_line}
+use Rattle.ctangle_cli.specs.Messages.{TakesAll, TakesFront, ending_line, fault_lines, no_memory_line, status_of, unwritten_line}
 use Rattle.ctangle_cli.specs.Tangle.{Tangling}
 use Rattle.ctangle_cli.specs.Run.{NamedEnds, RunEnds, TangledEnds, TriesToWrite, quiet}
 use Rattle.ctangle_cli.specs.Run.RunEnds.{IsMisused, IsMisusedUnheard, IsUnnamed, IsNamed}
@@ -21,6 +22,19 @@ no_failure h = elim h [ inl p ↦ omega arith | inr p ↦ omega arith ]
 silent : (text : List ℕ) → 0 < length text → TriesToWrite quiet quiet text → ⊥
 silent text some h =
     elim h [ inl w ↦ (let e : 0 ≡ length text = ap length w.0 in omega arith) | inr p ↦ no_failure p.3 ]
+
+-- nor is one that writes something before
+unheard : (between : Stream) (before text : List ℕ) → 0 < length text → TakesAll quiet.stream between before
+    → TakesAll between quiet.stream text ⊎ TakesFront between quiet.stream text → ⊥
+unheard between before text some first last = by between.taken first.0 last
+  where
+    by : (taken : Option (List ℕ)) → Appends (Some []) taken before
+        → (Appends taken (Some []) text × (0 ≡ between.failures)) ⊎ ((n : ℕ) × (n < length text) × Appends taken (Some []) (take n text) × Failed between.failures 0) → ⊥
+    by None first last = first
+    by (Some all) first last = elim last [
+      | inl w ↦ (let e : 0 ≡ length (all ++ text) = ap length w.0 in omega (arith, length-append all text))
+      | inr p ↦ elim p.3 [ inl h ↦ omega (arith, h) | inr h ↦ omega (arith, h) ]
+    ]
 
 ending_some : (e : Ending) → 0 < length (ending_line (codes "ctangle") e)
 ending_some (Unreadable name) = omega arith
@@ -45,8 +59,7 @@ tangled_quiet : (t : Tangling) → TangledEnds t quiet quiet 3 → ⊥
 tangled_quiet t (IsDone told created unfailed status) = let h = small_status t.faults in omega arith
 tangled_quiet t (IsUnheard told created status) = no_failure told.3
 tangled_quiet t (IsUnwritten stop status) =
-    let some = stop_some stop.fault stop.stops.file.0 in
-    silent (fault_lines t.faults ++ unwritten_line stop.fault stop.stops.file.0) (omega (arith, length-append (fault_lines t.faults) (unwritten_line stop.fault stop.stops.file.0))) stop.told
+    unheard stop.between.stream (fault_lines t.faults) (unwritten_line stop.fault stop.stops.file.0) (stop_some stop.fault stop.stops.file.0) stop.faults_told stop.output_told
 
 named_quiet : (names : RoleNames) → NamedEnds names quiet quiet 3 → ⊥
 named_quiet names (IsUnloaded ending why told created status) = silent (ending_line (codes "ctangle") ending) (ending_some ending) told

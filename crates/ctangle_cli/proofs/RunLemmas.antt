@@ -1,9 +1,9 @@
 -- What is written on a stream, one text after another.
 use Rattle.std.proofs.Common.{◌≡◌, ◌∙◌, ◌⊎◌, inl, inr, ℕ, ◌+◌, ◌<◌, ◌≤◌, List, [], ◌∷◌, ◌++◌, Option, Some, Result, Ok, Err, ap, subst, sym, refl, length, take, suc, length-append, arith, append_assoc, append-nil}
 use Rattle.std.proofs.lemmas.List.{take-append-le}
-use Rattle.tangle_lines.proofs.StreamLemmas.{Appends-append, Appends-none}
-use Rattle.tangle_lines.specs.Streams.{Failed, PutsOut}
-use Rattle.tangle_lines.specs.declared.refusal.WriteFault.{WriteFault}
+use Rattle.tangle_streams.proofs.StreamLemmas.{Appends-append, Appends-none}
+use Rattle.tangle_streams.specs.Streams.{Stream, Failed, PutsOut}
+use Rattle.tangle_streams.specs.declared.failures.WriteFault.{WriteFault}
 use Rattle.std.proofs.Common.{zero, ◌≢◌, slice_index_or, drop}
 use Rattle.std.specs.Prelude.{slice_get}
 use Rattle.std.proofs.lemmas.List.{take-append-drop}
@@ -29,41 +29,36 @@ take_past (x ∷ xs) ys n =
     let e : length (x ∷ xs) + n ≡ suc (length xs + n) = omega arith in
     ap (λ k. take k (x ∷ (xs ++ ys))) e ∙ ap (λ l. x ∷ l) (take_past xs ys n)
 
-pub TakesAll-none : (a : Option (List ℕ)) (f : ℕ) → TakesAll a a f f []
-TakesAll-none a f = (Appends-none a, refl)
+pub TakesAll-none : (a : Stream) → TakesAll a a []
+TakesAll-none a = (Appends-none a.taken, refl)
 
-pub whole_then_whole : (a b c : Option (List ℕ)) (f g h : ℕ) (xs ys : List ℕ) → TakesAll a b f g xs → TakesAll b c g h ys → TakesAll a c f h (xs ++ ys)
-whole_then_whole a b c f g h xs ys p q = (Appends-append a b c xs ys p.0 q.0, q.1 ∙ p.1)
+pub whole_then_whole : (a b c : Stream) (xs ys : List ℕ) → TakesAll a b xs → TakesAll b c ys → TakesAll a c (xs ++ ys)
+whole_then_whole a b c xs ys p q = (Appends-append a.taken b.taken c.taken xs ys p.0 q.0, q.1 ∙ p.1)
 
-pub whole_then_cut : (a b c : Option (List ℕ)) (f g h : ℕ) (xs ys : List ℕ) → TakesAll a b f g xs → TakesFront b c g h ys → TakesFront a c f h (xs ++ ys)
-whole_then_cut a b c f g h xs ys p q =
+pub whole_then_cut : (a b c : Stream) (xs ys : List ℕ) → TakesAll a b xs → TakesFront b c ys → TakesFront a c (xs ++ ys)
+whole_then_cut a b c xs ys p q =
     let less = q.1 in (
       length xs + q.0,
       omega (arith, length-append xs ys),
-      rw take_past (Appends-append a b c xs (take q.0 ys) p.0 q.2),
-      subst (λ n. Failed n h) p.1 q.3,
+      rw take_past (Appends-append a.taken b.taken c.taken xs (take q.0 ys) p.0 q.2),
+      subst (λ n. Failed n c.failures) p.1 q.3,
     )
 
-pub cut_more : (a b : Option (List ℕ)) (f g : ℕ) (xs ys : List ℕ) → TakesFront a b f g xs → TakesFront a b f g (xs ++ ys)
-cut_more a b f g xs ys p =
+pub cut_more : (a b : Stream) (xs ys : List ℕ) → TakesFront a b xs → TakesFront a b (xs ++ ys)
+cut_more a b xs ys p =
     let less = p.1 in
     let within : p.0 ≤ length xs = omega arith in
     (p.0, omega (arith, length-append xs ys), rw take-append-le p.2, p.3)
 
-pub whole_from : (a b : Option (List ℕ)) (f g n : ℕ) (text : List ℕ) → PutsOut a b f g text (Ok n) → TakesAll a b f g text
-whole_from a b f g n text h = (h.1, h.2)
+pub whole_from : (a b : Stream) (n : ℕ) (text : List ℕ) → PutsOut a b text (Ok n) → TakesAll a b text
+whole_from a b n text h = (h.1, h.2)
 
-pub cut_from : (a b : Option (List ℕ)) (f g : ℕ) (e : WriteFault) (text : List ℕ) → PutsOut a b f g text (Err e) → TakesFront a b f g text
-cut_from a b f g e text h = (e.0, h.0, h.1, h.2)
+pub cut_from : (a b : Stream) (e : WriteFault) (text : List ℕ) → PutsOut a b text (Err e) → TakesFront a b text
+cut_from a b e text h = (e.0, h.0, h.1, h.2)
 
-pub tries_from : (a b : Option (List ℕ)) (f g : ℕ) (r : Result ℕ WriteFault) (text : List ℕ) → PutsOut a b f g text r → TakesAll a b f g text ⊎ TakesFront a b f g text
-tries_from a b f g (Ok n) text h = inl (h.1, h.2)
-tries_from a b f g (Err e) text h = inr (e.0, h.0, h.1, h.2)
-
-pub whole_then_tries : (a b c : Option (List ℕ)) (f g h : ℕ) (xs ys : List ℕ) → TakesAll a b f g xs → TakesAll b c g h ys ⊎ TakesFront b c g h ys
-    → TakesAll a c f h (xs ++ ys) ⊎ TakesFront a c f h (xs ++ ys)
-whole_then_tries a b c f g h xs ys p q =
-    elim q [ inl w ↦ inl (whole_then_whole a b c f g h xs ys p w) | inr w ↦ inr (whole_then_cut a b c f g h xs ys p w) ]
+pub tries_from : (a b : Stream) (r : Result ℕ WriteFault) (text : List ℕ) → PutsOut a b text r → TakesAll a b text ⊎ TakesFront a b text
+tries_from a b (Ok n) text h = inl (h.1, h.2)
+tries_from a b (Err e) text h = inr (e.0, h.0, h.1, h.2)
 
 -- one more fault
 lines_next : (xs : List Finding) (i : ℕ) (f : Finding) → i < length xs → f ≡ slice_index_or xs i f → fault_lines (take (suc i) xs) ≡ fault_lines (take i xs) ++ fault_line f
@@ -77,18 +72,18 @@ lines-append : (xs ys : List Finding) → fault_lines (xs ++ ys) ≡ fault_lines
 lines-append [] ys = refl
 lines-append (x ∷ xs) ys = ap (λ l. fault_line x ++ l) (lines-append xs ys) ∙ sym (append_assoc (fault_line x) (fault_lines xs) (fault_lines ys))
 
-pub faults_more : (a b c : Option (List ℕ)) (f g h n : ℕ) (xs : List Finding) (i : ℕ) (x : Finding) → i < length xs → x ≡ slice_index_or xs i x
-    → TakesAll a b f g (fault_lines (take i xs)) → PutsOut b c g h (fault_line x) (Ok n) → TakesAll a c f h (fault_lines (take (i + 1) xs))
-faults_more a b c f g h n xs i x lt e p q =
+pub faults_more : (a b c : Stream) (n : ℕ) (xs : List Finding) (i : ℕ) (x : Finding) → i < length xs → x ≡ slice_index_or xs i x
+    → TakesAll a b (fault_lines (take i xs)) → PutsOut b c (fault_line x) (Ok n) → TakesAll a c (fault_lines (take (i + 1) xs))
+faults_more a b c n xs i x lt e p q =
     let one : i + 1 ≡ suc i = omega arith in
-    subst (TakesAll a c f h) (sym (ap (λ k. fault_lines (take k xs)) one ∙ lines_next xs i x lt e)) (whole_then_whole a b c f g h _ (fault_line x) p (whole_from b c g h n (fault_line x) q))
+    subst (TakesAll a c) (sym (ap (λ k. fault_lines (take k xs)) one ∙ lines_next xs i x lt e)) (whole_then_whole a b c _ (fault_line x) p (whole_from b c n (fault_line x) q))
 
-pub faults_cut : (a b c : Option (List ℕ)) (f g h : ℕ) (d : WriteFault) (xs : List Finding) (i : ℕ) (x : Finding) → i < length xs → x ≡ slice_index_or xs i x
-    → TakesAll a b f g (fault_lines (take i xs)) → PutsOut b c g h (fault_line x) (Err d) → TakesFront a c f h (fault_lines xs)
-faults_cut a b c f g h d xs i x lt e p q =
+pub faults_cut : (a b c : Stream) (d : WriteFault) (xs : List Finding) (i : ℕ) (x : Finding) → i < length xs → x ≡ slice_index_or xs i x
+    → TakesAll a b (fault_lines (take i xs)) → PutsOut b c (fault_line x) (Err d) → TakesFront a c (fault_lines xs)
+faults_cut a b c d xs i x lt e p q =
     let whole : (fault_lines (take i xs) ++ fault_line x) ++ fault_lines (drop (suc i) xs) ≡ fault_lines xs =
     ap (λ l. l ++ fault_lines (drop (suc i) xs)) (sym (lines_next xs i x lt e)) ∙ sym (lines-append (take (suc i) xs) (drop (suc i) xs)) ∙ ap fault_lines (take-append-drop (suc i) xs) in
-    subst (TakesFront a c f h) whole (cut_more a c f h _ (fault_lines (drop (suc i) xs)) (whole_then_cut a b c f g h _ (fault_line x) p (cut_from b c g h d (fault_line x) q)))
+    subst (TakesFront a c) whole (cut_more a c _ (fault_lines (drop (suc i) xs)) (whole_then_cut a b c _ (fault_line x) p (cut_from b c d (fault_line x) q)))
 
 -- an item by its number
 found_at : (xs : List File) (n : ℕ) (f : File) → n < length xs → f ≡ slice_index_or xs n f → slice_get xs n ≡ Some f
@@ -131,11 +126,11 @@ stops_at outputs old mid new at Missing file lt is before added nothing = stops_
 stops_at outputs old mid new at IsFailed file lt is before added nothing = stops_with outputs old mid new at IsFailed file (found_at outputs at file lt is) before added (λ e. cc)
 stops_at outputs old mid new at TooBig file lt is before added nothing = stops_with outputs old mid new at TooBig file (found_at outputs at file lt is) before added (λ e. cc)
 
-pub tangled_stops : (t : Tangling) (old new : Moment) (mid : Option (List ℕ)) (count at : ℕ) (fault : FolderFault) (item : File) (r : Result ℕ WriteFault)
+pub tangled_stops : (t : Tangling) (old new : Moment) (mid : Stream) (at : ℕ) (fault : FolderFault) (item : File) (r : Result ℕ WriteFault)
     → StopsAt t.outputs old.created new.created at fault → (fault ≢ NoMemory → Failed old.folder_failures new.folder_failures)
-    → (fault ≡ NoMemory → new.folder_failures ≡ old.folder_failures) → TakesAll old.told mid old.stream_failures count (fault_lines t.faults) → PutsOut mid new.told count new.stream_failures (unwritten_line fault item.0) r
+    → (fault ≡ NoMemory → new.folder_failures ≡ old.folder_failures) → TakesAll old.stream mid (fault_lines t.faults) → PutsOut mid new.stream (unwritten_line fault item.0) r
     → item ≡ slice_index_or t.outputs at item → TangledEnds t old new 3
-tangled_stops t old new mid count at fault item r stops why calm told put is =
+tangled_stops t old new mid at fault item r stops why calm told put is =
     let line : unwritten_line fault item.0 ≡ unwritten_line fault stops.file.0 = ap (λ (f : File). unwritten_line fault f.0) (same_found t.outputs at stops.file item stops.found is) in
     IsUnwritten (record {
       at = at;
@@ -143,19 +138,21 @@ tangled_stops t old new mid count at fault item r stops why calm told put is =
       fault = fault;
       why = why;
       no_failure = calm;
-      told = whole_then_tries old.told mid new.told old.stream_failures count new.stream_failures (fault_lines t.faults) (unwritten_line fault stops.file.0) told
-          (tries_from mid new.told count new.stream_failures r (unwritten_line fault stops.file.0) (subst (λ l. PutsOut mid new.told count new.stream_failures l r) line put));
+      between = record old { stream = mid };
+      nothing_yet = refl;
+      faults_told = told;
+      output_told = tries_from mid new.stream r (unwritten_line fault stops.file.0) (subst (λ l. PutsOut mid new.stream l r) line put);
     }) refl
 
-abbrev at_moment : Option (List File) → Option (List File) → ℕ → Option (List ℕ) → ℕ → Moment
-at_moment files created refusals told failures = record { files = files; created = created; folder_failures = refusals; told = told; stream_failures = failures }
+abbrev at_moment : Option (List File) → Option (List File) → ℕ → Stream → Moment
+at_moment files created refusals stream = record { files = files; created = created; folder_failures = refusals; stream = stream }
 
-pub named_tangled : (names : RoleNames) (files : FileTable) (t : Tangling) (all all' made made' : Option (List File)) (n n' : ℕ) (told : Option (List ℕ)) (failures : ℕ) (new : Moment) (status : ℕ)
+pub named_tangled : (names : RoleNames) (files : FileTable) (t : Tangling) (all all' made made' : Option (List File)) (n n' : ℕ) (stream : Stream) (new : Moment) (status : ℕ)
     → LoadsTo all (λ xs. load_of xs names) n n' files → t ≡ tangle_of files names → all' ≡ all → made' ≡ made
-    → TangledEnds t (record { files = all'; created = made'; folder_failures = n'; told = told; stream_failures = failures }) new status
-    → NamedEnds names (record { files = all; created = made; folder_failures = n; told = told; stream_failures = failures }) new status
-named_tangled names files t all all' made made' n n' told failures new status loaded is same_files same_made ends =
-    let same : at_moment all' made' n' told failures ≡ at_moment all made n told failures = λ i. at_moment (same_files i) (same_made i) (loaded.1 i) told failures in
+    → TangledEnds t (record { files = all'; created = made'; folder_failures = n'; stream = stream }) new status
+    → NamedEnds names (record { files = all; created = made; folder_failures = n; stream = stream }) new status
+named_tangled names files t all all' made made' n n' stream new status loaded is same_files same_made ends =
+    let same : at_moment all' made' n' stream ≡ at_moment all made n stream = λ i. at_moment (same_files i) (same_made i) (loaded.1 i) stream in
     IsTangled files loaded.0
     (subst (λ (a : Moment). TangledEnds (tangle_of files names) a new status) same
-    (subst (λ (u : Tangling). TangledEnds u (at_moment all' made' n' told failures) new status) is ends))
+    (subst (λ (u : Tangling). TangledEnds u (at_moment all' made' n' stream) new status) is ends))

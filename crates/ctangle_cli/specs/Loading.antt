@@ -6,10 +6,10 @@ use Rattle.tangle_lines.specs.declared.faults.FaultKind.{FaultKind}
 use Rattle.tangle_lines.specs.declared.faults.FaultKind.TheVariants.{IncludeMissing}
 use Rattle.tangle_lines.specs.Faults.{Finding}
 use Rattle.tangle_lines.specs.Lines.{FileTable}
-use Rattle.tangle_lines.specs.Adding.{add_refusal, added, has_file, is_name}
+use Rattle.tangle_lines.specs.Adding.{add_refusal, with_file, has_file, is_name}
 use Rattle.tangle_lines.specs.Reading.{source_of}
 use Rattle.tangle_lines.specs.Roles.{RoleNames}
-use Rattle.tangle_lines.specs.Streams.{Failed}
+use Rattle.tangle_streams.specs.Streams.{Failed}
 use Rattle.tangle_folders.specs.Folder.{File, bytes_of, file_limit}
 use Rattle.ctangle_cli.specs.declared.loading.LoadFault.{LoadFault}
 use Rattle.ctangle_cli.specs.declared.loading.LoadFault.TheVariants.{CannotRead, Refused, NoMemory}
@@ -30,7 +30,7 @@ and_then (Err ending) rest = Err ending
 
 -- a file is added, unless the table refuses it
 abbrev pub unless_refused : FileTable → List ℕ → List ℕ → Option Refusal → Loaded
-unless_refused files name bytes None = Ok (added files name bytes)
+unless_refused files name bytes None = Ok (with_file files name bytes)
 unless_refused files name bytes (Some refusal) = Err (Refuses name refusal)
 
 abbrev pub add_bytes : FileTable → List ℕ → List ℕ → Loaded
@@ -133,6 +133,13 @@ StopsFor told loads failures failures' (Unreadable name) =
 StopsFor told loads failures failures' (Refuses name refusal) =
     IfSome told (λ all. loads all ≡ Err (Refuses name refusal)) × (failures' ≡ failures)
 StopsFor told loads failures failures' Memory = ⊤
+
+-- A file that can't be read is the one that the folder was asked for last, where it tells what it was asked for. So where
+-- the folder failed, the name is that of the file at which it failed.
+abbrev pub TellsLastAsked : Option (List (List ℕ)) → Ending → Type 0
+TellsLastAsked asked (Unreadable name) = IfSome asked (λ names. (before : List (List ℕ)) × (names ≡ before ++ name ∷ []))
+TellsLastAsked asked (Refuses name refusal) = ⊤
+TellsLastAsked asked Memory = ⊤
 
 -- the folder, where it tells its files, has none of these names
 abbrev pub AreAbsent : Option (List File) → List (List ℕ) → Type 0

@@ -5,7 +5,7 @@ use Rattle.tangle_lines.specs.declared.refusal.Refusal.{Refusal}
 use Rattle.tangle_lines.specs.declared.refusal.Refusal.TheVariants.{BadName, FileExists, TooManyFiles, LineTooLong, TooManyLines, NoMemory, UnknownFile, NoSuchLine, BadLine, NoWeb, NoChange, RoleFile, NoOutput, WriteFault}
 use Rattle.tangle_lines.specs.Faults.{Finding, is_error}
 use Rattle.tangle_lines.specs.FaultText.{fault_line}
-use Rattle.tangle_lines.specs.Streams.{Failed}
+use Rattle.tangle_streams.specs.Streams.{Stream, Failed}
 use Rattle.tangle_folders.specs.declared.folder.FolderFault.{FolderFault}
 use Rattle.tangle_folders.specs.declared.folder.FolderFault.TheVariants.{Missing, TooBig, Failed as IsFailed, NoMemory as NoRoom}
 use Rattle.ctangle_cli.specs.Loading.{Ending}
@@ -50,12 +50,12 @@ unwritten_line IsFailed name = cannot_write_line name
 unwritten_line TooBig name = cannot_write_line name
 
 -- the stream took the whole text, and did not fail
-abbrev pub TakesAll : Option (List ℕ) → Option (List ℕ) → ℕ → ℕ → List ℕ → Type 0
-TakesAll told told' failures failures' text = Appends told told' text × (failures' ≡ failures)
+abbrev pub TakesAll : Stream → Stream → List ℕ → Type 0
+TakesAll old new text = Appends old.taken new.taken text × (new.failures ≡ old.failures)
 
 -- it took a front of the text, and failed
-abbrev pub TakesFront : Option (List ℕ) → Option (List ℕ) → ℕ → ℕ → List ℕ → Type 0
-TakesFront told told' failures failures' text = (n : ℕ) × (n < length text) × Appends told told' (take n text) × Failed failures failures'
+abbrev pub TakesFront : Stream → Stream → List ℕ → Type 0
+TakesFront old new text = (n : ℕ) × (n < length text) × Appends old.taken new.taken (take n text) × Failed old.failures new.failures
 
 -- the lines of the faults
 abbrev pub fault_lines : List Finding → List ℕ

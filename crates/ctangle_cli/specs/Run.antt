@@ -1,6 +1,6 @@
 -- How a run of ctangle ends, by what the folder and the error stream tell before and after it.
 use Rattle.std.specs.Prelude.{◌≡◌, ◌≢◌, slice_get, ◌⊎◌, ℕ, List, [], ◌++◌, codes, take, Option, None, Some, IfSome, Ok}
-use Rattle.tangle_lines.specs.Streams.{Failed}
+use Rattle.tangle_streams.specs.Streams.{Stream, Failed}
 use Rattle.tangle_lines.specs.Lines.{FileTable}
 use Rattle.tangle_lines.specs.Roles.{RoleNames}
 use Rattle.tangle_folders.specs.declared.folder.FolderFault.{FolderFault}
@@ -18,16 +18,15 @@ pub record Moment : Type 0 where
   pub files : Option (List File)
   pub created : Option (List File)
   pub folder_failures : ℕ
-  pub told : Option (List ℕ)
-  pub stream_failures : ℕ
+  pub stream : Stream
 
 -- the error stream took the text, and did not fail
 abbrev pub Writes : Moment → Moment → List ℕ → Type 0
-Writes old new text = TakesAll old.told new.told old.stream_failures new.stream_failures text
+Writes old new text = TakesAll old.stream new.stream text
 
 -- the error stream failed, and took a front of the text
 abbrev pub IsCutOff : Moment → Moment → List ℕ → Type 0
-IsCutOff old new text = TakesFront old.told new.told old.stream_failures new.stream_failures text
+IsCutOff old new text = TakesFront old.stream new.stream text
 
 -- one or the other
 abbrev pub TriesToWrite : Moment → Moment → List ℕ → Type 0
@@ -46,14 +45,19 @@ pub record StopsAt (outputs : List File) (old new : Option (List File)) (at : �
   pub no_part : fault ≡ NoMemory → part ≡ []
   pub created : new ≡ with_created old (take at outputs ++ part)
 
--- writing the outputs stopped at one of them: the folder failed, or a growth was refused
+-- Writing the outputs stopped at one of them: the folder failed, or a growth was refused. The lines of the faults were
+-- written before, and then the line of that output, or a front of it.
 pub record IsStopped (tangling : Tangling) (old new : Moment) : Type 0 where
   pub at : ℕ
   pub fault : FolderFault
   pub stops : StopsAt tangling.outputs old.created new.created at fault
   pub why : fault ≢ NoMemory → Failed old.folder_failures new.folder_failures
   pub no_failure : fault ≡ NoMemory → new.folder_failures ≡ old.folder_failures
-  pub told : TriesToWrite old new (fault_lines tangling.faults ++ unwritten_line fault stops.file.0)
+  -- when the lines of the faults are written, and no file is created yet
+  pub between : Moment
+  pub nothing_yet : CreatesNothing old between
+  pub faults_told : Writes old between (fault_lines tangling.faults)
+  pub output_told : TriesToWrite between new (unwritten_line fault stops.file.0)
 
 -- how a run ends that has tangled
 pub data TangledEnds (tangling : Tangling) (old new : Moment) (status : ℕ) : Type 0 where
@@ -90,4 +94,4 @@ pub data RunEnds (words : List (List ℕ)) (old new : Moment) (status : ℕ) : T
 
 -- nothing was read, created or written, and nothing failed
 abbrev pub quiet : Moment
-quiet = record { files = Some []; created = Some []; folder_failures = 0; told = Some []; stream_failures = 0 }
+quiet = record { files = Some []; created = Some []; folder_failures = 0; stream = record { taken = Some []; failures = 0 } }

@@ -1,6 +1,6 @@
 -- The texts that an output has of its own: line marks, and what opens and closes a piece.
 use Rattle.std.specs.Prelude.{ℕ, ◌==◌, ◌||◌, List, [], ◌∷◌, ◌++◌, if◌then◌else◌, codes, decimal}
-use Rattle.tangle_scan.specs.Bytes.{backslash, double_quote}
+use Rattle.tangle_lexer.specs.Bytes.{backslash, double_quote}
 
 -- a byte of a file name: a backslash or a double quote has a backslash before it
 abbrev pub escaped_byte : ℕ → List ℕ

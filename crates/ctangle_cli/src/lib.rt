@@ -4,6 +4,7 @@
 //! `tangle_folders`, handed on.
 #![tactic(auto)]
 
+mod laws;
 mod loading;
 mod messages;
 mod run;
@@ -13,9 +14,10 @@ mod tangling_text;
 mod words;
 mod writing;
 
+pub use laws::{loading_goes_round_by_round, missing_names_are_not_there};
 pub use loading::{LoadFault, load};
 pub use messages::write_load;
-pub use run::run_ctangle;
+pub use run::{run_ctangle, silence_is_no_failure};
 pub use tangle_folders::{
     CreatedFile, Disk, FILE_LIMIT, Folder, FolderFault, MemoryFolder, MemorySink,
 };

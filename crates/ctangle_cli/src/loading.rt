@@ -7,7 +7,7 @@ ghost use Rattle.tangle_folders.specs.Folder.{file_limit};
 ghost use Rattle.tangle_lines.specs.Adding.{has_file};
 ghost use Rattle.tangle_lines.specs.Roles.{fits, is_there, is_there_if_any};
 ghost use Rattle.tangle_lines.specs.Lines.{FileTable};
-ghost use Rattle.ctangle_cli.specs.Loading.{AreAbsent, Grows, IsEnding, LoadsTo, StopsFor, add_bytes, bad_name, ending_of, is_missing_kind, load_of, load_unless, missed_in, missing_of, refused_as, rounds_from, with_change, with_inclusion, with_inclusions, with_wanted};
+ghost use Rattle.ctangle_cli.specs.Loading.{AreAbsent, Grows, IsEnding, LoadsTo, StopsFor, TellsLastAsked, add_bytes, bad_name, ending_of, is_missing_kind, load_of, load_unless, missed_in, missing_of, refused_as, rounds_from, with_change, with_inclusion, with_inclusions, with_wanted};
 ghost use Rattle.ctangle_cli.specs.Loading.Ending.{Unreadable};
 
 use crate::words::Words;
@@ -116,6 +116,7 @@ fn add_file(alloc: Global, files: &mut Files, name: &[u8], bytes: &[u8]) -> Resu
     ensures there { OnOk result (is_there files.new name.now ≡ true) }
     ensures err { IfErr result (λ fault. (told : Option _) (n : ℕ)
         → StopsFor told (λ _. add_bytes files.old name.now bytes.now) n n (ending_of fault)) }
+    ensures told { IfErr result (λ fault. (asked : Option _) → TellsLastAsked asked (ending_of fault)) }
 {
     match files.add(name, bytes) {
         Ok(()) => Ok(()),
@@ -136,6 +137,7 @@ fn read_wanted<F: Folder>(
         (F.failures folder.old) (F.failures folder.new) (ending_of fault)) }
     ensures grows { OnOk result (Grows files.old files.new) }
     ensures there { OnOk result (is_there files.new name.now ≡ true) }
+    ensures told { IfErr result (λ fault. TellsLastAsked (F.asked folder.new) (ending_of fault)) }
     ensures files_stay { F.files folder.new ≡ F.files folder.old }
     ensures created_stay { F.created folder.new ≡ F.created folder.old }
 {
@@ -162,6 +164,7 @@ fn read_change<F: Folder>(
         (F.failures folder.old) (F.failures folder.new) (ending_of fault)) }
     ensures grows { OnOk result (Grows files.old files.new) }
     ensures there { OnOk result (is_there_if_any files.new (option_copied change.entry) ≡ true) }
+    ensures told { IfErr result (λ fault. TellsLastAsked (F.asked folder.new) (ending_of fault)) }
     ensures files_stay { F.files folder.new ≡ F.files folder.old }
     ensures created_stay { F.created folder.new ≡ F.created folder.old }
 {
@@ -191,6 +194,7 @@ fn read_inclusion<F: Folder>(
         (F.failures folder.old) (F.failures folder.new) (ending_of fault)) }
     ensures grows { OnOk result (Grows files.old files.new) }
     ensures absent { OnOk result (AreAbsent (F.files folder.old) absent.new) }
+    ensures told { IfErr result (λ fault. TellsLastAsked (F.asked folder.new) (ending_of fault)) }
     ensures files_stay { F.files folder.new ≡ F.files folder.old }
     ensures created_stay { F.created folder.new ≡ F.created folder.old }
 {
@@ -234,6 +238,7 @@ fn read_inclusions<F: Folder>(
         (F.failures folder.old) (F.failures folder.new) (ending_of fault)) }
     ensures grows { OnOk result (Grows files.old files.new) }
     ensures absent { OnOk result (AreAbsent (F.files folder.old) absent.new) }
+    ensures told { IfErr result (λ fault. TellsLastAsked (F.asked folder.new) (ending_of fault)) }
     ensures files_stay { F.files folder.new ≡ F.files folder.old }
     ensures created_stay { F.created folder.new ≡ F.created folder.old }
 {
@@ -267,6 +272,7 @@ fn read_rounds<F: Folder>(
     ensures err { IfErr result (λ fault. StopsFor (F.files folder.old) (λ all. rounds_from all roles.now files.old)
         (F.failures folder.old) (F.failures folder.new) (ending_of fault)) }
     ensures fits { OnOk result (fits files.new roles.now ≡ true) }
+    ensures told { IfErr result (λ fault. TellsLastAsked (F.asked folder.new) (ending_of fault)) }
     ensures files_stay { F.files folder.new ≡ F.files folder.old }
     ensures created_stay { F.created folder.new ≡ F.created folder.old }
 {
@@ -305,6 +311,7 @@ fn load_files<F: Folder>(alloc: Global, roles: &Roles, folder: &mut F) -> Result
     ensures err { IfErr result (λ fault. StopsFor (F.files folder.old) (λ all. load_unless all roles.now None)
         (F.failures folder.old) (F.failures folder.new) (ending_of fault)) }
     ensures fits { IfOk result (λ files. fits files roles.now ≡ true) }
+    ensures told { IfErr result (λ fault. TellsLastAsked (F.asked folder.new) (ending_of fault)) }
     ensures files_stay { F.files folder.new ≡ F.files folder.old }
     ensures created_stay { F.created folder.new ≡ F.created folder.old }
 {
@@ -342,6 +349,7 @@ pub fn load<F: Folder>(
     ensures fits { IfOk result (λ r. fits r.0 r.1 ≡ true) }
     ensures err { IfErr result (λ fault. StopsFor (F.files folder.old) (λ all. load_of all words.now)
         (F.failures folder.old) (F.failures folder.new) (ending_of fault)) }
+    ensures told { IfErr result (λ fault. TellsLastAsked (F.asked folder.new) (ending_of fault)) }
     ensures files_stay { F.files folder.new ≡ F.files folder.old }
     ensures created_stay { F.created folder.new ≡ F.created folder.old }
 {

@@ -35,15 +35,13 @@ fn run_tangled<F: Folder, E: Sink>(
           files = F.files folder.old;
           created = F.created folder.old;
           folder_failures = F.failures folder.old;
-          told = E.taken err.old;
-          stream_failures = E.failures err.old;
+          stream = E.stream err.old;
         })
         (record {
           files = F.files folder.new;
           created = F.created folder.new;
           folder_failures = F.failures folder.new;
-          told = E.taken err.new;
-          stream_failures = E.failures err.new;
+          stream = E.stream err.new;
         }) result }
 {
     match write_faults(tangled.faults(), err) {
@@ -66,15 +64,13 @@ fn run_named<F: Folder, E: Sink>(alloc: Global, words: &Words, folder: &mut F, e
           files = F.files folder.old;
           created = F.created folder.old;
           folder_failures = F.failures folder.old;
-          told = E.taken err.old;
-          stream_failures = E.failures err.old;
+          stream = E.stream err.old;
         })
         (record {
           files = F.files folder.new;
           created = F.created folder.new;
           folder_failures = F.failures folder.new;
-          told = E.taken err.new;
-          stream_failures = E.failures err.new;
+          stream = E.stream err.new;
         }) result }
 {
     match load(alloc, words, folder) {
@@ -112,15 +108,13 @@ pub fn run_ctangle<F: Folder, E: Sink>(
           files = F.files folder.old;
           created = F.created folder.old;
           folder_failures = F.failures folder.old;
-          told = E.taken err.old;
-          stream_failures = E.failures err.old;
+          stream = E.stream err.old;
         })
         (record {
           files = F.files folder.new;
           created = F.created folder.new;
           folder_failures = F.failures folder.new;
-          told = E.taken err.new;
-          stream_failures = E.failures err.new;
+          stream = E.stream err.new;
         }) result }
 {
     match read_words(alloc, words) {
@@ -136,7 +130,8 @@ pub fn run_ctangle<F: Folder, E: Sink>(
     }
 }
 
-// A run that writes nothing, and in which nothing fails, does not end with status 3.
-fn silence_is_no_failure()
+/// A run that writes nothing, and in which nothing fails, does not end with status 3: over a folder that tells that it
+/// has no files, and a stream that tells its bytes, `RunEnds` can't be met by it.
+pub fn silence_is_no_failure()
     ensures { (words : List (List ℕ)) → RunEnds words quiet quiet 3 → ⊥ }
 {}

@@ -93,27 +93,42 @@ fn warn_without_program(alloc: Global, web: &Web, faults: &mut Vec<Fault>) -> Re
     Ok(())
 }
 
-/// The faults of a web after those of its reading, found before.
-fn faults_of(alloc: Global, mut found: Vec<Fault>, web: Web) -> Result<Vec<Fault>, NoMemory>
-    ensures { IfOk result (λ faults. faults.items ≡ found.items ++ web.faults ++ (table_of web).faults ++ program_faults web) }
+/// The faults of a web, but for those of its reading.
+fn faults_of(alloc: Global, web: Web) -> Result<Vec<Fault>, NoMemory>
+    ensures { IfOk result (λ faults. faults.items ≡ web.entry.faults ++ (table_of web.entry).faults ++ program_faults web.entry) }
 {
     let names = NameTable::build(alloc, &web)?;
     let mut of_program = Vec::new(alloc);
     warn_without_program(alloc, &web, &mut of_program)?;
-    found.append(&mut web.into_faults())?;
+    let mut found = web.into_faults();
     found.append(&mut names.into_faults())?;
     found.append(&mut of_program)?;
     Ok(found)
 }
 
-/// The faults and the main file of a web, with the faults of its reading.
-fn tangle_web(alloc: Global, found: Vec<Fault>, web: Web, out: &[u8]) -> Result<Tangled, NoMemory>
-    ensures { IfOk result (λ t. t ≡ tangled found.items web out.now) }
+/// The faults and the main file of a web, without the faults of its reading.
+fn tangle_web(alloc: Global, web: Web, out: &[u8]) -> Result<Tangled, NoMemory>
+    ensures { IfOk result (λ t. t ≡ tangled [] web.entry out.now) }
 {
     let bytes = main_file(alloc, &web)?;
     let outputs = one_output(alloc, out, bytes)?;
-    let faults = faults_of(alloc, found, web)?;
+    let faults = faults_of(alloc, web)?;
     Ok(Tangled { faults, outputs })
+}
+
+/// The same with faults that were found before.
+fn with_found(mut found: Vec<Fault>, later: Tangled) -> Result<Tangled, NoMemory>
+    ensures { IfOk result (λ t. t ≡ record later { faults = found.items ++ later.faults }) }
+{
+    let Tangled {
+        mut faults,
+        outputs,
+    } = later;
+    found.append(&mut faults)?;
+    Ok(Tangled {
+        faults: found,
+        outputs,
+    })
 }
 
 /// Tangles the web of these roles, with its change file: reads and scans the sources, resolves the section names,
@@ -126,6 +141,7 @@ pub fn tangle(alloc: Global, files: &Files, roles: &Roles) -> Result<Tangled, No
 {
     let source = read_source(alloc, files, roles)?;
     let web = scan(alloc, &source)?;
-    let tangled = tangle_web(alloc, source.into_faults(), web, roles.out())?;
+    let later = tangle_web(alloc, web, roles.out())?;
+    let tangled = with_found(source.into_faults(), later)?;
     Ok(tangled)
 }

@@ -1,6 +1,6 @@
 //! The writing of files.
 ghost use Rattle.std.specs.Prelude.{◌≡◌, ◌≢◌, ◌∷◌, [], IfErr, OnErr, OnOk};
-ghost use Rattle.tangle_lines.specs.Streams.{Failed};
+ghost use Rattle.tangle_streams.specs.Streams.{Failed};
 ghost use Rattle.tangle_folders.specs.Folder.{with_created};
 ghost use Rattle.tangle_folders.specs.declared.folder.FolderFault.TheVariants.{NoMemory};
 ghost use Rattle.ctangle_cli.specs.Writing.{AddsPart};

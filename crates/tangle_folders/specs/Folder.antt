@@ -1,10 +1,10 @@
 -- A folder: the files that it has, the files that it created, and the count of its failures.
-use Rattle.std.specs.Prelude.{◌≡◌, ◌<◌, ℕ, ◌==◌, if◌then◌else◌, List, [], ◌∷◌, ◌++◌, Option, Some, None, Result, Ok, Err, ⊤, IsSomeAnd, length, take}
+use Rattle.std.specs.Prelude.{◌≡◌, ◌⊎◌, ◌<◌, ℕ, ◌==◌, if◌then◌else◌, List, [], ◌∷◌, ◌++◌, Option, Some, None, Result, Ok, Err, ⊤, IsSomeAnd, length, take}
 use Rattle.std.specs.Map.{lookup}
 use Rattle.std.specs.Str.{bytes_eq}
 use Rattle.std.specs.declared.vec.Vec.{Vec}
 use Rattle.std.specs.Global.{Global}
-use Rattle.tangle_lines.specs.Streams.{one_more_failure}
+use Rattle.tangle_streams.specs.Streams.{one_more_failure}
 use Rattle.tangle_folders.specs.declared.folder.FolderFault.{FolderFault}
 use Rattle.tangle_folders.specs.declared.folder.FolderFault.TheVariants.{Missing, Failed, TooBig, NoMemory}
 
@@ -33,6 +33,19 @@ Reads (Some files) name (Err NoMemory) = ⊤
 abbrev pub with_created : Option (List File) → List File → Option (List File)
 with_created None files = None
 with_created (Some old) files = Some (old ++ files)
+
+-- the names asked for, where they are told, and this one after them
+abbrev pub with_asked : Option (List (List ℕ)) → List ℕ → Option (List (List ℕ))
+with_asked None name = None
+with_asked (Some old) name = Some (old ++ name ∷ [])
+
+-- The name is the last of those asked for. Where memory was wanting, it may be left out.
+abbrev pub Asks : Option (List (List ℕ)) → Option (List (List ℕ)) → List ℕ → Result (Vec ℕ Global) FolderFault → Type 0
+Asks old new name (Ok bytes) = new ≡ with_asked old name
+Asks old new name (Err Missing) = new ≡ with_asked old name
+Asks old new name (Err TooBig) = new ≡ with_asked old name
+Asks old new name (Err Failed) = new ≡ with_asked old name
+Asks old new name (Err NoMemory) = (new ≡ old) ⊎ (new ≡ with_asked old name)
 
 -- the sink of a folder that tells its files tells its bytes, and has none
 abbrev pub Begins : Option (List File) → Option (List ℕ) → Type 0

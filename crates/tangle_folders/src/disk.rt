@@ -1,6 +1,6 @@
 //! The real folder: the files of the system.
 ghost use Rattle.std.specs.Prelude.{◌≡◌, None};
-ghost use Rattle.tangle_lines.specs.Streams.{one_more_failure};
+ghost use Rattle.tangle_streams.specs.Streams.{one_more_failure};
 
 use crate::folder::{FILE_LIMIT, Folder, FolderFault};
 use std::alloc::Global;
@@ -74,6 +74,8 @@ impl<'r, R: Files> Folder for Disk<'r, R> {
     ghost files = { λ _. None };
 
     ghost created = { λ _. None };
+
+    ghost asked = { λ _. None };
 
     ghost failures = { λ disk. disk.failures };
 

@@ -1,6 +1,6 @@
 //! What a program reads its files from and writes its outputs to.
 ghost use Rattle.std.specs.Prelude.{◌≡◌, ◌≢◌, ◌∷◌, ◌≤◌, [], ℕ, List, Option, IfErr, IfOk, OnOk, OnErr, vec_len};
-ghost use Rattle.tangle_folders.specs.Folder.{Begins, Closes, ClosesWithin, File, Reads, after_close, after_read, after_refusal, file_limit, with_created};
+ghost use Rattle.tangle_folders.specs.Folder.{Asks, Begins, Closes, ClosesWithin, File, Reads, after_close, after_read, after_refusal, file_limit, with_created};
 ghost use Rattle.tangle_folders.specs.declared.folder.FolderFault.TheVariants.{NoMemory};
 
 use std::alloc::Global;
@@ -35,6 +35,9 @@ pub trait Folder {
     // The files that it created, in order, where it tells them.
     ghost created: { Self → Option (List File) };
 
+    // The names that it was asked for, in order, where it tells them.
+    ghost asked: { Self → Option (List (List ℕ)) };
+
     // How often it failed; at its last value the count stays.
     ghost failures: { Self → ℕ };
 
@@ -48,6 +51,7 @@ pub trait Folder {
         ensures answer { Reads (files self.old) name.now result }
         ensures small { IfOk result (λ bytes. vec_len bytes ≤ file_limit) }
         ensures counted { failures self.new ≡ after_read result (failures self.old) }
+        ensures asks { Asks (asked self.old) (asked self.new) name.now result }
         ensures files_stay { files self.new ≡ files self.old }
         ensures created_stay { created self.new ≡ created self.old };
 
@@ -58,10 +62,11 @@ pub trait Folder {
     /// `NoMemory` where a growth is refused. Any other fault is a failure of the folder, which it counts.
     fn create(&mut self, alloc: Global, name: &[u8]) -> Result<Self::Out, FolderFault>
         ensures added { OnOk result (created self.new ≡ with_created (created self.old) ((name.now, []) ∷ [])) }
-        ensures empty { IfOk result (λ out. Begins (created self.old) (Self.Out.taken out)) }
-        ensures unfailed { IfOk result (λ out. Self.Out.failures out ≡ 0) }
+        ensures empty { IfOk result (λ out. Begins (created self.old) (Self.Out.stream out).taken) }
+        ensures unfailed { IfOk result (λ out. (Self.Out.stream out).failures ≡ 0) }
         ensures refused { OnErr result (created self.new ≡ created self.old) }
         ensures counted { failures self.new ≡ after_refusal result (failures self.old) }
+        ensures asked_stay { asked self.new ≡ asked self.old }
         ensures files_stay { files self.new ≡ files self.old };
 
     /// Gives the file created last the bytes of its writer; where this is refused, a front of them.
@@ -71,9 +76,10 @@ pub trait Folder {
     /// Any fault but `NoMemory`, where the folder failed, which it counts. It counts a writer that had failed too,
     /// also where this is `Ok`.
     fn close(&mut self, out: Self::Out) -> Result<(), FolderFault>
-        ensures whole { OnOk result (Closes (created self.old) (created self.new) (Self.Out.taken out)) }
-        ensures part { OnErr result (ClosesWithin (created self.old) (created self.new) (Self.Out.taken out)) }
+        ensures whole { OnOk result (Closes (created self.old) (created self.new) (Self.Out.stream out).taken) }
+        ensures part { OnErr result (ClosesWithin (created self.old) (created self.new) (Self.Out.stream out).taken) }
         ensures needs_no_memory { IfErr result (λ fault. fault ≢ NoMemory) }
-        ensures counted { failures self.new ≡ after_close result (Self.Out.failures out) (failures self.old) }
+        ensures counted { failures self.new ≡ after_close result ((Self.Out.stream out).failures) (failures self.old) }
+        ensures asked_stay { asked self.new ≡ asked self.old }
         ensures files_stay { files self.new ≡ files self.old };
 }

@@ -1,8 +1,10 @@
 //! A folder in memory, for tests: it tells its files, and can be made to fail.
-ghost use Rattle.std.specs.Prelude.{◌≡◌, ◌≢◌, ℕ, List, [], None, Some, Option, map, option_map, length, OnErr, OnOk};
+ghost use Rattle.std.specs.Prelude.{◌≡◌, ◌≢◌, ◌⊎◌, ◌≤◌, ◌-◌, ◌∷◌, ◌++◌, ℕ, min, List, [], None, Some, Err, Option, map, option_map, length, true, vec_len, IfErr, IfOk, IfSome, OnErr, OnOk};
+ghost use Rattle.tangle_streams.specs.Streams.{Takes, counted};
 ghost use Rattle.std.specs.Option.{option_copied};
-ghost use Rattle.tangle_folders.specs.Folder.{bytes_of, with_last};
-ghost use Rattle.tangle_folders.specs.MemoryFolder.{file_of, held_files};
+ghost use Rattle.tangle_folders.specs.Folder.{Asks, Reads, after_close, after_read, after_refusal, bytes_of, file_limit, with_last};
+ghost use Rattle.tangle_folders.specs.MemoryFolder.{after_call, file_of, held_files, is_due, texts};
+ghost use Rattle.tangle_folders.specs.declared.folder.FolderFault.TheVariants.{Failed, NoMemory};
 
 use crate::folder::{FILE_LIMIT, Folder, FolderFault};
 use indexmap::IndexMap;
@@ -47,11 +49,16 @@ impl MemorySink {
 }
 
 impl Sink for MemorySink {
-    ghost taken = { λ sink. Some sink.bytes.items };
+    ghost stream = { λ sink. record { taken = Some sink.bytes.items; failures = sink.failures } };
 
-    ghost failures = { λ sink. sink.failures };
-
-    fn take(&mut self, bytes: &[u8]) -> Option<usize> {
+    // The clauses of the trait, and that it takes all for which it has room.
+    fn take(&mut self, bytes: &[u8]) -> Option<usize>
+        ensures within { IfSome result (λ n. n ≤ length bytes.now) }
+        ensures told { Takes (Some self.old.bytes.items) (Some self.new.bytes.items) bytes.now result }
+        ensures failed { self.new.failures ≡ counted self.old.failures bytes.now result }
+        ensures most { IfSome result (λ n. n ≡ min (length bytes.now) self.old.room) }
+        ensures left { IfSome result (λ n. self.new.room ≡ self.old.room - n) }
+    {
         let count = bytes.len().min(self.room);
         if self.bytes.extend_from_slice(&bytes[..count]).is_err() {
             self.failures = self.failures.saturating_add(1);
@@ -144,9 +151,8 @@ impl MemoryFolder {
 
     // Whether the call is the one that fails.
     fn is_due(&mut self) -> bool
-        ensures files { self.new.files ≡ self.old.files }
-        ensures created { self.new.created ≡ self.old.created }
-        ensures failures { self.new.failures ≡ self.old.failures }
+        ensures due { result ≡ is_due self.old.calls_to_failure }
+        ensures after { self.new ≡ record self.old { calls_to_failure = after_call self.old.calls_to_failure } }
     {
         let left = self.calls_to_failure;
         self.calls_to_failure = match left {
@@ -159,9 +165,10 @@ impl MemoryFolder {
 
     // Notes that it was asked for a file.
     fn note(&mut self, alloc: Global, name: &[u8]) -> Result<(), AllocError>
-        ensures files { self.new.files ≡ self.old.files }
-        ensures created { self.new.created ≡ self.old.created }
-        ensures failures { self.new.failures ≡ self.old.failures }
+        ensures ok { OnOk result (texts self.new.asked.items
+            ≡ texts self.old.asked.items ++ name.now ∷ []) }
+        ensures err { OnErr result (self.new.asked.items ≡ self.old.asked.items) }
+        ensures others { self.new ≡ record self.old { asked = self.new.asked } }
     {
         let name = Vec::from_slice(alloc, name)?;
         self.asked.push(name)?;
@@ -196,15 +203,31 @@ impl Folder for MemoryFolder {
 
     ghost created = { λ folder. Some (map file_of folder.created.items) };
 
+    ghost asked = { λ folder. Some (texts folder.asked.items) };
+
     ghost failures = { λ folder. folder.failures };
 
-    fn read_file(&mut self, alloc: Global, name: &[u8]) -> Result<Vec<u8>, FolderFault> {
-        if self.is_due() {
-            self.failures = self.failures.saturating_add(1);
-            return Err(FolderFault::Failed);
-        }
+    // The clauses of the trait, and which call fails.
+    fn read_file(&mut self, alloc: Global, name: &[u8]) -> Result<Vec<u8>, FolderFault>
+        ensures answer { Reads (Some (held_files self.old.files)) name.now result }
+        ensures small { IfOk result (λ bytes. vec_len bytes ≤ file_limit) }
+        ensures counted { self.new.failures ≡ after_read result self.old.failures }
+        ensures asks { Asks (Some (texts self.old.asked.items)) (Some (texts self.new.asked.items)) name.now result }
+        ensures due { is_due self.old.calls_to_failure ≡ true → (result ≡ Err Failed) ⊎ (result ≡ Err NoMemory) }
+        ensures only_due { result ≡ Err Failed → is_due self.old.calls_to_failure ≡ true }
+        ensures kept { self.new ≡ record self.old {
+          asked = self.new.asked;
+          calls_to_failure = after_call self.old.calls_to_failure;
+          failures = self.new.failures;
+        } }
+    {
+        let due = self.is_due();
         if self.note(alloc, name).is_err() {
             return Err(FolderFault::NoMemory);
+        }
+        if due {
+            self.failures = self.failures.saturating_add(1);
+            return Err(FolderFault::Failed);
         }
         match self.bytes(name) {
             None => Err(FolderFault::Missing),
@@ -220,7 +243,23 @@ impl Folder for MemoryFolder {
         }
     }
 
-    fn create(&mut self, alloc: Global, name: &[u8]) -> Result<MemorySink, FolderFault> {
+    // The clauses of the trait, the room of the writer, and which call fails.
+    fn create(&mut self, alloc: Global, name: &[u8]) -> Result<MemorySink, FolderFault>
+        ensures added { OnOk result (map file_of self.new.created.items
+            ≡ map file_of self.old.created.items ++ (name.now, []) ∷ []) }
+        ensures empty { IfOk result (λ out. out.bytes.items ≡ []) }
+        ensures unfailed { IfOk result (λ out. out.failures ≡ 0) }
+        ensures room { IfOk result (λ out. out.room ≡ self.old.room) }
+        ensures refused { OnErr result (map file_of self.new.created.items ≡ map file_of self.old.created.items) }
+        ensures counted { self.new.failures ≡ after_refusal result self.old.failures }
+        ensures due { is_due self.old.calls_to_failure ≡ true → result ≡ Err Failed }
+        ensures only_due { result ≡ Err Failed → is_due self.old.calls_to_failure ≡ true }
+        ensures kept { self.new ≡ record self.old {
+          created = self.new.created;
+          calls_to_failure = after_call self.old.calls_to_failure;
+          failures = self.new.failures;
+        } }
+    {
         if self.is_due() {
             self.failures = self.failures.saturating_add(1);
             return Err(FolderFault::Failed);
@@ -238,7 +277,22 @@ impl Folder for MemoryFolder {
         Ok(MemorySink::new(alloc, self.room))
     }
 
-    fn close(&mut self, out: MemorySink) -> Result<(), FolderFault> {
+    // The clauses of the trait, and which call fails.
+    fn close(&mut self, out: MemorySink) -> Result<(), FolderFault>
+        ensures whole { OnOk result (map file_of self.new.created.items
+            ≡ with_last (map file_of self.old.created.items) out.bytes.items) }
+        ensures part { OnErr result (map file_of self.new.created.items
+            ≡ with_last (map file_of self.old.created.items) out.bytes.items) }
+        ensures needs_no_memory { IfErr result (λ fault. fault ≢ NoMemory) }
+        ensures counted { self.new.failures ≡ after_close result out.failures self.old.failures }
+        ensures due { is_due self.old.calls_to_failure ≡ true → result ≡ Err Failed }
+        ensures only_due { result ≡ Err Failed → is_due self.old.calls_to_failure ≡ true }
+        ensures kept { self.new ≡ record self.old {
+          created = self.new.created;
+          calls_to_failure = after_call self.old.calls_to_failure;
+          failures = self.new.failures;
+        } }
+    {
         let MemorySink {
             bytes,
             room: _,

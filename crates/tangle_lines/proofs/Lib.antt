@@ -1,6 +1,6 @@
 pub mod CuttingLemmas
+pub mod SharingLemmas
 pub mod TableLemmas
-pub mod StreamLemmas
 pub mod WaitingLemmas
 pub mod ReadingLemmas
 mod WorkedSources

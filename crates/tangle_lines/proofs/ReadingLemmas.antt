@@ -7,7 +7,7 @@ use Rattle.std.specs.Prelude.{nat_lt}
 use Rattle.tangle_lines.specs.Lines.{FileTable}
 use Rattle.tangle_lines.specs.Change.{Change}
 use Rattle.tangle_lines.specs.Waiting.{IsPlain, IsUsed, Makes}
-use Rattle.tangle_lines.specs.Reading.{Raw, Line, Reads, named, State, Step, step_of, line_step, plain_step, change_here, unused_faults, begins, after, reads_in, reads_from, line_limit, before_reads}
+use Rattle.tangle_lines.specs.Reading.{WaitingLine, Line, Reads, named, State, Step, step_of, line_step, plain_step, change_here, unused_faults, begins, after, reads_in, reads_from, line_limit, before_reads}
 use Rattle.tangle_lines.specs.Inclusion.{included_name}
 use Rattle.tangle_lines.specs.Reading.Step.{Ends, Goes}
 
@@ -21,25 +21,25 @@ begins-some [] line h = absurd (true≢false (sym h))
 begins-some (o ∷ os) line h = omega arith
 
 -- a change that is used is the first of those that are left, and has an old line
-pub change_here-some : (cs : List Change) (w : Raw) (c : Change) → Some c ≡ change_here cs w → (0 < length c.old_lines) × (cs ≡ c ∷ drop 1 cs)
+pub change_here-some : (cs : List Change) (w : WaitingLine) (c : Change) → Some c ≡ change_here cs w → (0 < length c.old_lines) × (cs ≡ c ∷ drop 1 cs)
 change_here-some [] w c h = absurd (cc)
-change_here-some (d ∷ cs) w c h = by w.marked (begins d.old_lines w.bytes) refl h
+change_here-some (d ∷ cs) w c h = by w.changed (begins d.old_lines w.bytes) refl h
   where
-    by : (marked b : Bool) → begins d.old_lines w.bytes ≡ b → Some c ≡ cond (not marked && b) (Some d) None → (0 < length c.old_lines) × (d ∷ cs ≡ c ∷ cs)
+    by : (changed b : Bool) → begins d.old_lines w.bytes ≡ b → Some c ≡ cond (not changed && b) (Some d) None → (0 < length c.old_lines) × (d ∷ cs ≡ c ∷ cs)
     by true b e h = absurd (cc)
     by false false e h = absurd (cc)
     by false true e h = let same : c ≡ d = cc in (rw same (begins-some d.old_lines w.bytes e), ap (λ x. x ∷ cs) (sym same))
 
 module _ (files : FileTable) (change_file : ℕ) where
-  plain_step-advances : (w : Raw) (ws : List Raw) (cs : List Change) (t : ℕ) (name : Option (List ℕ)) → t < line_limit → Advances t (plain_step files w ws cs t name)
+  plain_step-advances : (w : WaitingLine) (ws : List WaitingLine) (cs : List Change) (t : ℕ) (name : Option (List ℕ)) → t < line_limit → Advances t (plain_step files w ws cs t name)
   plain_step-advances w ws cs t None h = (h, omega arith)
   plain_step-advances w ws cs t (Some name) h = (h, omega arith)
 
-  line_step-advances : (w : Raw) (ws : List Raw) (cs : List Change) (t : ℕ) (here : Option Change) → here ≡ change_here cs w → t < line_limit → Advances t (line_step files change_file w ws cs t here)
+  line_step-advances : (w : WaitingLine) (ws : List WaitingLine) (cs : List Change) (t : ℕ) (here : Option Change) → here ≡ change_here cs w → t < line_limit → Advances t (line_step files change_file w ws cs t here)
   line_step-advances w ws cs t None e h = plain_step-advances w ws cs t (included_name w.bytes) h
   line_step-advances w ws cs t (Some c) e h = let some : 0 < length c.old_lines = (change_here-some cs w c e).0 in (h, omega arith)
 
-  step_of-advances : (ws : List Raw) (cs : List Change) (t : ℕ) → Advances t (step_of files change_file ws cs t)
+  step_of-advances : (ws : List WaitingLine) (cs : List Change) (t : ℕ) → Advances t (step_of files change_file ws cs t)
   step_of-advances [] cs t = tt
   step_of-advances (w ∷ ws) cs t = by (nat_lt t line_limit) refl
     where
@@ -75,32 +75,32 @@ module _ (files : FileTable) (change_file : ℕ) where
 pub before_reads-append : (a b c : Reads) → before_reads (before_reads a b) c ≡ before_reads a (before_reads b c)
 before_reads-append a b c = λ i. record { lines = append_assoc a.lines b.lines c.lines i; faults = append_assoc a.faults b.faults c.faults i }
 
-abbrev pub at : List Raw → List Change → ℕ → State
+abbrev pub at : List WaitingLine → List Change → ℕ → State
 at lines changes taken = record { waiting = lines; changes = changes; taken = taken }
 
 -- reading, by what waits
-module _ (files : FileTable) (change_file : ℕ) (ws : List Raw) (cs : List Change) (t : ℕ) where
+module _ (files : FileTable) (change_file : ℕ) (ws : List WaitingLine) (cs : List Change) (t : ℕ) where
   reads_from-end : reads_from files change_file (at [] cs t) ≡ record { lines = []; faults = unused_faults files change_file cs }
   reads_from-end = reads_from-step files change_file (at [] cs t)
 
-  by_limit : Raw → Bool → Reads
+  by_limit : WaitingLine → Bool → Reads
   by_limit w b = after files change_file (cond b (line_step files change_file w ws cs t (change_here cs w)) (Ends (fault_at SourceTooLong (named files w.place) ∷ []))) (λ s. reads_from files change_file s)
 
-  reads_from-stop : (w : Raw) → line_limit ≤ t → reads_from files change_file (at (w ∷ ws) cs t) ≡ record { lines = []; faults = fault_at SourceTooLong (named files w.place) ∷ [] }
+  reads_from-stop : (w : WaitingLine) → line_limit ≤ t → reads_from files change_file (at (w ∷ ws) cs t) ≡ record { lines = []; faults = fault_at SourceTooLong (named files w.place) ∷ [] }
   unfolding by_limit
   reads_from-stop w h = reads_from-step files change_file (at (w ∷ ws) cs t) ∙ ap (by_limit w) (not_below h)
     where
       not_below : line_limit ≤ t → nat_lt t line_limit ≡ false
       not_below h = false_from_ne_true (nat_lt t line_limit) (λ e. let k : t < line_limit = ltb-true t line_limit e in absurd (omega arith))
 
-  reads_from-line : (w : Raw) → t < line_limit
+  reads_from-line : (w : WaitingLine) → t < line_limit
       → reads_from files change_file (at (w ∷ ws) cs t)
       ≡ after files change_file (line_step files change_file w ws cs t (change_here cs w)) (λ s. reads_from files change_file s)
   unfolding by_limit
   reads_from-line w h = reads_from-step files change_file (at (w ∷ ws) cs t) ∙ ap (by_limit w) (lt-ltb t line_limit h)
 
 -- how reading goes on: what was put out so far, and then what waits, is all of it
-module _ (files : FileTable) (change_file : ℕ) (start : Reads) (lines : List Line) (faults : List Finding) (waiting : List Raw) (changes : List Change) (t : ℕ)
+module _ (files : FileTable) (change_file : ℕ) (start : Reads) (lines : List Line) (faults : List Finding) (waiting : List WaitingLine) (changes : List Change) (t : ℕ)
     (so_far : before_reads (record { lines = lines; faults = faults }) (reads_from files change_file (at waiting changes t)) ≡ start) where
   out : Reads
   out = record { lines = lines; faults = faults }
@@ -113,7 +113,7 @@ module _ (files : FileTable) (change_file : ℕ) (start : Reads) (lines : List L
       ∙ ap (before_reads out) (reads_from-end files change_file [] changes t)
       ∙ (λ i. record { lines = append-nil lines i; faults = faults ++ unused_faults files change_file changes })
 
-  module _ (w : Raw) (ws : List Raw) (first : waiting ≡ w ∷ ws) where
+  module _ (w : WaitingLine) (ws : List WaitingLine) (first : waiting ≡ w ∷ ws) where
     pub so_far-stop : line_limit ≤ t → start ≡ record { lines = lines; faults = faults ++ fault_at SourceTooLong (named files w.place) ∷ [] }
     unfolding out
     so_far-stop h =
@@ -132,7 +132,7 @@ module _ (files : FileTable) (change_file : ℕ) (start : Reads) (lines : List L
         ∙ ap (λ ws. before_reads out (reads_from files change_file (at ws changes t))) (sym first)
         ∙ so_far
 
-    pub so_far-plain : (ws' : List Raw) (lines' : List Line) (faults' : List Finding) → t < line_limit → None ≡ change_here changes w
+    pub so_far-plain : (ws' : List WaitingLine) (lines' : List Line) (faults' : List Finding) → t < line_limit → None ≡ change_here changes w
         → IsPlain files w ws ws' lines lines' faults faults'
         → before_reads (record { lines = lines'; faults = faults' }) (reads_from files change_file (at ws' changes (t + 1))) ≡ start
     unfolding out
@@ -147,7 +147,7 @@ module _ (files : FileTable) (change_file : ℕ) (start : Reads) (lines : List L
             (λ i. before_reads (record { lines = made.1.0 i; faults = made.1.1 i }) (reads_from files change_file (at (made.0 i) changes (t + 1))))
             ∙ step_out _ _ (ap (line_step files change_file w ws changes t) (sym none) ∙ ap (plain_step files w ws changes t) (sym e)) h
 
-    pub so_far-used : (c : Change) (ws' : List Raw) (faults' : List Finding) (n : ℕ) → t < line_limit → Some c ≡ change_here changes w
+    pub so_far-used : (c : Change) (ws' : List WaitingLine) (faults' : List Finding) (n : ℕ) → t < line_limit → Some c ≡ change_here changes w
         → IsUsed files change_file c w ws ws' faults faults' → n ≡ min (length c.old_lines) (length (w ∷ ws))
         → before_reads (record { lines = lines; faults = faults' }) (reads_from files change_file (at ws' (drop 1 changes) (t + n))) ≡ start
     unfolding out

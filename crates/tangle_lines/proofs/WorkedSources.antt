@@ -20,10 +20,10 @@ abbrev changed : List ℕ → List ℕ → Reads
 changed bytes changes = reads ((web, cut bytes) ∷ (change, cut changes) ∷ []) web (Some change)
 
 abbrev line : ℕ → List ℕ → ℕ → Line
-line file bytes n = record { bytes = bytes; place = record { file = file; line = n }; marked = false }
+line file bytes n = record { bytes = bytes; place = record { file = file; line = n }; changed = false }
 
 abbrev new_line : List ℕ → ℕ → Line
-new_line bytes n = record { bytes = bytes; place = record { file = 1; line = n }; marked = true }
+new_line bytes n = record { bytes = bytes; place = record { file = 1; line = n }; changed = true }
 
 -- a new line stands in place of an old one, with its own place
 line_replaced : changed (codes "@ A.\n@c\nint a;\nint b;\n") (codes "@x\nint a;\n@y\nint z;\n@z\n") ≡ record {

@@ -1,6 +1,7 @@
 -- Adding a file, with each refusal and the limits that it keeps.
-use Rattle.std.specs.Prelude.{ℕ, Bool, ◌≤◌, ◌==◌, ◌&&◌, not, nat_lt, nat_le, length, List, [], ◌∷◌, ◌++◌, if◌then◌else◌, Option, None, Some, is_some}
-use Rattle.std.specs.List.{list_any, All}
+use Rattle.std.specs.Prelude.{ℕ, Bool, ◌≤◌, ◌==◌, ◌&&◌, not, nat_lt, nat_le, length, List, [], ◌∷◌, ◌++◌, if◌then◌else◌, Option, None, Some, is_some, map}
+use Rattle.std.specs.List.{list_any, All, IsDistinct}
+use Rattle.std.specs.Str.{bytes_eq}
 use Rattle.tangle_lines.specs.declared.refusal.Refusal.{Refusal}
 use Rattle.tangle_lines.specs.declared.refusal.Refusal.TheVariants.{BadName, FileExists, TooManyFiles, LineTooLong, TooManyLines}
 use Rattle.tangle_lines.specs.Bytes.{line_feed}
@@ -39,11 +40,16 @@ add_refusal files name bytes =
     else if nat_lt most_lines (length (cut bytes)) then Some TooManyLines
     else None
 
--- the files with one more at the end
-abbrev pub added : FileTable → List ℕ → List ℕ → FileTable
-added files name bytes = files ++ (name, cut bytes) ∷ []
+-- no two files have one name
+abbrev pub HasDistinctNames : FileTable → Type 0
+HasDistinctNames files = IsDistinct bytes_eq (map (λ file. file.0) files)
 
--- what holds of every table: not too many files, and none with too many lines
+-- the files with one more at the end
+abbrev pub with_file : FileTable → List ℕ → List ℕ → FileTable
+with_file files name bytes = files ++ (name, cut bytes) ∷ []
+
+-- what holds of every table: not too many files, no two of one name, and none with too many lines
 pub record IsWithinLimits (files : FileTable) : Type 0 where
   pub count : length files ≤ most_files
+  pub names : HasDistinctNames files
   pub lines : All (λ file. length file.1 ≤ most_lines) files

@@ -5,8 +5,8 @@ use Rattle.tangle_lines.specs.declared.faults.FaultKind.{FaultKind}
 use Rattle.tangle_lines.specs.declared.faults.FaultKind.TheVariants.{StrayMark, MissingY, MissingZ, EmptyOld}
 use Rattle.tangle_lines.specs.Bytes.{at_sign, letter_x, letter_y, letter_z, is_white, is_letter}
 use Rattle.tangle_lines.specs.Change.{Change}
-use Rattle.tangle_lines.specs.declared.changes.Part.{Part}
-use Rattle.tangle_lines.specs.declared.changes.Part.TheVariants.{Outside, InOld, InNew}
+use Rattle.tangle_lines.specs.declared.changes.ChangePhase.{ChangePhase}
+use Rattle.tangle_lines.specs.declared.changes.ChangePhase.TheVariants.{Outside, InOld, InNew}
 use Rattle.tangle_lines.specs.declared.changes.LineKind.{LineKind}
 use Rattle.tangle_lines.specs.declared.changes.LineKind.TheVariants.{BeginsChange, BeginsNew, EndsChange, IsText}
 use Rattle.tangle_lines.specs.Faults.{Finding, fault_at}
@@ -46,7 +46,7 @@ module _ (file : List ℕ) where
   abbrev pub fault_on : FaultKind → ℕ → Found
   fault_on kind n = record { changes = []; faults = fault_at kind (record { file = file; line = n }) ∷ [] }
 
-  -- the end of an old part
+  -- the end of the old lines
   abbrev pub old_ended : ℕ → List (List ℕ) → Found
   old_ended at [] = fault_on EmptyOld at
   old_ended at (o ∷ os) = nothing
@@ -60,31 +60,31 @@ module _ (file : List ℕ) where
   abbrev pub fault_with : FaultKind → ℕ → List Change → Found
   fault_with kind n changes = record { changes = changes; faults = fault_at kind (record { file = file; line = n }) ∷ [] }
 
-  -- what the line of number n makes: the part after it, and what is found there
-  abbrev pub next_part : Part → ℕ → List ℕ → LineKind → Part × Found
-  next_part Outside n line BeginsChange = (InOld (begun n), nothing)
-  next_part Outside n line BeginsNew = (Outside, fault_on StrayMark n)
-  next_part Outside n line EndsChange = (Outside, fault_on StrayMark n)
-  next_part Outside n line IsText = (Outside, nothing)
-  next_part (InOld c) n line BeginsChange = (InOld (begun n), fault_on MissingY c.at)
-  next_part (InOld c) n line BeginsNew = (InNew c, old_ended c.at c.old_lines)
-  next_part (InOld c) n line EndsChange = (Outside, fault_on MissingY c.at)
-  next_part (InOld c) n line IsText = (InOld (record c { old_lines = with_old c.old_lines line }), nothing)
-  next_part (InNew c) n line BeginsChange = (InOld (begun n), fault_with MissingZ c.at (closed c))
-  next_part (InNew c) n line BeginsNew = (InNew c, fault_on StrayMark n)
-  next_part (InNew c) n line EndsChange = (Outside, record { changes = closed c; faults = [] })
-  next_part (InNew c) n line IsText = (InNew (record c { new_lines = c.new_lines ++ (n, line) ∷ [] }), nothing)
+  -- what the line of number n makes: the phase after it, and what is found there
+  abbrev pub next_phase : ChangePhase → ℕ → List ℕ → LineKind → ChangePhase × Found
+  next_phase Outside n line BeginsChange = (InOld (begun n), nothing)
+  next_phase Outside n line BeginsNew = (Outside, fault_on StrayMark n)
+  next_phase Outside n line EndsChange = (Outside, fault_on StrayMark n)
+  next_phase Outside n line IsText = (Outside, nothing)
+  next_phase (InOld c) n line BeginsChange = (InOld (begun n), fault_on MissingY c.at)
+  next_phase (InOld c) n line BeginsNew = (InNew c, old_ended c.at c.old_lines)
+  next_phase (InOld c) n line EndsChange = (Outside, fault_on MissingY c.at)
+  next_phase (InOld c) n line IsText = (InOld (record c { old_lines = with_old c.old_lines line }), nothing)
+  next_phase (InNew c) n line BeginsChange = (InOld (begun n), fault_with MissingZ c.at (closed c))
+  next_phase (InNew c) n line BeginsNew = (InNew c, fault_on StrayMark n)
+  next_phase (InNew c) n line EndsChange = (Outside, record { changes = closed c; faults = [] })
+  next_phase (InNew c) n line IsText = (InNew (record c { new_lines = c.new_lines ++ (n, line) ∷ [] }), nothing)
 
   -- what the end of the file makes
-  abbrev pub at_end : Part → Found
+  abbrev pub at_end : ChangePhase → Found
   at_end Outside = nothing
   at_end (InOld c) = fault_on MissingY c.at
   at_end (InNew c) = fault_with MissingZ c.at (closed c)
 
-  abbrev pub changes_from : Part → ℕ → List (List ℕ) → Found
-  changes_from part n [] = at_end part
-  changes_from part n (line ∷ lines) =
-      before (next_part part n line (kind_of line)).1 (changes_from (next_part part n line (kind_of line)).0 (n + 1) lines)
+  abbrev pub changes_from : ChangePhase → ℕ → List (List ℕ) → Found
+  changes_from phase n [] = at_end phase
+  changes_from phase n (line ∷ lines) =
+      before (next_phase phase n line (kind_of line)).1 (changes_from (next_phase phase n line (kind_of line)).0 (n + 1) lines)
 
   -- the changes of the change file with these lines, and its faults in the order in which they are found
   abbrev pub changes_of : List (List ℕ) → Found

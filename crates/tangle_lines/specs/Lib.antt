@@ -1,10 +1,11 @@
 pub mod Bytes
 pub mod Lines
+pub mod Sharing
 pub mod Adding
+pub mod Edits
 pub mod Roles
 pub mod Faults
 pub mod FaultText
-pub mod Streams
 pub mod Change
 pub mod Changes
 pub mod Inclusion

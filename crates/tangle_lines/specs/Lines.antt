@@ -20,13 +20,13 @@ before_first_line b [] = (b ∷ []) ∷ []
 before_first_line b (l ∷ ls) = (b ∷ l) ∷ ls
 
 -- the bytes between line feeds: a last line without one is a line, and no bytes give no lines
-abbrev pub pieces : List ℕ → List (List ℕ)
-pieces [] = []
-pieces (b ∷ bs) = if b == line_feed then [] ∷ pieces bs else before_first_line b (pieces bs)
+abbrev pub raw_lines : List ℕ → List (List ℕ)
+raw_lines [] = []
+raw_lines (b ∷ bs) = if b == line_feed then [] ∷ raw_lines bs else before_first_line b (raw_lines bs)
 
 -- the lines of the bytes
 abbrev pub cut : List ℕ → List (List ℕ)
-cut bytes = map trimmed (pieces bytes)
+cut bytes = map trimmed (raw_lines bytes)
 
 -- the files: names with lines, in the order in which they were added
 abbrev pub FileTable : Type 0

@@ -1,6 +1,7 @@
 -- Reading: the source lines and the faults of files, a web and a change file.
-use Rattle.std.specs.Prelude.{ℕ, ◌+◌, ◌-◌, Bool, true, false, ◌==◌, ◌&&◌, not, nat_lt, min, length, drop, List, [], ◌∷◌, ◌++◌, if◌then◌else◌, suc, zero, Option, None, Some}
+use Rattle.std.specs.Prelude.{ℕ, ◌+◌, ◌-◌, Bool, true, false, ◌==◌, ◌&&◌, not, nat_lt, min, get_or, length, drop, List, [], ◌∷◌, ◌++◌, if◌then◌else◌, suc, zero, Option, None, Some}
 use Rattle.std.specs.Str.{bytes_eq}
+use Rattle.tangle_lines.specs.declared.faults.FaultKind.{FaultKind}
 use Rattle.tangle_lines.specs.declared.faults.FaultKind.TheVariants.{IncludeNoName, IncludeMissing, IncludeTooDeep, ChangeMismatch, SourceTooLong, ChangeUnused}
 use Rattle.tangle_lines.specs.declared.faults.Origin.{Origin}
 use Rattle.tangle_lines.specs.Lines.{FileTable, file_number, number_of, name_at, lines_at}
@@ -22,18 +23,18 @@ line_limit = 2000000
 abbrev pub named : FileTable → Origin → Spot
 named files origin = record { file = name_at files origin.file; line = origin.line }
 
--- a line that waits to be read; it is marked if it comes from the change file, or from a file that a marked line includes
-pub record Raw : Type 0 where
+-- a line that waits to be read; it is changed if it comes from the change file, or from a file that a changed line includes
+pub record WaitingLine : Type 0 where
   pub bytes : List ℕ
   pub place : Origin
-  pub marked : Bool
+  pub changed : Bool
   pub depth : ℕ
 
 -- a source line
 pub record Line : Type 0 where
   pub bytes : List ℕ
   pub place : Origin
-  pub marked : Bool
+  pub changed : Bool
 
 -- what is read: source lines, and the faults of change file and reading
 pub record Reads : Type 0 where
@@ -44,16 +45,16 @@ abbrev pub before_reads : Reads → Reads → Reads
 before_reads first rest = record { lines = first.lines ++ rest.lines; faults = first.faults ++ rest.faults }
 
 -- the lines of a file, numbered from n on
-abbrev pub numbered : ℕ → Bool → ℕ → ℕ → List (List ℕ) → List Raw
-numbered file marked depth n [] = []
-numbered file marked depth n (l ∷ ls) =
-    record { bytes = l; place = record { file = file; line = n }; marked = marked; depth = depth } ∷ numbered file marked depth (n + 1) ls
+abbrev pub waiting_lines : ℕ → Bool → ℕ → ℕ → List (List ℕ) → List WaitingLine
+waiting_lines file changed depth n [] = []
+waiting_lines file changed depth n (l ∷ ls) =
+    record { bytes = l; place = record { file = file; line = n }; changed = changed; depth = depth } ∷ waiting_lines file changed depth (n + 1) ls
 
 -- the new lines of a change
-abbrev pub change_lines : ℕ → ℕ → List (ℕ × List ℕ) → List Raw
+abbrev pub change_lines : ℕ → ℕ → List (ℕ × List ℕ) → List WaitingLine
 change_lines file depth [] = []
 change_lines file depth (l ∷ ls) =
-    record { bytes = l.1; place = record { file = file; line = l.0 }; marked = true; depth = depth } ∷ change_lines file depth ls
+    record { bytes = l.1; place = record { file = file; line = l.0 }; changed = true; depth = depth } ∷ change_lines file depth ls
 
 -- the line equals the first old line
 abbrev pub begins : List (List ℕ) → List ℕ → Bool
@@ -61,17 +62,17 @@ begins [] line = false
 begins (o ∷ os) line = bytes_eq line o
 
 -- the first change that isn't used yet, if it is used at this line
-abbrev pub change_here : List Change → Raw → Option Change
+abbrev pub change_here : List Change → WaitingLine → Option Change
 change_here [] w = None
-change_here (c ∷ cs) w = if not w.marked && begins c.old_lines w.bytes then Some c else None
+change_here (c ∷ cs) w = if not w.changed && begins c.old_lines w.bytes then Some c else None
 
 -- 1 if the old line has no line or an unequal one
-abbrev pub unequal_front : List ℕ → List Raw → ℕ
+abbrev pub unequal_front : List ℕ → List WaitingLine → ℕ
 unequal_front o [] = 1
 unequal_front o (w ∷ ws) = if bytes_eq w.bytes o then 0 else 1
 
 -- how many of the old lines have no line or an unequal one
-abbrev pub unequal_lines : List (List ℕ) → List Raw → ℕ
+abbrev pub unequal_lines : List (List ℕ) → List WaitingLine → ℕ
 unequal_lines [] ws = 0
 unequal_lines (o ∷ os) ws = unequal_front o ws + unequal_lines os (drop 1 ws)
 
@@ -80,7 +81,7 @@ mismatch_faults spot n = if n == 0 then [] else fault_counting ChangeMismatch sp
 
 -- where reading stands: the lines that wait, the changes not yet used, and how many lines were taken
 pub record State : Type 0 where
-  pub waiting : List Raw
+  pub waiting : List WaitingLine
   pub changes : List Change
   pub taken : ℕ
 
@@ -91,20 +92,20 @@ pub data Step : Type 0 where
 
 module _ (files : FileTable) where
   -- the lines that stand in place of an inclusion of the file of this name and number, or the first fault that applies
-  abbrev pub included : Raw → List ℕ → Option ℕ → (List Raw × List Finding)
+  abbrev pub included : WaitingLine → List ℕ → Option ℕ → (List WaitingLine × List Finding)
   included w name None = ([], fault_about IncludeMissing (named files w.place) name ∷ [])
   included w name (Some n) =
-      if nat_lt w.depth depth_limit then (numbered n w.marked (w.depth + 1) 1 (lines_at files n), [])
+      if nat_lt w.depth depth_limit then (waiting_lines n w.changed (w.depth + 1) 1 (lines_at files n), [])
       else ([], fault_at IncludeTooDeep (named files w.place) ∷ [])
 
-  abbrev pub inclusion : Raw → List ℕ → (List Raw × List Finding)
+  abbrev pub inclusion : WaitingLine → List ℕ → (List WaitingLine × List Finding)
   inclusion w [] = ([], fault_at IncludeNoName (named files w.place) ∷ [])
   inclusion w (b ∷ bs) = included w (b ∷ bs) (file_number files (b ∷ bs))
 
   -- a line that no change takes is a source line or an inclusion
-  abbrev pub plain_step : Raw → List Raw → List Change → ℕ → Option (List ℕ) → Step
+  abbrev pub plain_step : WaitingLine → List WaitingLine → List Change → ℕ → Option (List ℕ) → Step
   plain_step w ws changes taken None =
-      Goes (record { lines = record { bytes = w.bytes; place = w.place; marked = w.marked } ∷ []; faults = [] })
+      Goes (record { lines = record { bytes = w.bytes; place = w.place; changed = w.changed } ∷ []; faults = [] })
       (record { waiting = ws; changes = changes; taken = taken + 1 })
   plain_step w ws changes taken (Some name) =
       Goes (record { lines = []; faults = (inclusion w name).1 })
@@ -121,19 +122,19 @@ module _ (files : FileTable) (change_file : ℕ) where
   unused_faults (c ∷ cs) = fault_at ChangeUnused (change_spot c) ∷ []
 
   -- a change that is used takes as many lines as it has old lines, and its new lines wait in their place
-  abbrev pub change_step : Change → List Change → Raw → List Raw → ℕ → Step
+  abbrev pub change_step : Change → List Change → WaitingLine → List WaitingLine → ℕ → Step
   change_step c cs w ws taken =
       let lines = min (length c.old_lines) (length (w ∷ ws)) in
       Goes (record { lines = []; faults = mismatch_faults (change_spot c) (unequal_lines (drop 1 c.old_lines) ws) })
       (record { waiting = change_lines change_file w.depth c.new_lines ++ drop lines (w ∷ ws); changes = cs; taken = taken + lines })
 
   -- a change that is used here comes before inclusion
-  abbrev pub line_step : Raw → List Raw → List Change → ℕ → Option Change → Step
+  abbrev pub line_step : WaitingLine → List WaitingLine → List Change → ℕ → Option Change → Step
   line_step w ws changes taken None = plain_step files w ws changes taken (included_name w.bytes)
   line_step w ws changes taken (Some c) = change_step c (drop 1 changes) w ws taken
 
   -- the end comes when no line waits, or at the limit
-  abbrev pub step_of : List Raw → List Change → ℕ → Step
+  abbrev pub step_of : List WaitingLine → List Change → ℕ → Step
   step_of [] changes taken = Ends (unused_faults changes)
   step_of (w ∷ ws) changes taken =
       if nat_lt taken line_limit then line_step w ws changes taken (change_here changes w)
@@ -158,7 +159,7 @@ module _ (files : FileTable) (change_file : ℕ) where
 abbrev pub reads_web : FileTable → ℕ → ℕ → Found → Reads
 reads_web files web change found =
     before_reads (record { lines = []; faults = found.faults })
-    (reads_from files change (record { waiting = numbered web false 1 1 (lines_at files web); changes = found.changes; taken = 0 }))
+    (reads_from files change (record { waiting = waiting_lines web false 1 1 (lines_at files web); changes = found.changes; taken = 0 }))
 
 -- the number of the change file, if there is one
 abbrev pub change_number : FileTable → Option (List ℕ) → ℕ
@@ -189,4 +190,16 @@ source_of files roles = with_files files (reads files roles.web roles.change)
 
 -- what is read from a source without that line
 abbrev pub no_line : Line
-no_line = record { bytes = []; place = record { file = 0; line = 0 }; marked = false }
+no_line = record { bytes = []; place = record { file = 0; line = 0 }; changed = false }
+
+-- the source line of this number, from 0
+abbrev pub line_at : List Line → ℕ → Line
+line_at lines number = get_or lines number no_line
+
+-- the place of the source line of this number
+abbrev pub place_at : List Line → ℕ → Origin
+place_at lines number = (line_at lines number).place
+
+-- a fault at the source line of this number
+abbrev pub fault_at_line : SourceRead → FaultKind → ℕ → Finding
+fault_at_line source kind number = fault_at kind (named source.files (place_at source.lines number))

@@ -7,18 +7,18 @@ use Rattle.tangle_lines.specs.Adding.{most_lines}
 use Rattle.tangle_lines.specs.Faults.{Finding}
 use Rattle.tangle_lines.specs.Change.{Change}
 use Rattle.tangle_lines.specs.Inclusion.{included_name}
-use Rattle.tangle_lines.specs.Reading.{Raw, Line, Step, numbered, change_lines, plain_step, change_step}
+use Rattle.tangle_lines.specs.Reading.{WaitingLine, Line, Step, waiting_lines, change_lines, plain_step, change_step}
 use Rattle.tangle_lines.specs.Reading.Step.{Ends, Goes}
 
 -- the lines of the open files: the last one is read first
-abbrev pub stacked : List (List Raw) → List Raw
+abbrev pub stacked : List (List WaitingLine) → List WaitingLine
 stacked [] = []
 stacked (f ∷ fs) = stacked fs ++ f
 
 -- the lines that an open file still gives
-abbrev pub coming : ℕ → Bool → ℕ → Rest → List Raw
-coming file marked depth (OfFile lines read) = numbered file marked depth (read + 1) (drop read lines.now)
-coming file marked depth (OfChange lines) = change_lines file depth (map (λ l. (l.0, l.1.now)) lines.now)
+abbrev pub coming : ℕ → Bool → ℕ → Rest → List WaitingLine
+coming file changed depth (OfFile lines read) = waiting_lines file changed depth (read + 1) (drop read lines.now)
+coming file changed depth (OfChange lines) = change_lines file depth (map (λ l. (l.0, l.1.now)) lines.now)
 
 -- a file has no more lines than the limit
 abbrev pub IsShort : Rest → Type 0
@@ -26,14 +26,14 @@ IsShort (OfFile lines read) = length lines.now ≤ most_lines
 IsShort (OfChange lines) = Unit {0}
 
 -- what a step puts out and leaves waiting
-abbrev pub Makes : Step → List Raw → List Line → List Line → List Finding → List Finding → Type 0
+abbrev pub Makes : Step → List WaitingLine → List Line → List Line → List Finding → List Finding → Type 0
 Makes (Ends faults) waiting lines lines' noted noted' = (lines' ≡ lines) × (noted' ≡ noted ++ faults)
 Makes (Goes out s) waiting lines lines' noted noted' = (waiting ≡ s.waiting) × ((lines' ≡ lines ++ out.lines) × (noted' ≡ noted ++ out.faults))
 
 -- a line was read that no change takes
-abbrev pub IsPlain : FileTable → Raw → List Raw → List Raw → List Line → List Line → List Finding → List Finding → Type 0
+abbrev pub IsPlain : FileTable → WaitingLine → List WaitingLine → List WaitingLine → List Line → List Line → List Finding → List Finding → Type 0
 IsPlain files w ws ws' lines lines' noted noted' = Makes (plain_step files w ws [] 0 (included_name w.bytes)) ws' lines lines' noted noted'
 
 -- a change was used at a line
-abbrev pub IsUsed : FileTable → ℕ → Change → Raw → List Raw → List Raw → List Finding → List Finding → Type 0
+abbrev pub IsUsed : FileTable → ℕ → Change → WaitingLine → List WaitingLine → List WaitingLine → List Finding → List Finding → Type 0
 IsUsed files change_file c w ws ws' noted noted' = Makes (change_step files change_file c [] w ws 0) ws' [] [] noted noted'

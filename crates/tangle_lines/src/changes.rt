@@ -3,15 +3,15 @@ ghost use Rattle.std.specs.Prelude.{◌≡◌, ◌+◌, ◌≤◌, [], ◌∷◌
 ghost use Rattle.std.specs.List.{list_all};
 ghost use Rattle.tangle_lines.specs.Adding.{most_lines};
 ghost use Rattle.tangle_lines.specs.Bytes.{is_white};
-ghost use Rattle.tangle_lines.specs.Changes.{kind_of, next_part, closed, at_end, changes_of as changes_found};
-ghost use Rattle.tangle_lines.specs.declared.changes.Part.TheVariants.{Outside, InOld, InNew};
+ghost use Rattle.tangle_lines.specs.Changes.{kind_of, next_phase, closed, at_end, changes_of as changes_found};
+ghost use Rattle.tangle_lines.specs.declared.changes.ChangePhase.TheVariants.{Outside, InOld, InNew};
 
-use crate::cutting::Line;
 use crate::faults::{Fault, FaultKind, note};
 use crate::inclusion::is_white_byte;
-use crate::refusal::NoMemory;
+use crate::line::Line;
 use std::alloc::Global;
 use std::marker::Model;
+use tangle_streams::NoMemory;
 
 /// What a line of a change file is, by its first two bytes.
 #[derive(Clone, Copy, Debug, PartialEq, Eq)]
@@ -105,7 +105,7 @@ impl<'a> Change<'a> {
 
 /// Where in the change file a line stands.
 #[derive(Drop)]
-pub enum Part<'a> {
+pub enum ChangePhase<'a> {
     Outside,
     InOld(Change<'a>),
     InNew(Change<'a>),
@@ -123,37 +123,37 @@ pub(crate) fn changes_of<'a>(
     ensures faults { OnOk result (faults.new.items ≡ faults.old.items ++ (changes_found file.now lines.entry.now).faults) }
 {
     let mut changes = Vec::new(alloc);
-    let mut part = Part::Outside;
+    let mut phase = ChangePhase::Outside;
     let mut number = 0u32;
     let mut rest = lines;
     while let [line, others @ ..] = rest {
         number += 1;
-        part = next(alloc, file, part, number, line, &mut changes, faults)?;
+        phase = next(alloc, file, phase, number, line, &mut changes, faults)?;
         rest = others;
     }
-    finish(alloc, file, part, &mut changes, faults)?;
+    finish(alloc, file, phase, &mut changes, faults)?;
     Ok(changes)
 }
 
-/// What a line makes: the part that goes on after it, and what is found there.
+/// What a line makes: the phase that goes on after it, and what is found there.
 fn next<'a>(
     alloc: Global,
     file: &[u8],
-    part: Part<'a>,
+    phase: ChangePhase<'a>,
     number: u32,
     line: &'a Line,
     changes: &mut Vec<Change<'a>>,
     faults: &mut Vec<Fault>,
-) -> Result<Part<'a>, NoMemory>
-    ensures part { IfOk result (λ p. p ≡ (next_part file.now part.entry number line.entry.now (kind_of line.entry.now)).0) }
-    ensures changes { OnOk result (changes.new.items ≡ changes.old.items ++ (next_part file.now part.entry number line.entry.now (kind_of line.entry.now)).1.changes) }
-    ensures faults { OnOk result (faults.new.items ≡ faults.old.items ++ (next_part file.now part.entry number line.entry.now (kind_of line.entry.now)).1.faults) }
+) -> Result<ChangePhase<'a>, NoMemory>
+    ensures phase { IfOk result (λ p. p ≡ (next_phase file.now phase.entry number line.entry.now (kind_of line.entry.now)).0) }
+    ensures changes { OnOk result (changes.new.items ≡ changes.old.items ++ (next_phase file.now phase.entry number line.entry.now (kind_of line.entry.now)).1.changes) }
+    ensures faults { OnOk result (faults.new.items ≡ faults.old.items ++ (next_phase file.now phase.entry number line.entry.now (kind_of line.entry.now)).1.faults) }
 {
     let kind = line_kind(line.bytes());
-    match part {
-        Part::Outside => next_outside(alloc, file, number, kind, faults),
-        Part::InOld(change) => next_in_old(alloc, file, change, number, line, kind, faults),
-        Part::InNew(change) => next_in_new(
+    match phase {
+        ChangePhase::Outside => next_outside(alloc, file, number, kind, faults),
+        ChangePhase::InOld(change) => next_in_old(alloc, file, change, number, line, kind, faults),
+        ChangePhase::InNew(change) => next_in_new(
             alloc, file, change, number, line, kind, changes, faults,
         ),
     }
@@ -166,21 +166,21 @@ fn next_outside<'a>(
     number: u32,
     kind: LineKind,
     faults: &mut Vec<Fault>,
-) -> Result<Part<'a>, NoMemory>
-    ensures part { IfOk result (λ p. p ≡ (next_part file.now Outside number [] kind).0) }
-    ensures faults { OnOk result (faults.new.items ≡ faults.old.items ++ (next_part file.now Outside number [] kind).1.faults) }
+) -> Result<ChangePhase<'a>, NoMemory>
+    ensures phase { IfOk result (λ p. p ≡ (next_phase file.now Outside number [] kind).0) }
+    ensures faults { OnOk result (faults.new.items ≡ faults.old.items ++ (next_phase file.now Outside number [] kind).1.faults) }
 {
     match kind {
-        LineKind::BeginsChange => Ok(Part::InOld(Change::new(alloc, number))),
-        LineKind::IsText => Ok(Part::Outside),
+        LineKind::BeginsChange => Ok(ChangePhase::InOld(Change::new(alloc, number))),
+        LineKind::IsText => Ok(ChangePhase::Outside),
         LineKind::BeginsNew | LineKind::EndsChange => {
             note(alloc, FaultKind::StrayMark, file, number, faults)?;
-            Ok(Part::Outside)
+            Ok(ChangePhase::Outside)
         }
     }
 }
 
-/// What a line in the old part of a change makes.
+/// What a line among the old lines of a change makes.
 fn next_in_old<'a>(
     alloc: Global,
     file: &[u8],
@@ -189,36 +189,36 @@ fn next_in_old<'a>(
     line: &'a Line,
     kind: LineKind,
     faults: &mut Vec<Fault>,
-) -> Result<Part<'a>, NoMemory>
-    ensures part { IfOk result (λ p. p ≡ (next_part file.now (InOld change.entry) number line.entry.now kind).0) }
-    ensures faults { OnOk result (faults.new.items ≡ faults.old.items ++ (next_part file.now (InOld change.entry) number line.entry.now kind).1.faults) }
+) -> Result<ChangePhase<'a>, NoMemory>
+    ensures phase { IfOk result (λ p. p ≡ (next_phase file.now (InOld change.entry) number line.entry.now kind).0) }
+    ensures faults { OnOk result (faults.new.items ≡ faults.old.items ++ (next_phase file.now (InOld change.entry) number line.entry.now kind).1.faults) }
 {
     let mut change = change;
     match kind {
         LineKind::BeginsChange => {
             note(alloc, FaultKind::MissingY, file, change.at, faults)?;
-            Ok(Part::InOld(Change::new(alloc, number)))
+            Ok(ChangePhase::InOld(Change::new(alloc, number)))
         }
         LineKind::EndsChange => {
             note(alloc, FaultKind::MissingY, file, change.at, faults)?;
-            Ok(Part::Outside)
+            Ok(ChangePhase::Outside)
         }
         LineKind::BeginsNew => {
             if change.is_empty() {
                 note(alloc, FaultKind::EmptyOld, file, change.at, faults)?;
             }
-            Ok(Part::InNew(change))
+            Ok(ChangePhase::InNew(change))
         }
         LineKind::IsText => {
             if !change.is_empty() || !is_blank(line.bytes()) {
                 change.add_old(line)?;
             }
-            Ok(Part::InOld(change))
+            Ok(ChangePhase::InOld(change))
         }
     }
 }
 
-/// What a line in the new part of a change makes.
+/// What a line among the new lines of a change makes.
 fn next_in_new<'a>(
     alloc: Global,
     file: &[u8],
@@ -228,29 +228,29 @@ fn next_in_new<'a>(
     kind: LineKind,
     changes: &mut Vec<Change<'a>>,
     faults: &mut Vec<Fault>,
-) -> Result<Part<'a>, NoMemory>
-    ensures part { IfOk result (λ p. p ≡ (next_part file.now (InNew change.entry) number line.entry.now kind).0) }
-    ensures changes { OnOk result (changes.new.items ≡ changes.old.items ++ (next_part file.now (InNew change.entry) number line.entry.now kind).1.changes) }
-    ensures faults { OnOk result (faults.new.items ≡ faults.old.items ++ (next_part file.now (InNew change.entry) number line.entry.now kind).1.faults) }
+) -> Result<ChangePhase<'a>, NoMemory>
+    ensures phase { IfOk result (λ p. p ≡ (next_phase file.now (InNew change.entry) number line.entry.now kind).0) }
+    ensures changes { OnOk result (changes.new.items ≡ changes.old.items ++ (next_phase file.now (InNew change.entry) number line.entry.now kind).1.changes) }
+    ensures faults { OnOk result (faults.new.items ≡ faults.old.items ++ (next_phase file.now (InNew change.entry) number line.entry.now kind).1.faults) }
 {
     let mut change = change;
     match kind {
         LineKind::BeginsChange => {
             note(alloc, FaultKind::MissingZ, file, change.at, faults)?;
             keep(change, changes)?;
-            Ok(Part::InOld(Change::new(alloc, number)))
+            Ok(ChangePhase::InOld(Change::new(alloc, number)))
         }
         LineKind::BeginsNew => {
             note(alloc, FaultKind::StrayMark, file, number, faults)?;
-            Ok(Part::InNew(change))
+            Ok(ChangePhase::InNew(change))
         }
         LineKind::EndsChange => {
             keep(change, changes)?;
-            Ok(Part::Outside)
+            Ok(ChangePhase::Outside)
         }
         LineKind::IsText => {
             change.add_new(number, line)?;
-            Ok(Part::InNew(change))
+            Ok(ChangePhase::InNew(change))
         }
     }
 }
@@ -259,20 +259,20 @@ fn next_in_new<'a>(
 fn finish<'a>(
     alloc: Global,
     file: &[u8],
-    part: Part<'a>,
+    phase: ChangePhase<'a>,
     changes: &mut Vec<Change<'a>>,
     faults: &mut Vec<Fault>,
 ) -> Result<(), NoMemory>
-    ensures changes { OnOk result (changes.new.items ≡ changes.old.items ++ (at_end file.now part.entry).changes) }
-    ensures faults { OnOk result (faults.new.items ≡ faults.old.items ++ (at_end file.now part.entry).faults) }
+    ensures changes { OnOk result (changes.new.items ≡ changes.old.items ++ (at_end file.now phase.entry).changes) }
+    ensures faults { OnOk result (faults.new.items ≡ faults.old.items ++ (at_end file.now phase.entry).faults) }
 {
-    match part {
-        Part::Outside => Ok(()),
-        Part::InOld(change) => {
+    match phase {
+        ChangePhase::Outside => Ok(()),
+        ChangePhase::InOld(change) => {
             let at = change.at;
             note(alloc, FaultKind::MissingY, file, at, faults)
         }
-        Part::InNew(change) => {
+        ChangePhase::InNew(change) => {
             let at = change.at;
             keep(change, changes)?;
             note(alloc, FaultKind::MissingZ, file, at, faults)

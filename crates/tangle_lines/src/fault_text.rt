@@ -2,12 +2,11 @@
 ghost use Rattle.std.specs.Prelude.{◌≡◌, ◌^◌, ◌<◌, length, decimal};
 ghost use Rattle.std.specs.Option.{option_copied};
 ghost use Rattle.tangle_lines.specs.FaultText.{wording, bracketed, ending_text, spot_text, place_text, severity as severity_of, fault_line};
-ghost use Rattle.tangle_lines.specs.Streams.{PutsOut, PutsOutMore};
+ghost use Rattle.tangle_streams.specs.Streams.{PutsOut, PutsOutMore};
 
 use crate::faults::{Fault, FaultKind, Place};
-use crate::refusal::WriteFault;
-use crate::streams::{Sink, put};
 use itoa::Buffer;
+use tangle_streams::{Sink, WriteFault, put};
 
 /// What the text of a fault ends with.
 #[derive(Clone, Copy, Debug, PartialEq, Eq)]
@@ -70,8 +69,7 @@ fn words(kind: FaultKind) -> (&'static [u8], Ending)
 ///
 /// `WriteFault(n)` where the sink failed, or took no byte, after the first `n` bytes of the line.
 pub fn write_fault<S: Sink>(fault: &Fault, sink: &mut S) -> Result<u128, WriteFault>
-    ensures { PutsOut (S.taken sink.old) (S.taken sink.new) (S.failures sink.old) (S.failures sink.new)
-        (fault_line fault.now) result }
+    ensures { PutsOut (S.stream sink.old) (S.stream sink.new) (fault_line fault.now) result }
 {
     let kind = fault.kind();
     let (text, ending) = words(kind);
@@ -95,8 +93,7 @@ fn severity(kind: FaultKind) -> &'static [u8]
 
 /// Writes the place of a fault, if it has one.
 fn put_place<S: Sink>(place: Option<&Place>, sink: &mut S) -> Result<u128, WriteFault>
-    ensures written { PutsOut (S.taken sink.old) (S.taken sink.new) (S.failures sink.old) (S.failures sink.new)
-        (place_text (option_copied place.entry)) result }
+    ensures written { PutsOut (S.stream sink.old) (S.stream sink.new) (place_text (option_copied place.entry)) result }
     ensures short { length (place_text (option_copied place.entry)) < 2 ^ 65 }
 {
     match place {
@@ -107,8 +104,7 @@ fn put_place<S: Sink>(place: Option<&Place>, sink: &mut S) -> Result<u128, Write
 
 /// Writes a place.
 fn put_spot<S: Sink>(place: &Place, sink: &mut S) -> Result<u128, WriteFault>
-    ensures written { PutsOut (S.taken sink.old) (S.taken sink.new) (S.failures sink.old) (S.failures sink.new)
-        (spot_text place.now) result }
+    ensures written { PutsOut (S.stream sink.old) (S.stream sink.new) (spot_text place.now) result }
     ensures short { length (spot_text place.now) < 2 ^ 65 }
 {
     let mut digits = Buffer::new();
@@ -125,8 +121,7 @@ fn put_ending<S: Sink>(
     ending: Ending,
     fault: &Fault,
 ) -> Result<u128, WriteFault>
-    ensures written { PutsOutMore (S.taken sink.old) (S.taken sink.new) (S.failures sink.old) (S.failures sink.new)
-        so_far (ending_text ending fault.now) result }
+    ensures written { PutsOutMore (S.stream sink.old) (S.stream sink.new) so_far (ending_text ending fault.now) result }
     ensures short { length (ending_text ending fault.now) < 2 ^ 65 }
 {
     match ending {
@@ -147,8 +142,7 @@ fn put_count<S: Sink>(
     so_far: Result<u128, WriteFault>,
     count: usize,
 ) -> Result<u128, WriteFault>
-    ensures written { PutsOutMore (S.taken sink.old) (S.taken sink.new) (S.failures sink.old) (S.failures sink.new)
-        so_far (decimal count) result }
+    ensures written { PutsOutMore (S.stream sink.old) (S.stream sink.new) so_far (decimal count) result }
     ensures short { length (decimal count) < 2 ^ 64 }
 {
     let mut digits = Buffer::new();
@@ -161,8 +155,7 @@ fn put_bracketed<S: Sink>(
     so_far: Result<u128, WriteFault>,
     name: &[u8],
 ) -> Result<u128, WriteFault>
-    ensures { PutsOutMore (S.taken sink.old) (S.taken sink.new) (S.failures sink.old) (S.failures sink.new)
-        so_far (bracketed name.now) result }
+    ensures { PutsOutMore (S.stream sink.old) (S.stream sink.new) so_far (bracketed name.now) result }
 {
     let opened = put(sink, so_far, b"<");
     let named = put(sink, opened, name);

@@ -3,9 +3,9 @@ ghost use Rattle.std.specs.Prelude.{◌≡◌, [], ◌∷◌, ◌++◌, IfOk, On
 ghost use Rattle.std.specs.Option.{option_copied};
 ghost use Rattle.tangle_lines.specs.Faults.{fault_at, fault_about, fault_counting, fault_unplaced, is_error, is_error_kind};
 
-use crate::refusal::NoMemory;
 use std::alloc::Global;
 use std::marker::Model;
+use tangle_streams::NoMemory;
 
 /// What a fault is. The first ten are of change files and reading, those from `CodeInC` on of scanning, and those from
 /// `NoFullName` on of names and outputs.

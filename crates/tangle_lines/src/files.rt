@@ -1,29 +1,32 @@
 //! The table of files.
-ghost use Rattle.std.specs.Prelude.{◌≡◌, ◌≤◌, [], length, slice_get, OnOk, OnErr, IsOkUnless, IfSome, IfNone, Err};
+ghost use Rattle.std.specs.Prelude.{◌≡◌, ◌≤◌, [], length, slice_get, OnOk, OnErr, IsOkUnless, IfOk, IfSome, IfNone, Err};
 ghost use Rattle.std.specs.Option.{option_copied, option_map};
 ghost use Rattle.tangle_lines.specs.Lines.{file_number, number_of, name_at as name_in_table, lines_at as lines_in_table, lines_of};
-ghost use Rattle.tangle_lines.specs.Adding.{added, add_refusal, has_file, is_name, most_files, most_lines};
+ghost use Rattle.tangle_lines.specs.Adding.{HasDistinctNames, with_file, add_refusal, has_file, is_name, most_files, most_lines};
 
-use crate::cutting::{Line, cut_lines, measure_lines};
+use crate::cutting::{cut_lines, measure_lines};
+use crate::line::Line;
 use crate::refusal::Refusal;
 use indexmap::IndexMap;
 use std::alloc::Global;
 use std::marker::Model;
+use std::rc::Rc;
+use tangle_streams::NoMemory;
 
 /// The most bytes of a file's name.
 const LONGEST_NAME: usize = 255;
 
 /// The most files of a table.
-const MOST_FILES: usize = 256;
+pub(crate) const MOST_FILES: usize = 256;
 
 /// The most lines of a file.
-const MOST_LINES: usize = 1_000_000;
+pub(crate) const MOST_LINES: usize = 1_000_000;
 
 /// Files with distinct names and their lines, in the order in which they were added: at most 256 files, each of
 /// at most 1,000,000 lines. A file's number is its place in that order, from 0.
 #[derive(Drop)]
 pub struct Files {
-    table: IndexMap<Vec<u8>, Vec<Line>>,
+    table: IndexMap<Vec<u8>, Rc<Vec<Line>>>,
 }
 
 impl Model for Files {
@@ -58,7 +61,7 @@ impl Files {
     /// than 255 bytes or has a line feed; `FileExists`; `TooManyFiles` at 256 files; `LineTooLong` for a line of more
     /// than 65,535 bytes; `TooManyLines` for more than 1,000,000 lines; `NoMemory`.
     pub fn add(&mut self, name: &[u8], bytes: &[u8]) -> Result<(), Refusal>
-        ensures ok { OnOk result (self.new ≡ added self.old name.now bytes.now) }
+        ensures ok { OnOk result (self.new ≡ with_file self.old name.now bytes.now) }
         ensures refused { IfSome (add_refusal self.old name.now bytes.now) (λ e. result ≡ Err e) }
         ensures only { IfNone (add_refusal self.old name.now bytes.now) (IsOkUnless result Refusal.NoMemory) }
         ensures err { OnErr result (self.new ≡ self.old) }
@@ -67,10 +70,22 @@ impl Files {
             return Err(refusal);
         }
         let alloc = *self.table.allocator();
-        let lines = cut_lines(alloc, bytes)?;
+        let lines = Rc::new(alloc, cut_lines(alloc, bytes)?)?;
         let name = Vec::from_slice(alloc, name)?;
         self.table.insert(name, lines)?;
         Ok(())
+    }
+
+    /// The same names with the same lines in the same order. The lines are shared and not copied.
+    ///
+    /// # Errors
+    ///
+    /// `NoMemory`.
+    pub fn copy(&self) -> Result<Files, NoMemory>
+        ensures { IfOk result (λ copy. copy ≡ self.now) }
+    {
+        let table = self.table.clone()?;
+        Ok(Files { table })
     }
 
     /// Why a file is not to be added, but for want of memory.
@@ -96,10 +111,11 @@ impl Files {
         None
     }
 
-    /// How many files there are: at most 256.
+    /// How many files there are: at most 256, no two of which have one name.
     pub fn count(&self) -> usize
         ensures count { result ≡ length self.now }
         ensures limit { result ≤ most_files }
+        ensures distinct { HasDistinctNames self.now }
     {
         self.table.len()
     }
@@ -125,7 +141,7 @@ impl Files {
     }
 
     /// Whether there is a file of this name.
-    fn has(&self, name: &[u8]) -> bool
+    pub(crate) fn has(&self, name: &[u8]) -> bool
         ensures { result ≡ has_file self.now name.now }
     {
         self.lines(name).is_some()

@@ -6,23 +6,27 @@
 
 mod changes;
 mod cutting;
+mod edits;
 mod fault_text;
 mod faults;
 mod files;
 mod inclusion;
+mod line;
 mod reading;
 mod refusal;
+mod role_names;
 mod roles;
 mod source;
-mod streams;
 mod waiting;
 
-pub use cutting::Line;
+pub use edits::Edit;
 pub use fault_text::write_fault;
 pub use faults::{Fault, FaultKind, Origin, Place};
 pub use files::{Files, is_file_name};
+pub use line::Line;
 pub use reading::{read_source, reading_goes_step_by_step};
-pub use refusal::{NoMemory, Refusal, WriteFault};
+pub use refusal::Refusal;
+pub use role_names::RoleNames;
 pub use roles::Roles;
 pub use source::Source;
-pub use streams::{IoSink, Sink, put};
+pub use tangle_streams::{IoSink, NoMemory, Sink, WriteFault, put};

@@ -8,15 +8,15 @@ ghost use Rattle.tangle_lines.specs.Reading.{State, line_limit, inclusion, reads
 ghost use Rattle.tangle_lines.specs.Waiting.{IsPlain, IsUsed};
 
 use crate::changes::{Change, changes_of};
-use crate::cutting::Line;
 use crate::faults::{Fault, FaultKind, note};
 use crate::files::Files;
 use crate::inclusion::included_name;
-use crate::refusal::NoMemory;
+use crate::line::Line;
 use crate::roles::Roles;
 use crate::source::{Source, SourceLine};
 use crate::waiting::{OpenFile, RawLine, Waiting};
 use std::alloc::Global;
+use tangle_streams::NoMemory;
 
 /// The most files that may be open at once, the web counted.
 const DEPTH_LIMIT: u8 = 10;
@@ -94,7 +94,7 @@ fn include<'a, 'c>(
         }
         Some(number) => {
             let lines = files.lines_at(number);
-            waiting.open(OpenFile::new(number, lines, line.marked, line.depth + 1))?;
+            waiting.open(OpenFile::new(number, lines, line.is_changed, line.depth + 1))?;
             Ok(())
         }
     }
@@ -115,7 +115,7 @@ fn read_plain<'a, 'c>(
     match included_name(line.text.bytes()) {
         Some(name) => include(alloc, files, waiting, faults, line, name),
         None => {
-            lines.push(SourceLine::new(line.text, line.place, line.marked))?;
+            lines.push(SourceLine::new(line.text, line.place, line.is_changed))?;
             Ok(())
         }
     }
@@ -138,7 +138,7 @@ fn change_at<'a, 'c>(changes: &'c [Change<'a>], line: &RawLine<'a>) -> Option<&'
     match changes {
         [] => None,
         [change, ..] => {
-            if !line.marked && begins_change(change, line.text.bytes()) {
+            if !line.is_changed && begins_change(change, line.text.bytes()) {
                 Some(change)
             } else {
                 None

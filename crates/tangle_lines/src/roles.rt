@@ -1,29 +1,28 @@
 //! The roles of files.
 ghost use Rattle.std.specs.Prelude.{◌≡◌, IfOk, IfSome, IfNone, IsOkUnless, Err};
 ghost use Rattle.std.specs.Option.{option_copied, option_map};
-ghost use Rattle.tangle_lines.specs.Roles.{RoleNames, is_name_if_any, roles_refusal, fits as roles_fit, is_there, is_there_if_any};
+ghost use Rattle.tangle_lines.specs.Roles.{RoleNames as NamesGiven, is_name_if_any, roles_refusal, fits as roles_fit, is_there, is_there_if_any};
 
 use crate::files::{Files, is_file_name};
-use crate::refusal::{NoMemory, Refusal};
+use crate::refusal::Refusal;
+use crate::role_names::RoleNames;
 use std::alloc::Global;
 use std::marker::Model;
+use tangle_streams::NoMemory;
 
 /// The names of the web, of the change file if there is one, and of the main file that is written. CWEB's programs take
 /// the same three from the command line.
 #[derive(Drop)]
 pub struct Roles {
-    web: Vec<u8>,
-    change: Option<Vec<u8>>,
-    out: Vec<u8>,
+    names: RoleNames,
 }
 
 impl Model for Roles {
-    ghost use Rattle.std.specs.Option.{option_map};
-    ghost use Rattle.tangle_lines.specs.Roles.{RoleNames};
+    ghost use Rattle.tangle_lines.specs.Roles.{RoleNames as NamesGiven};
 
-    ghost Value = { RoleNames };
+    ghost Value = { NamesGiven };
 
-    ghost view = { λ r. record { web = r.web.items; change = option_map (λ c. c.items) r.change; out = r.out.items } };
+    ghost view = { λ r. r.names };
 }
 
 impl Roles {
@@ -39,9 +38,9 @@ impl Roles {
         out: &[u8],
     ) -> Result<Self, Refusal>
         ensures roles { IfOk result (λ r. r ≡ record { web = web.now; change = option_copied change.entry; out = out.now }) }
-        ensures refused { let names : RoleNames = record { web = web.now; change = option_copied change.entry; out = out.now } in
+        ensures refused { let names : NamesGiven = record { web = web.now; change = option_copied change.entry; out = out.now } in
             IfSome (roles_refusal names) (λ e. result ≡ Err e) }
-        ensures only { let names : RoleNames = record { web = web.now; change = option_copied change.entry; out = out.now } in
+        ensures only { let names : NamesGiven = record { web = web.now; change = option_copied change.entry; out = out.now } in
             IfNone (roles_refusal names) (IsOkUnless result Refusal.NoMemory) }
     {
         if !(is_file_name(web) && is_file_name_if_any(change) && is_file_name(out)) {
@@ -50,31 +49,30 @@ impl Roles {
         let web = Vec::from_slice(alloc, web)?;
         let change = copy_if_any(alloc, change)?;
         let out = Vec::from_slice(alloc, out)?;
-        Ok(Roles { web, change, out })
+        Ok(Roles {
+            names: RoleNames::new(web, change, out),
+        })
     }
 
     /// The name of the web.
     pub fn web(&self) -> &[u8]
         ensures { result.now ≡ self.now.web }
     {
-        self.web.as_slice()
+        self.names.web()
     }
 
     /// The name of the change file: `None` if there is none.
     pub fn change(&self) -> Option<&[u8]>
         ensures { option_copied result ≡ self.now.change }
     {
-        match &self.change {
-            Some(name) => Some(name.as_slice()),
-            None => None,
-        }
+        self.names.change()
     }
 
     /// The name of the main file.
     pub fn out(&self) -> &[u8]
         ensures { result.now ≡ self.now.out }
     {
-        self.out.as_slice()
+        self.names.out()
     }
 
     /// Whether the web, and the change file that is named, are in the table.

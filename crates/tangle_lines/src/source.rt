@@ -1,13 +1,15 @@
 //! The source: what reading gives.
-ghost use Rattle.std.specs.Prelude.{◌≡◌, ◌<◌, ◌≤◌, length, get_or};
+ghost use Rattle.std.specs.Prelude.{◌≡◌, ◌<◌, ◌≤◌, length, slice_get, IfOk};
 ghost use Rattle.tangle_lines.specs.Lines.{name_at};
 ghost use Rattle.tangle_lines.specs.Adding.{longest_line, most_files};
-ghost use Rattle.tangle_lines.specs.Reading.{no_line, line_limit};
+ghost use Rattle.tangle_lines.specs.Reading.{fault_at_line, line_at, line_limit, place_at};
 
-use crate::cutting::Line;
-use crate::faults::{Fault, Origin};
+use crate::faults::{Fault, FaultKind, Origin};
 use crate::files::Files;
+use crate::line::Line;
+use std::alloc::Global;
 use std::marker::Model;
+use tangle_streams::NoMemory;
 
 /// A source line, with its place, and whether it is from the change file. The place stands as its two numbers, so
 /// that a line takes 16 bytes.
@@ -16,7 +18,7 @@ pub(crate) struct SourceLine<'a> {
     text: &'a Line,
     number: u32,
     file: u16,
-    marked: bool,
+    is_changed: bool,
 }
 
 impl<'a> Model for SourceLine<'a> {
@@ -24,20 +26,20 @@ impl<'a> Model for SourceLine<'a> {
 
     ghost Value = { LineRead };
 
-    ghost view = { λ l. record { bytes = l.text.now; place = record { file = l.file; line = l.number }; marked = l.marked } };
+    ghost view = { λ l. record { bytes = l.text.now; place = record { file = l.file; line = l.number }; changed = l.is_changed } };
 }
 
 impl<'a> SourceLine<'a> {
     /// The line of this place.
-    pub(crate) fn new(text: &'a Line, place: Origin, marked: bool) -> Self
-        ensures { result ≡ record { bytes = text.now; place = place; marked = marked } }
+    pub(crate) fn new(text: &'a Line, place: Origin, is_changed: bool) -> Self
+        ensures { result ≡ record { bytes = text.now; place = place; changed = is_changed } }
     {
         let Origin { file, line: number } = place;
         SourceLine {
             text,
             number,
             file,
-            marked,
+            is_changed,
         }
     }
 
@@ -82,7 +84,7 @@ impl<'a> Source<'a> {
 
     /// The bytes of the line of this number, from 0: at most 65,535, and none behind the last line.
     pub fn line(&self, number: usize) -> &'a [u8]
-        ensures bytes { result.now ≡ (get_or self.now.lines number no_line).bytes }
+        ensures bytes { result.now ≡ (line_at self.now.lines number).bytes }
         ensures short { length result.now ≤ longest_line }
     {
         match self.lines.get(number) {
@@ -91,9 +93,31 @@ impl<'a> Source<'a> {
         }
     }
 
+    /// The first byte of the line of this number, from 0: `None` of an empty line, and behind the last one.
+    pub fn first_byte(&self, number: usize) -> Option<u8>
+        ensures { result ≡ slice_get (line_at self.now.lines number).bytes 0 }
+    {
+        match self.line(number) {
+            [first, ..] => Some(*first),
+            [] => None,
+        }
+    }
+
+    /// A fault at the line of this number, from 0.
+    ///
+    /// # Errors
+    ///
+    /// `NoMemory`.
+    pub fn fault_at(&self, alloc: Global, kind: FaultKind, number: usize) -> Result<Fault, NoMemory>
+        ensures { IfOk result (λ fault. fault ≡ fault_at_line self.now kind number) }
+    {
+        let origin = self.origin(number);
+        Fault::at(alloc, kind, self.file_name(origin), origin.line)
+    }
+
     /// Where the line of this number, from 0, stands in the files: behind the last line, line 0 of file 0.
     pub fn origin(&self, number: usize) -> Origin
-        ensures { result ≡ (get_or self.now.lines number no_line).place }
+        ensures { result ≡ place_at self.now.lines number }
     {
         match self.lines.get(number) {
             Some(line) => line.place(),
@@ -103,11 +127,11 @@ impl<'a> Source<'a> {
 
     /// Whether the line of this number, from 0, is from the change file, or from a file that such a line includes.
     /// Behind the last line none is.
-    pub fn is_marked(&self, number: usize) -> bool
-        ensures { result ≡ (get_or self.now.lines number no_line).marked }
+    pub fn is_changed(&self, number: usize) -> bool
+        ensures { result ≡ (line_at self.now.lines number).changed }
     {
         match self.lines.get(number) {
-            Some(line) => line.marked,
+            Some(line) => line.is_changed,
             None => false,
         }
     }

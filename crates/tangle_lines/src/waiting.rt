@@ -1,33 +1,33 @@
 //! The open files, seen as the one list of the lines that wait to be read.
 ghost use Rattle.std.specs.Prelude.{◌≡◌, ◌+◌, ◌≤◌, [], ◌∷◌, ◌++◌, length, drop, map, true, IfSome, IfNone, OnOk};
 ghost use Rattle.tangle_lines.specs.Adding.{most_lines};
-ghost use Rattle.tangle_lines.specs.Reading.{numbered, change_lines};
+ghost use Rattle.tangle_lines.specs.Reading.{waiting_lines, change_lines};
 
-use crate::cutting::Line;
 use crate::faults::Origin;
-use crate::refusal::NoMemory;
+use crate::line::Line;
 use std::alloc::Global;
 use std::marker::Model;
+use tangle_streams::NoMemory;
 
-/// A line that waits to be read. It is marked if it is from the change file, or from a file that such a line includes;
+/// A line that waits to be read. It is changed if it is from the change file, or from a file that such a line includes;
 /// the web's lines have depth 1, and those of an included file one more than the line that includes it.
 #[derive(Drop)]
 pub(crate) struct RawLine<'a> {
     pub(crate) text: &'a Line,
     pub(crate) place: Origin,
-    pub(crate) marked: bool,
+    pub(crate) is_changed: bool,
     pub(crate) depth: u8,
 }
 
 impl<'a> Model for RawLine<'a> {
-    ghost use Rattle.tangle_lines.specs.Reading.{Raw};
+    ghost use Rattle.tangle_lines.specs.Reading.{WaitingLine};
 
-    ghost Value = { Raw };
+    ghost Value = { WaitingLine };
 
     ghost view = { λ r. record {
       bytes = r.text.now;
       place = r.place;
-      marked = r.marked;
+      changed = r.is_changed;
       depth = r.depth;
     } };
 }
@@ -46,32 +46,32 @@ pub enum Rest<'a, 'c> {
 pub(crate) struct OpenFile<'a, 'c> {
     file: u16,
     rest: Rest<'a, 'c>,
-    marked: bool,
+    is_changed: bool,
     depth: u8,
 }
 
 impl<'a, 'c> Model for OpenFile<'a, 'c> {
     ghost use Rattle.std.specs.Prelude.{List};
-    ghost use Rattle.tangle_lines.specs.Reading.{Raw};
+    ghost use Rattle.tangle_lines.specs.Reading.{WaitingLine};
     ghost use Rattle.tangle_lines.specs.Waiting.{coming, IsShort};
 
-    ghost Value = { List Raw };
+    ghost Value = { List WaitingLine };
 
-    ghost view = { λ f. coming f.file f.marked f.depth f.rest };
+    ghost view = { λ f. coming f.file f.is_changed f.depth f.rest };
 
     ghost invariant = { λ f. IsShort f.rest };
 }
 
 impl<'a, 'c> OpenFile<'a, 'c> {
     /// A file of which no line was read.
-    pub(crate) fn new(file: u16, lines: &'a [Line], marked: bool, depth: u8) -> Self
+    pub(crate) fn new(file: u16, lines: &'a [Line], is_changed: bool, depth: u8) -> Self
         requires { length lines.now ≤ most_lines }
-        ensures { result ≡ numbered file marked depth 1 lines.entry.now }
+        ensures { result ≡ waiting_lines file is_changed depth 1 lines.entry.now }
     {
         OpenFile {
             file,
             rest: Rest::OfFile(lines, 0),
-            marked,
+            is_changed,
             depth,
         }
     }
@@ -83,7 +83,7 @@ impl<'a, 'c> OpenFile<'a, 'c> {
         OpenFile {
             file,
             rest: Rest::OfChange(lines),
-            marked: true,
+            is_changed: true,
             depth,
         }
     }
@@ -104,7 +104,7 @@ impl<'a, 'c> OpenFile<'a, 'c> {
                             file: self.file,
                             line: number,
                         },
-                        marked: self.marked,
+                        is_changed: self.is_changed,
                         depth: self.depth,
                     })
                 }
@@ -119,7 +119,7 @@ impl<'a, 'c> OpenFile<'a, 'c> {
                             file: self.file,
                             line: *line,
                         },
-                        marked: true,
+                        is_changed: true,
                         depth: self.depth,
                     })
                 }
@@ -148,10 +148,10 @@ pub(crate) struct Waiting<'a, 'c> {
 
 impl<'a, 'c> Model for Waiting<'a, 'c> {
     ghost use Rattle.std.specs.Prelude.{List};
-    ghost use Rattle.tangle_lines.specs.Reading.{Raw};
+    ghost use Rattle.tangle_lines.specs.Reading.{WaitingLine};
     ghost use Rattle.tangle_lines.specs.Waiting.{stacked};
 
-    ghost Value = { List Raw };
+    ghost Value = { List WaitingLine };
 
     ghost view = { λ w. stacked w.files.items };
 }

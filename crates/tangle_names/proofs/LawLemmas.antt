@@ -6,9 +6,9 @@ use Rattle.std.specs.Str.{bytes_eq}
 use Rattle.std.proofs.lemmas.Cmp.{nat_list_eq_equiv}
 use Rattle.std.proofs.lemmas.List.Folds.{Any-from_list_any}
 use Rattle.std.proofs.lemmas.Slice.Eq.{bytes_eq-Decides}
-use Rattle.tangle_scan.specs.Web.{OccurrenceRead}
+use Rattle.tangle_lexer.specs.Occurrences.{OccurrenceRead}
 use Rattle.tangle_names.specs.Names.{Text, Meaning, Nothing, One, Several, begins_with, full_names, meaning, means, only, only_with, prefix}
-use Rattle.tangle_names.specs.Resolving.{first_occurrence, meanings, names_in_order, numbered, resolve, resolves_to}
+use Rattle.tangle_names.specs.Resolving.{first_occurrence, meanings, names_in_order, resolution, resolve, resolves_to}
 use Rattle.tangle_names.specs.Laws.{IsNumberOf, ResolvesFull, ResolvesPrefix}
 use Rattle.tangle_names.proofs.MeaningLemmas.{cons_cases, from-one, here, into_filter, out_of_filter, there}
 use Rattle.tangle_names.proofs.ResolvingLemmas.{meant-fold}
@@ -76,7 +76,7 @@ number-at t (u ∷ us) h = number-either t u us h (number-at t us)
 pub full_law : (os : List OccurrenceRead) (o : OccurrenceRead) → Contains os o → o.is_abbreviation ≡ false → ResolvesFull (names_in_order os) o.text (resolve os o)
 full_law os o c is =
     let itself = means_itself (full_names os) o is in
-    subst (λ m. ResolvesFull (names_in_order os) o.text (numbered (names_in_order os) m)) (sym itself) (number-at o.text (names_in_order os) (among os o o.text c itself))
+    subst (λ m. ResolvesFull (names_in_order os) o.text (resolution (names_in_order os) m)) (sym itself) (number-at o.text (names_in_order os) (among os o o.text c itself))
 
 from-nothing : (xs : List Text) → Nothing ≡ only xs → (t : Text) → Contains xs t → ⊥
 from-nothing [] e t c = omega (arith, c.1)
@@ -115,7 +115,7 @@ is_not true h = absurd (h refl)
 is_not false h = refl
 
 prefix_law-by : (os : List OccurrenceRead) (p : Text) (m : Meaning) → m ≡ only_with (full_names os) p → ((t : Text) → m ≡ One t → list_any (bytes_eq t) (names_in_order os) ≡ true)
-    → ResolvesPrefix (names_in_order os) (full_names os) p (numbered (names_in_order os) m)
+    → ResolvesPrefix (names_in_order os) (full_names os) p (resolution (names_in_order os) m)
 prefix_law-by os p Nothing e named = λ t c. is_not _ (λ begun. from-nothing (filter (begins_with p) (full_names os)) e t (into_filter (begins_with p) (full_names os) t c begun))
 prefix_law-by os p (One t) e named =
     let found = from-one (filter (begins_with p) (full_names os)) t e in

@@ -1,3 +1,4 @@
+mod FirstLemmas
 mod KeyLemmas
 mod LawLemmas
 mod MeaningLemmas

@@ -8,7 +8,7 @@ use Rattle.std.proofs.lemmas.List.Folds.{list_any-append}
 use Rattle.tangle_names.specs.declared.Resolved.{Resolved}
 use Rattle.tangle_names.specs.declared.Resolved.TheVariants.{Name}
 use Rattle.tangle_names.specs.Names.{Text, Meaning, Nothing, One, Several}
-use Rattle.tangle_names.specs.Resolving.{names_of, numbered, with_name}
+use Rattle.tangle_names.specs.Resolving.{names_of, resolution, with_name}
 use Rattle.tangle_names.specs.Sorted.{meaning_of}
 use Rattle.tangle_names.specs.declared.sorted.Meaning.{Meaning as Found}
 use Rattle.tangle_names.proofs.MeaningLemmas.{cons_cases, here, there}
@@ -86,15 +86,15 @@ number-own ts t = by (list_any (bytes_eq t) ts) refl
     by true is = ap (λ b. position_or_len (bytes_eq t) (cond b ts (ts ++ t ∷ []))) is
     by false is = ap (λ b. position_or_len (bytes_eq t) (cond b ts (ts ++ t ∷ []))) is ∙ last-append (bytes_eq t) ts t (nat_list_eq_equiv.refl t) is
 
-numbered-own : (ts : List Text) (m : Meaning) → numbered (with_name ts m) m ≡ numbered ts m
-numbered-own ts Nothing = refl
-numbered-own ts (One t) = ap Name (number-own ts t)
-numbered-own ts Several = refl
+resolution-own : (ts : List Text) (m : Meaning) → resolution (with_name ts m) m ≡ resolution ts m
+resolution-own ts Nothing = refl
+resolution-own ts (One t) = ap Name (number-own ts t)
+resolution-own ts Several = refl
 
-numbered-kept : (ms : List Meaning) (m n : Meaning) → Contains ms n → numbered (with_name (names_of ms) m) n ≡ numbered (names_of ms) n
-numbered-kept ms m Nothing c = refl
-numbered-kept ms m (One t) c = ap Name (number-with (names_of ms) m t (meant-fold t ms [] c))
-numbered-kept ms m Several c = refl
+resolution-kept : (ms : List Meaning) (m n : Meaning) → Contains ms n → resolution (with_name (names_of ms) m) n ≡ resolution (names_of ms) n
+resolution-kept ms m Nothing c = refl
+resolution-kept ms m (One t) c = ap Name (number-with (names_of ms) m t (meant-fold t ms [] c))
+resolution-kept ms m Several c = refl
 
 map-agree : (f g : Meaning → Resolved) (ms : List Meaning) → ((m : Meaning) → Contains ms m → f m ≡ g m) → map f ms ≡ map g ms
 map-agree f g [] same = refl
@@ -114,24 +114,24 @@ names-more ms i d h =
     ap (λ xs. names_of (map meaning_of xs)) (take_more ms i d h) ∙ ap names_of (map_push meaning_of (take i ms) (get_or ms i d))
     ∙ fold-push [] (map meaning_of (take i ms)) (meaning_of (get_or ms i d))
 
-pub numbered-more : (ms : List Found) (i : ℕ) (d : Found) → i < length ms
-    → map (numbered (names_of (map meaning_of (take (i + 1) ms)))) (map meaning_of (take (i + 1) ms))
-    ≡ map (numbered (names_of (map meaning_of (take i ms)))) (map meaning_of (take i ms)) ++ numbered (names_of (map meaning_of (take i ms))) (meaning_of (get_or ms i d)) ∷ []
-numbered-more ms i d h =
+pub resolution-more : (ms : List Found) (i : ℕ) (d : Found) → i < length ms
+    → map (resolution (names_of (map meaning_of (take (i + 1) ms)))) (map meaning_of (take (i + 1) ms))
+    ≡ map (resolution (names_of (map meaning_of (take i ms)))) (map meaning_of (take i ms)) ++ resolution (names_of (map meaning_of (take i ms))) (meaning_of (get_or ms i d)) ∷ []
+resolution-more ms i d h =
     let before = map meaning_of (take i ms) in
     let last = meaning_of (get_or ms i d) in
     let all : map meaning_of (take (i + 1) ms) ≡ before ++ last ∷ [] = ap (map meaning_of) (take_more ms i d h) ∙ map_push meaning_of (take i ms) (get_or ms i d) in
     let named = names-more ms i d h in
-    (λ j. map (numbered (named j)) (all j)) ∙ map_push (numbered (with_name (names_of before) last)) before last
-    ∙ (λ j. map-agree (numbered (with_name (names_of before) last)) (numbered (names_of before)) before (λ n c. numbered-kept before last n c) j
-    ++ numbered-own (names_of before) last j ∷ [])
+    (λ j. map (resolution (named j)) (all j)) ∙ map_push (resolution (with_name (names_of before) last)) before last
+    ∙ (λ j. map-agree (resolution (with_name (names_of before) last)) (resolution (names_of before)) before (λ n c. resolution-kept before last n c) j
+    ++ resolution-own (names_of before) last j ∷ [])
 
 pub names-step : (ms : List Found) (i : ℕ) (d : Found) (old new : List Text) → i < length ms → old ≡ names_of (map meaning_of (take i ms))
     → new ≡ with_name old (meaning_of (get_or ms i d)) → new ≡ names_of (map meaning_of (take (i + 1) ms))
 names-step ms i d old new h sofar is = is ∙ (ap (λ ts. with_name ts (meaning_of (get_or ms i d))) sofar ∙ sym (names-more ms i d h))
 
 pub numbers-step : (ms : List Found) (i : ℕ) (d : Found) (names : List Text) (old new : List Resolved) (r : Resolved) → i < length ms → names ≡ names_of (map meaning_of (take i ms))
-    → old ≡ map (numbered (names_of (map meaning_of (take i ms)))) (map meaning_of (take i ms)) → r ≡ numbered names (meaning_of (get_or ms i d)) → new ≡ old ++ r ∷ []
-    → new ≡ map (numbered (names_of (map meaning_of (take (i + 1) ms)))) (map meaning_of (take (i + 1) ms))
+    → old ≡ map (resolution (names_of (map meaning_of (take i ms)))) (map meaning_of (take i ms)) → r ≡ resolution names (meaning_of (get_or ms i d)) → new ≡ old ++ r ∷ []
+    → new ≡ map (resolution (names_of (map meaning_of (take (i + 1) ms)))) (map meaning_of (take (i + 1) ms))
 numbers-step ms i d names old new r h named sofar number is =
-    is ∙ ((λ j. sofar j ++ (number ∙ ap (λ ts. numbered ts (meaning_of (get_or ms i d))) named) j ∷ []) ∙ sym (numbered-more ms i d h))
+    is ∙ ((λ j. sofar j ++ (number ∙ ap (λ ts. resolution ts (meaning_of (get_or ms i d))) named) j ∷ []) ∙ sym (resolution-more ms i d h))

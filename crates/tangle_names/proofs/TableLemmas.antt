@@ -1,24 +1,23 @@
 -- The names in order, what is known of them by their numbers, and the table put together.
-use Rattle.std.proofs.Common.{◌≡◌, ◌<◌, ◌+◌, ◌∙◌, ℕ, zero, suc, Bool, true, false, cond, not, ◌||◌, ◌&&◌, ◌==◌, List, [], ◌∷◌, ◌++◌, length, map, filter, fold, flat_map, find, get_or, refl, ap, sym, subst, arith, inl, inr, Option, Some, None, Contains, add-zero, zero-add, option_to_list}
+use Rattle.std.proofs.Common.{◌≡◌, ◌<◌, ◌+◌, ◌∙◌, ℕ, zero, suc, Bool, true, false, cond, not, ◌||◌, ◌&&◌, ◌==◌, List, [], ◌∷◌, ◌++◌, length, map, filter, fold, flat_map, get_or, refl, ap, sym, subst, arith, inl, inr, Option, None, Contains, add-zero, zero-add, option_to_list}
 use Rattle.std.specs.List.{list_any, position_or_len}
-use Rattle.std.specs.Option.{option_map}
 use Rattle.std.specs.Str.{bytes_eq}
 use Rattle.std.proofs.lemmas.Bool.Decides.{nat_tests}
 use Rattle.std.proofs.lemmas.Cmp.{nat_list_eq_equiv}
 use Rattle.std.proofs.lemmas.List.{ext_get_or, get_or-map, length-map}
-use Rattle.std.proofs.lemmas.List.Folds.{Any-from_list_any, list_any-append}
+use Rattle.std.proofs.lemmas.List.Folds.{Any-from_list_any, find_at, list_any-append}
 use Rattle.std.proofs.lemmas.List.Elements.{Contains-append_cases, Contains-get_or}
 use Rattle.std.proofs.lemmas.Slice.Eq.{bytes_eq-Decides}
 use Rattle.tangle_names.specs.declared.Resolved.{Resolved}
-use Rattle.tangle_lines.specs.declared.faults.Origin.{Origin}
 use Rattle.tangle_lines.specs.declared.faults.FaultKind.TheVariants as kind
 use Rattle.tangle_lines.specs.Faults.{fault_about, Finding}
-use Rattle.tangle_scan.specs.Web.{OccurrenceRead, WebRead}
+use Rattle.tangle_scan.specs.Web.{WebRead}
+use Rattle.tangle_lexer.specs.Occurrences.{OccurrenceRead}
 use Rattle.tangle_names.specs.Faults.{spot_of}
 use Rattle.tangle_names.specs.Names.{Text, Meaning, Nothing, One, Several, full_names, meaning, means, only_with, prefix, begins_with}
-use Rattle.tangle_names.specs.Resolving.{meanings, names_of, names_in_order, numbered, resolve, with_name, is_file, first_occurrence}
+use Rattle.tangle_names.specs.Resolving.{meanings, names_of, names_in_order, resolution, resolve, resolves_to, with_name, first_file_number, first_number, first_occurrence}
 use Rattle.tangle_names.specs.Faults.{begins_another, faults, prefix_fault}
-use Rattle.tangle_names.specs.Numbers.{begins_another_by_number, is_file_by_number, first_place_by_number, is_number, warning, warnings}
+use Rattle.tangle_names.specs.Numbers.{begins_another_by_number, first_by_number, is_number, number_below, warning, warnings}
 use Rattle.tangle_names.specs.Sorted.{SameTexts}
 use Rattle.tangle_names.specs.NameTable.{table_of}
 use Rattle.tangle_names.proofs.MeaningLemmas.{cons_cases, from-one, here, into_filter, list_any-none, list_any-some, no_item, out_of_filter, there}
@@ -100,19 +99,19 @@ other_text n u xs j inside same none = is_not _ (λ found.
     let clash : true ≡ false = sym (list_any-some (bytes_eq n) xs (get_or xs j []) (Contains-get_or xs j [] inside) ((bytes_eq-Decides n (get_or xs j [])).1 equal)) ∙ none in
     cc)
 
-is_number-numbered : (names : List Text) (u : Text) (id : ℕ) → Distinct names → id < length names
-    → is_number id (numbered names (One u)) ≡ bytes_eq (get_or names id []) u
-is_number-numbered [] u id d h = absurd (omega (arith, h))
-is_number-numbered (n ∷ ns) u zero d h = not_later (bytes_eq u n) (bytes_eq n u) (position_or_len (bytes_eq u) ns) (nat_list_eq_equiv.symm u n)
-is_number-numbered (n ∷ ns) u (suc j) d h =
+is_number-resolution : (names : List Text) (u : Text) (id : ℕ) → Distinct names → id < length names
+    → is_number id (resolution names (One u)) ≡ bytes_eq (get_or names id []) u
+is_number-resolution [] u id d h = absurd (omega (arith, h))
+is_number-resolution (n ∷ ns) u zero d h = not_later (bytes_eq u n) (bytes_eq n u) (position_or_len (bytes_eq u) ns) (nat_list_eq_equiv.symm u n)
+is_number-resolution (n ∷ ns) u (suc j) d h =
     let inside : j < length ns = omega (arith, h) in
     later (bytes_eq u n) (position_or_len (bytes_eq u) ns) j (bytes_eq (get_or ns j []) u)
     (λ same. other_text n u ns j inside same d.0)
-    (λ no_match. is_number-numbered ns u j d.1 inside)
+    (λ no_match. is_number-resolution ns u j d.1 inside)
 
-pub is_number-means : (names : List Text) (m : Meaning) (id : ℕ) → Distinct names → id < length names → is_number id (numbered names m) ≡ means (get_or names id []) m
+pub is_number-means : (names : List Text) (m : Meaning) (id : ℕ) → Distinct names → id < length names → is_number id (resolution names m) ≡ means (get_or names id []) m
 is_number-means names Nothing id d h = refl
-is_number-means names (One u) id d h = is_number-numbered names u id d h
+is_number-means names (One u) id d h = is_number-resolution names u id d h
 is_number-means names Several id d h = refl
 
 -- each of the names in order is a full name
@@ -151,12 +150,12 @@ names_are_full os = from_fold (Contains (full_names os)) (meanings os) [] (λ t 
     meant_name os o.0 t o.1 (o.2 ∙ e))
 
 -- what is known of a name by its number
-pub file-known : (os : List OccurrenceRead) (id : ℕ) → id < length (names_in_order os) → is_file_by_number (resolve os) os id ≡ is_file os (get_or (names_in_order os) id [])
-file-known os id h = λ i. list_any (λ (o : OccurrenceRead). o.is_file && is_number-means (names_in_order os) (meaning (full_names os) o) id (distinct_names (meanings os)) h i) os
+pub first-known : (os : List OccurrenceRead) (id : ℕ) → id < length (names_in_order os) → first_by_number (resolve os) false os id ≡ first_number os (get_or (names_in_order os) id [])
+first-known os id h = λ i. position_or_len (λ (o : OccurrenceRead). is_number-means (names_in_order os) (meaning (full_names os) o) id (distinct_names (meanings os)) h i) os
 
-pub first-known : (os : List OccurrenceRead) (id : ℕ) → id < length (names_in_order os)
-    → first_place_by_number (resolve os) os id ≡ option_map (λ (o : OccurrenceRead). o.place) (first_occurrence os (get_or (names_in_order os) id []))
-first-known os id h = λ i. option_map (λ (o : OccurrenceRead). o.place) (find (λ (o : OccurrenceRead). is_number-means (names_in_order os) (meaning (full_names os) o) id (distinct_names (meanings os)) h i) os)
+pub first_file-known : (os : List OccurrenceRead) (id : ℕ) → id < length (names_in_order os)
+    → first_by_number (resolve os) true os id ≡ position_or_len (λ (o : OccurrenceRead). o.is_file && resolves_to os (get_or (names_in_order os) id []) o) os
+first_file-known os id h = λ i. position_or_len (λ (o : OccurrenceRead). o.is_file && is_number-means (names_in_order os) (meaning (full_names os) o) id (distinct_names (meanings os)) h i) os
 
 and_false : (b : Bool) → (b && false) ≡ false
 and_false true = refl
@@ -192,50 +191,66 @@ begins-known os texts id same h =
     ∙ any-at (begins_another texts) texts n (same.over n full)
     ∙ any-same (λ (other : Text). begins_with n other && not (bytes_eq n other)) (full_names os) texts same
 
--- the files and the warnings by the names themselves
-pub files_are : (os : List OccurrenceRead) (names : List Text) (files : List Bool) → names ≡ names_in_order os → length files ≡ length names
-    → ((id : ℕ) → id < length names → get_or files id false ≡ is_file_by_number (resolve os) os id) → files ≡ map (is_file os) (names_in_order os)
-files_are os names files named size marks =
-    let count : length (map (is_file os) (names_in_order os)) ≡ length (names_in_order os) = length-map (names_in_order os) (is_file os) in
+-- the first numbers and the warnings by the names themselves
+pub firsts_are : (os : List OccurrenceRead) (names : List Text) (numbers : List ℕ) → names ≡ names_in_order os → length numbers ≡ length names
+    → ((id : ℕ) → id < length names → get_or numbers id 0 ≡ first_by_number (resolve os) false os id) → numbers ≡ map (first_number os) (names_in_order os)
+firsts_are os names numbers named size known =
+    let count : length (map (first_number os) (names_in_order os)) ≡ length (names_in_order os) = length-map (names_in_order os) (first_number os) in
     let counted : length names ≡ length (names_in_order os) = ap length named in
-    ext_get_or false files (map (is_file os) (names_in_order os)) (omega (arith, size, count, counted)) (λ id h.
+    ext_get_or 0 numbers (map (first_number os) (names_in_order os)) (omega (arith, size, count, counted)) (λ id h.
     let inside : id < length names = omega (arith, h, size) in
     let within : id < length (names_in_order os) = omega (arith, inside, counted) in
-    marks id inside ∙ file-known os id within ∙ sym (get_or-map (is_file os) (names_in_order os) id [] false within))
+    known id inside ∙ first-known os id within ∙ sym (get_or-map (first_number os) (names_in_order os) id [] 0 within))
 
-warning-is : (web : WebRead) (b : Bool) (first : Option OccurrenceRead) (name : Text)
-    → warning web.file_names b (option_map (λ (o : OccurrenceRead). o.place) first) name
-    ≡ cond b (map (λ (o : OccurrenceRead). fault_about kind.PrefixName (spot_of web.file_names o.place) name) (option_to_list first)) []
-warning-is web b None name = refl
-warning-is web b (Some o) name = refl
+pub first_files_are : (os : List OccurrenceRead) (names : List Text) (numbers : List ℕ) (count : ℕ) → names ≡ names_in_order os → length numbers ≡ length names → count ≡ length os
+    → ((id : ℕ) → id < length names → get_or numbers id 0 ≡ first_by_number (resolve os) true os id)
+    → map (number_below count) numbers ≡ map (first_file_number os) (names_in_order os)
+first_files_are os names numbers count named size all known =
+    let left : length (map (number_below count) numbers) ≡ length numbers = length-map numbers (number_below count) in
+    let right : length (map (first_file_number os) (names_in_order os)) ≡ length (names_in_order os) = length-map (names_in_order os) (first_file_number os) in
+    let counted : length names ≡ length (names_in_order os) = ap length named in
+    ext_get_or None (map (number_below count) numbers) (map (first_file_number os) (names_in_order os)) (omega (arith, size, left, right, counted)) (λ id h.
+    let below : id < length numbers = omega (arith, h, left) in
+    let inside : id < length names = omega (arith, below, size) in
+    let within : id < length (names_in_order os) = omega (arith, inside, counted) in
+    get_or-map (number_below count) numbers id 0 None below
+    ∙ ((λ i. number_below (all i) ((known id inside ∙ first_file-known os id within) i))
+    ∙ sym (get_or-map (first_file_number os) (names_in_order os) id [] None within)))
 
-warnings-flat : (g : Text → List Finding) (files : List Text) (begins : List Bool) (firsts : List (Option Origin)) (k : ℕ) (ts : List Text)
-    → ((j : ℕ) → j < length ts → warning files (get_or begins (k + j) false) (get_or firsts (k + j) None) (get_or ts j []) ≡ g (get_or ts j []))
-    → warnings files begins firsts k ts ≡ flat_map g ts
-warnings-flat g files begins firsts k [] same = refl
-warnings-flat g files begins firsts k (t ∷ ts) same =
-    let first : warning files (get_or begins k false) (get_or firsts k None) t ≡ g t =
-    ap (λ n. warning files (get_or begins n false) (get_or firsts n None) t) (sym (add-zero k)) ∙ same 0 (omega arith) in
-    let rest : warnings files begins firsts (k + 1) ts ≡ flat_map g ts = warnings-flat g files begins firsts (k + 1) ts (λ j h.
+warning-is : (web : WebRead) (b : Bool) (name : Text)
+    → warning web b (first_number web.occurrences name) name
+    ≡ cond b (map (λ (o : OccurrenceRead). fault_about kind.PrefixName (spot_of web.file_names o.place) name) (option_to_list (first_occurrence web.occurrences name))) []
+warning-is web b name =
+    ap (λ found. cond b (map (λ (o : OccurrenceRead). fault_about kind.PrefixName (spot_of web.file_names o.place) name) (option_to_list found)) []) (sym (find_at (resolves_to web.occurrences name) web.occurrences))
+
+warnings-flat : (g : Text → List Finding) (web : WebRead) (begins : List Bool) (firsts : List ℕ) (k : ℕ) (ts : List Text)
+    → ((j : ℕ) → j < length ts → warning web (get_or begins (k + j) false) (get_or firsts (k + j) 0) (get_or ts j []) ≡ g (get_or ts j []))
+    → warnings web begins firsts k ts ≡ flat_map g ts
+warnings-flat g web begins firsts k [] same = refl
+warnings-flat g web begins firsts k (t ∷ ts) same =
+    let first : warning web (get_or begins k false) (get_or firsts k 0) t ≡ g t =
+    ap (λ n. warning web (get_or begins n false) (get_or firsts n 0) t) (sym (add-zero k)) ∙ same 0 (omega arith) in
+    let rest : warnings web begins firsts (k + 1) ts ≡ flat_map g ts = warnings-flat g web begins firsts (k + 1) ts (λ j h.
     let moved : k + 1 + j ≡ k + suc j = omega arith in
     let inside : suc j < length (t ∷ ts) = omega (arith, h) in
-    ap (λ n. warning files (get_or begins n false) (get_or firsts n None) (get_or ts j [])) moved ∙ same (suc j) inside) in
+    ap (λ n. warning web (get_or begins n false) (get_or firsts n 0) (get_or ts j [])) moved ∙ same (suc j) inside) in
     λ i. first i ++ rest i
 
-pub warnings_are : (web : WebRead) (texts names : List Text) (begins : List Bool) (firsts : List (Option Origin)) → SameTexts (full_names web.occurrences) texts → names ≡ names_in_order web.occurrences
+pub warnings_are : (web : WebRead) (texts names : List Text) (begins : List Bool) (firsts : List ℕ) → SameTexts (full_names web.occurrences) texts → names ≡ names_in_order web.occurrences
     → ((id : ℕ) → id < length names → get_or begins id false ≡ begins_another_by_number names texts id)
-    → ((id : ℕ) → id < length names → get_or firsts id None ≡ first_place_by_number (resolve web.occurrences) web.occurrences id)
-    → warnings web.file_names begins firsts 0 names ≡ flat_map (prefix_fault web) (names_in_order web.occurrences)
+    → firsts ≡ map (first_number web.occurrences) (names_in_order web.occurrences)
+    → warnings web begins firsts 0 names ≡ flat_map (prefix_fault web) (names_in_order web.occurrences)
 warnings_are web texts names begins firsts same named marks places =
-    ap (warnings web.file_names begins firsts 0) named ∙ warnings-flat (prefix_fault web) web.file_names begins firsts 0 ordered (λ j h.
+    ap (warnings web begins firsts 0) named ∙ warnings-flat (prefix_fault web) web begins firsts 0 ordered (λ j h.
     let inside : j < length names = omega (arith, h, ap length named) in
     let at : 0 + j ≡ j = zero-add j in
     let marked : get_or begins j false ≡ begins_another (full_names web.occurrences) (get_or ordered j []) =
     marks j inside ∙ ap (λ ns. begins_another_by_number ns texts j) named ∙ begins-known web.occurrences texts j same h in
-    let placed = places j inside ∙ first-known web.occurrences j h in
-    (λ i. warning web.file_names (get_or begins (at i) false) (get_or firsts (at i) None) (get_or ordered j []))
-    ∙ (λ i. warning web.file_names (marked i) (placed i) (get_or ordered j []))
-    ∙ warning-is web (begins_another (full_names web.occurrences) (get_or ordered j [])) (first_occurrence web.occurrences (get_or ordered j [])) (get_or ordered j []))
+    let placed : get_or firsts j 0 ≡ first_number web.occurrences (get_or ordered j []) =
+    ap (λ ns. get_or ns j 0) places ∙ get_or-map (first_number web.occurrences) ordered j [] 0 h in
+    (λ i. warning web (get_or begins (at i) false) (get_or firsts (at i) 0) (get_or ordered j []))
+    ∙ (λ i. warning web (marked i) (placed i) (get_or ordered j []))
+    ∙ warning-is web (begins_another (full_names web.occurrences) (get_or ordered j [])) (get_or ordered j []))
   where
     ordered : List Text
     ordered = names_in_order web.occurrences
@@ -243,10 +258,12 @@ warnings_are web texts names begins firsts same named marks places =
 pub names_are : (os : List OccurrenceRead) (ms : List Meaning) (texts : List Text) → ms ≡ meanings os → texts ≡ names_of ms → texts ≡ names_in_order os
 names_are os ms texts came named = named ∙ ap names_of came
 
-pub resolved_are : (os : List OccurrenceRead) (ms : List Meaning) (texts : List Text) (rs : List Resolved) → ms ≡ meanings os → texts ≡ names_in_order os → rs ≡ map (numbered texts) ms → rs ≡ map (resolve os) os
-resolved_are os ms texts rs came named is = is ∙ ((λ i. map (numbered (named i)) (came i)) ∙ map-map (numbered (names_in_order os)) (meaning (full_names os)) os)
+pub resolved_are : (os : List OccurrenceRead) (ms : List Meaning) (texts : List Text) (rs : List Resolved) → ms ≡ meanings os → texts ≡ names_in_order os → rs ≡ map (resolution texts) ms → rs ≡ map (resolve os) os
+resolved_are os ms texts rs came named is = is ∙ ((λ i. map (resolution (named i)) (came i)) ∙ map-map (resolution (names_in_order os)) (meaning (full_names os)) os)
 
-pub table_is : (web : WebRead) (names : List Text) (rs : List Resolved) (files : List Bool) (fs : List Finding) → names ≡ names_in_order web.occurrences → rs ≡ map (resolve web.occurrences) web.occurrences
-    → files ≡ map (is_file web.occurrences) (names_in_order web.occurrences) → fs ≡ faults web
-    → record { names = names; resolved = rs; files = files; faults = fs } ≡ table_of web
-table_is web names rs files fs a b c d = λ i. record { names = a i; resolved = b i; files = c i; faults = d i }
+pub table_is : (web : WebRead) (names : List Text) (rs : List Resolved) (firsts : List ℕ) (first_files : List (Option ℕ)) (fs : List Finding) → names ≡ names_in_order web.occurrences
+    → rs ≡ map (resolve web.occurrences) web.occurrences → firsts ≡ map (first_number web.occurrences) (names_in_order web.occurrences)
+    → first_files ≡ map (first_file_number web.occurrences) (names_in_order web.occurrences) → fs ≡ faults web
+    → record { names = names; resolved = rs; first_occurrences = firsts; first_file_occurrences = first_files; faults = fs } ≡ table_of web
+table_is web names rs firsts first_files fs a b c d e =
+    λ i. record { names = a i; resolved = b i; first_occurrences = c i; first_file_occurrences = d i; faults = e i }

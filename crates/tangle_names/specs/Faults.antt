@@ -7,7 +7,8 @@ use Rattle.tangle_names.specs.declared.Resolved.TheVariants.{Name, NoFullName, A
 use Rattle.tangle_lines.specs.declared.faults.Origin.{Origin}
 use Rattle.tangle_lines.specs.declared.faults.FaultKind.TheVariants as kind
 use Rattle.tangle_lines.specs.Faults.{Finding, Spot, fault_about}
-use Rattle.tangle_scan.specs.Web.{OccurrenceRead, WebRead}
+use Rattle.tangle_scan.specs.Web.{WebRead}
+use Rattle.tangle_lexer.specs.Occurrences.{OccurrenceRead}
 use Rattle.tangle_names.specs.Names.{Text, full_names, begins_with}
 use Rattle.tangle_names.specs.Resolving.{names_in_order, resolve, first_occurrence}
 

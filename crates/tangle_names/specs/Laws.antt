@@ -1,8 +1,10 @@
 -- What holds of the names of each web.
-use Rattle.std.specs.Prelude.{◌≡◌, ◌≢◌, ◌<◌, ℕ, true, false, List, [], length, slice_index_or, Contains}
+use Rattle.std.specs.Prelude.{◌≡◌, ◌≢◌, ◌<◌, ℕ, true, false, List, [], length, slice_get, slice_index_or, Option, Some, None, Contains}
 use Rattle.tangle_names.specs.declared.Resolved.{Resolved}
 use Rattle.tangle_names.specs.declared.Resolved.TheVariants.{Name, NoFullName, Ambiguous}
+use Rattle.tangle_lexer.specs.Occurrences.{OccurrenceRead}
 use Rattle.tangle_names.specs.Names.{Text, begins_with}
+use Rattle.tangle_names.specs.Resolving.{resolve}
 
 -- the name with this number has this text
 pub record IsNumberOf (names : List Text) (id : ℕ) (text : Text) : Type 0 where
@@ -34,3 +36,23 @@ abbrev pub ResolvesPrefix : List Text → List Text → Text → Resolved → Ty
 ResolvesPrefix names full p (Name id) = (name : Text) × IsNumberOf names id name × IsOnlyWith full p name
 ResolvesPrefix names full p NoFullName = (name : Text) → Contains full name → begins_with p name ≡ false
 ResolvesPrefix names full p Ambiguous = (name : Text) × (other : Text) × BothBegin full p name other
+
+-- the occurrence with this number resolves to the name, and no earlier one does
+pub record IsFirst (os : List OccurrenceRead) (id number : ℕ) : Type 0 where
+  pub occurrence : OccurrenceRead
+  pub at : slice_get os number ≡ Some occurrence
+  pub resolves : resolve os occurrence ≡ Name id
+  pub no_earlier : (n : ℕ) (o : OccurrenceRead) → n < number → slice_get os n ≡ Some o → resolve os o ≢ Name id
+
+-- the occurrence with this number has `@(` and resolves to the name, and no earlier one with `@(` does
+pub record IsFirstAsFile (os : List OccurrenceRead) (id number : ℕ) : Type 0 where
+  pub occurrence : OccurrenceRead
+  pub at : slice_get os number ≡ Some occurrence
+  pub is_file : occurrence.is_file ≡ true
+  pub resolves : resolve os occurrence ≡ Name id
+  pub no_earlier : (n : ℕ) (o : OccurrenceRead) → n < number → slice_get os n ≡ Some o → o.is_file ≡ true → resolve os o ≢ Name id
+
+-- the number of a name's first occurrence as a file; there is none only where no occurrence with `@(` resolves to it
+abbrev pub IsFirstFile : List OccurrenceRead → ℕ → Option ℕ → Type 0
+IsFirstFile os id (Some number) = IsFirstAsFile os id number
+IsFirstFile os id None = (o : OccurrenceRead) → Contains os o → o.is_file ≡ true → resolve os o ≢ Name id

@@ -2,7 +2,7 @@
 use Rattle.std.specs.Prelude.{ℕ, ◌-◌, Bool, false, not, List, [], ◌∷◌, length, map, filter, take, nat_eq, if◌then◌else◌}
 use Rattle.std.specs.List.{starts_with, list_all}
 use Rattle.std.specs.Str.{bytes_eq}
-use Rattle.tangle_scan.specs.Web.{OccurrenceRead}
+use Rattle.tangle_lexer.specs.Occurrences.{OccurrenceRead}
 
 -- the bytes of a name
 abbrev pub Text : Type 0

@@ -1,10 +1,10 @@
 -- The full names in order, and what each occurrence of a name resolves to.
-use Rattle.std.specs.Prelude.{Bool, ◌&&◌, List, [], ◌∷◌, ◌++◌, Option, map, fold, find, if◌then◌else◌}
+use Rattle.std.specs.Prelude.{ℕ, Bool, ◌&&◌, List, [], ◌∷◌, ◌++◌, Option, map, fold, find, position, if◌then◌else◌}
 use Rattle.std.specs.List.{list_any, position_or_len}
 use Rattle.std.specs.Str.{bytes_eq}
 use Rattle.tangle_names.specs.declared.Resolved.{Resolved}
 use Rattle.tangle_names.specs.declared.Resolved.TheVariants.{Name, NoFullName, Ambiguous}
-use Rattle.tangle_scan.specs.Web.{OccurrenceRead}
+use Rattle.tangle_lexer.specs.Occurrences.{OccurrenceRead}
 use Rattle.tangle_names.specs.Names.{Text, Meaning, Nothing, One, Several, full_names, meaning, means}
 
 -- what each occurrence means
@@ -26,23 +26,28 @@ abbrev pub names_in_order : List OccurrenceRead → List Text
 names_in_order os = names_of (meanings os)
 
 -- what is meant, by the number of its name
-abbrev pub numbered : List Text → Meaning → Resolved
-numbered names Nothing = NoFullName
-numbered names (One t) = Name (position_or_len (bytes_eq t) names)
-numbered names Several = Ambiguous
+abbrev pub resolution : List Text → Meaning → Resolved
+resolution names Nothing = NoFullName
+resolution names (One t) = Name (position_or_len (bytes_eq t) names)
+resolution names Several = Ambiguous
 
 -- what an occurrence resolves to
 abbrev pub resolve : List OccurrenceRead → OccurrenceRead → Resolved
-resolve os o = numbered (names_in_order os) (meaning (full_names os) o)
+resolve os o = resolution (names_in_order os) (meaning (full_names os) o)
 
 -- the occurrence resolves to the name
 abbrev pub resolves_to : List OccurrenceRead → Text → OccurrenceRead → Bool
 resolves_to os name o = means name (meaning (full_names os) o)
 
--- a name is a file if an occurrence that resolves to it is marked as a file
-abbrev pub is_file : List OccurrenceRead → Text → Bool
-is_file os name = list_any (λ o. o.is_file && resolves_to os name o) os
-
 -- the first occurrence of a name is the first that resolves to it
 abbrev pub first_occurrence : List OccurrenceRead → Text → Option OccurrenceRead
 first_occurrence os name = find (resolves_to os name) os
+
+-- the number of that occurrence; the count of occurrences, where there is none
+abbrev pub first_number : List OccurrenceRead → Text → ℕ
+first_number os name = position_or_len (resolves_to os name) os
+
+-- The number of the first occurrence that resolves to the name and is a file's, which has `@(`. A name is a file if it
+-- has one.
+abbrev pub first_file_number : List OccurrenceRead → Text → Option ℕ
+first_file_number os name = position (λ o. o.is_file && resolves_to os name o) os

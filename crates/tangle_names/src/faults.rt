@@ -2,16 +2,16 @@
 ghost use Rattle.std.specs.Prelude.{◌≡◌, ◌++◌, ◌∷◌, [], IfOk, OnOk, length, map};
 ghost use Rattle.tangle_names.specs.declared.Resolved.{Resolved};
 ghost use Rattle.tangle_lines.specs.Faults.{fault_about};
-ghost use Rattle.tangle_scan.specs.Web.{OccurrenceRead};
+ghost use Rattle.tangle_lexer.specs.Occurrences.{OccurrenceRead};
 ghost use Rattle.tangle_names.specs.Faults.{spot_of};
 ghost use Rattle.tangle_names.specs.Names.{full_names};
-ghost use Rattle.tangle_names.specs.Resolving.{names_in_order, resolve};
+ghost use Rattle.tangle_names.specs.Resolving.{first_number, names_in_order, resolve};
 ghost use Rattle.tangle_names.specs.Sorted.{IsInOrder, SameTexts, texts_of};
 ghost use Rattle.tangle_names.specs.Faults.{faults, resolution_fault, resolution_faults};
 ghost use Rattle.tangle_names.specs.Numbers.{key_texts, warning, warnings};
 
 use crate::Resolved;
-use crate::marks::{beginnings, first_places};
+use crate::beginnings::beginnings;
 use indexmap::IndexSet;
 use std::alloc::Global;
 use tangle_lines::{Fault, FaultKind, NoMemory, Origin};
@@ -77,14 +77,14 @@ fn add_warning(
     faults: &mut Vec<Fault>,
     web: &Web,
     begins: bool,
-    first: Option<Origin>,
+    first: usize,
     name: &[u8],
 ) -> Result<(), NoMemory>
-    ensures { OnOk result (faults.new.items
-        ≡ faults.old.items ++ warning web.now.file_names begins first name.now) }
+    ensures { OnOk result (faults.new.items ≡ faults.old.items ++ warning web.now begins first name.now) }
 {
     if begins {
-        if let Some(place) = first {
+        if let Some(occurrence) = web.occurrences().get(first) {
+            let place = occurrence.place();
             add(alloc, faults, web, FaultKind::PrefixName, place, name)?;
         }
     }
@@ -98,12 +98,12 @@ pub(crate) fn add_warnings(
     web: &Web,
     names: &[Vec<u8>],
     begins: &[bool],
-    firsts: &[Option<Origin>],
+    firsts: &[usize],
 ) -> Result<(), NoMemory>
     requires begins { length begins.now ≡ length names.now }
     requires firsts { length firsts.now ≡ length names.now }
     ensures { OnOk result (faults.new.items
-        ≡ faults.old.items ++ warnings web.now.file_names begins.now firsts.now 0 (key_texts names.now)) }
+        ≡ faults.old.items ++ warnings web.now begins.now firsts.now 0 (key_texts names.now)) }
 {
     for (id, name) in names.iter().enumerate() {
         add_warning(alloc, faults, web, begins[id], firsts[id], name)?;
@@ -111,24 +111,25 @@ pub(crate) fn add_warnings(
     Ok(())
 }
 
-/// The faults of names, by what each occurrence resolves to.
+/// The faults of names, by what each occurrence resolves to and by the number of each name's first occurrence.
 pub(crate) fn faults(
     alloc: Global,
     web: &Web,
     sorted: &[&[u8]],
     names: &IndexSet<Vec<u8>>,
     resolved: &[Resolved],
+    firsts: &[usize],
 ) -> Result<Vec<Fault>, NoMemory>
     requires order { IsInOrder (texts_of sorted.now) }
     requires same { SameTexts (full_names web.now.occurrences) (texts_of sorted.now) }
     requires names { key_texts names.now.keys ≡ names_in_order web.now.occurrences }
     requires resolved { resolved.now ≡ map (resolve web.now.occurrences) web.now.occurrences }
+    requires firsts { firsts.now ≡ map (first_number web.now.occurrences) (names_in_order web.now.occurrences) }
     ensures { IfOk result (λ v. v.items ≡ faults web.now) }
 {
     let begins = beginnings(alloc, sorted, names)?;
-    let firsts = first_places(alloc, web.occurrences(), resolved, names.len())?;
     let mut faults = Vec::new(alloc);
     add_resolution_faults(alloc, &mut faults, web, resolved)?;
-    add_warnings(alloc, &mut faults, web, names.as_slice(), &begins, &firsts)?;
+    add_warnings(alloc, &mut faults, web, names.as_slice(), &begins, firsts)?;
     Ok(faults)
 }

@@ -1,11 +1,11 @@
 //! Laws of names, which hold of each web.
-ghost use Rattle.std.specs.Prelude.{◌≡◌, ◌↔◌, ℕ, List, true, false, Contains, IsSome};
+ghost use Rattle.std.specs.Prelude.{◌≡◌, ◌<◌, ◌↔◌, ℕ, List, [], true, false, length, slice_index_or, Contains, IsSome};
 ghost use Rattle.std.specs.List.{IsDistinct};
 ghost use Rattle.std.specs.Str.{bytes_eq};
-ghost use Rattle.tangle_scan.specs.Web.{OccurrenceRead};
+ghost use Rattle.tangle_lexer.specs.Occurrences.{OccurrenceRead};
 ghost use Rattle.tangle_names.specs.Names.{full_names, prefix};
-ghost use Rattle.tangle_names.specs.Resolving.{first_occurrence, names_in_order, resolve};
-ghost use Rattle.tangle_names.specs.Laws.{ResolvesFull, ResolvesPrefix};
+ghost use Rattle.tangle_names.specs.Resolving.{first_file_number, first_number, first_occurrence, names_in_order, resolve};
+ghost use Rattle.tangle_names.specs.Laws.{IsFirst, IsFirstFile, ResolvesFull, ResolvesPrefix};
 
 /// The names in order are the full names of the web, each once; an occurrence resolves to each.
 pub fn names_are_the_full_names()
@@ -25,4 +25,13 @@ pub fn occurrences_resolve_by_the_whole_web()
     ensures abbreviated { (os : List OccurrenceRead) (o : OccurrenceRead)
         → Contains os o → o.is_abbreviation ≡ true
         → ResolvesPrefix (names_in_order os) (full_names os) (prefix o.text) (resolve os o) }
+{}
+
+/// The first occurrence of a name is the first that resolves to it, and its first one as a file the first of those with
+/// `@(`, if there is one.
+pub fn first_occurrences_resolve_to_their_names()
+    ensures first { (os : List OccurrenceRead) (id : ℕ) → id < length (names_in_order os)
+        → IsFirst os id (first_number os (slice_index_or (names_in_order os) id [])) }
+    ensures file { (os : List OccurrenceRead) (id : ℕ) → id < length (names_in_order os)
+        → IsFirstFile os id (first_file_number os (slice_index_or (names_in_order os) id [])) }
 {}

@@ -1,14 +1,18 @@
 //! The full names of a web, and what each occurrence of a name resolves to.
 #![tactic(auto)]
 
+mod beginnings;
 mod faults;
+mod first_numbers;
 mod laws;
-mod marks;
 mod name_table;
 mod numbers;
 mod sorted;
 
-pub use laws::{names_are_the_full_names, occurrences_resolve_by_the_whole_web};
+pub use laws::{
+    first_occurrences_resolve_to_their_names, names_are_the_full_names,
+    occurrences_resolve_by_the_whole_web,
+};
 pub use name_table::NameTable;
 
 /// What an occurrence of a name resolves to.

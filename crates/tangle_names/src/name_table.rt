@@ -1,13 +1,13 @@
 //! The table of a web's names.
-ghost use Rattle.std.specs.Prelude.{◌≡◌, ◌<◌, IfOk, length, slice_index_or, position, false, []};
+ghost use Rattle.std.specs.Prelude.{◌≡◌, ◌<◌, IfOk, length, slice_index_or, position, is_some, None, []};
 ghost use Rattle.std.specs.Str.{bytes_eq};
 ghost use Rattle.tangle_names.specs.declared.Resolved.TheVariants.{NoFullName};
 
 use crate::Resolved;
 use crate::faults::faults;
-use crate::marks::files;
-use crate::numbers::resolve_all;
-use crate::sorted::{meanings, sorted_names};
+use crate::first_numbers::first_numbers;
+use crate::numbers::resolve_occurrences;
+use crate::sorted::sorted_names;
 use indexmap::IndexSet;
 use std::alloc::Global;
 use std::marker::Model;
@@ -19,25 +19,30 @@ use tangle_scan::Web;
 pub struct NameTable {
     names: IndexSet<Vec<u8>>,
     resolved: Vec<Resolved>,
-    files: Vec<bool>,
+    // The number of each name's first occurrence.
+    firsts: Vec<usize>,
+    // The number of each name's first occurrence as a file; the count of occurrences, where it has none.
+    first_files: Vec<usize>,
     faults: Vec<Fault>,
 }
 
 impl Model for NameTable {
-    ghost use Rattle.std.specs.Prelude.{◌≡◌, length};
+    ghost use Rattle.std.specs.Prelude.{◌≡◌, length, map};
     ghost use Rattle.tangle_names.specs.NameTable.{TableRead};
-    ghost use Rattle.tangle_names.specs.Numbers.{key_texts};
+    ghost use Rattle.tangle_names.specs.Numbers.{key_texts, number_below};
 
     ghost Value = { TableRead };
 
     ghost view = { λ t. record {
       names = key_texts t.names.keys;
       resolved = t.resolved.items;
-      files = t.files.items;
+      first_occurrences = t.firsts.items;
+      first_file_occurrences = map (number_below (length t.resolved.items)) t.first_files.items;
       faults = t.faults.items;
     } };
 
-    ghost invariant = { λ t. length t.files.items ≡ length t.names.keys };
+    ghost invariant = { λ t. (length t.firsts.items ≡ length t.names.keys)
+        × (length t.first_files.items ≡ length t.names.keys) };
 }
 
 impl NameTable {
@@ -56,15 +61,16 @@ impl NameTable {
     {
         let occurrences = web.occurrences();
         let sorted = sorted_names(alloc, occurrences)?;
-        let meanings = meanings(alloc, &sorted, occurrences)?;
         let mut names = IndexSet::new(alloc);
-        let resolved = resolve_all(alloc, &mut names, &meanings)?;
-        let files = files(alloc, occurrences, &resolved, names.len())?;
-        let faults = faults(alloc, web, &sorted, &names, &resolved)?;
+        let resolved = resolve_occurrences(alloc, &mut names, &sorted, occurrences)?;
+        let firsts = first_numbers(alloc, occurrences, &resolved, names.len(), false)?;
+        let first_files = first_numbers(alloc, occurrences, &resolved, names.len(), true)?;
+        let faults = faults(alloc, web, &sorted, &names, &resolved, &firsts)?;
         Ok(NameTable {
             names,
             resolved,
-            files,
+            firsts,
+            first_files,
             faults,
         })
     }
@@ -100,12 +106,33 @@ impl NameTable {
         text.as_slice()
     }
 
-    /// Whether the full name of this number is a file: an occurrence that resolves to it is marked `@(`.
+    /// The number of the first occurrence that resolves to the full name of this number, abbreviations included.
+    pub fn first_occurrence(&self, id: usize) -> usize
+        requires { id < length self.now.names }
+        ensures { result ≡ slice_index_or self.now.first_occurrences id 0 }
+    {
+        self.firsts[id]
+    }
+
+    /// The number of the first occurrence with `@(` that resolves to the full name of this number, if there is one.
+    pub fn first_file_occurrence(&self, id: usize) -> Option<usize>
+        requires { id < length self.now.names }
+        ensures { result ≡ slice_index_or self.now.first_file_occurrences id None }
+    {
+        let number = self.first_files[id];
+        if number < self.resolved.len() {
+            Some(number)
+        } else {
+            None
+        }
+    }
+
+    /// Whether the full name of this number is a file: an occurrence with `@(` resolves to it.
     pub fn is_file(&self, id: usize) -> bool
         requires { id < length self.now.names }
-        ensures { result ≡ slice_index_or self.now.files id false }
+        ensures { result ≡ is_some (slice_index_or self.now.first_file_occurrences id None) }
     {
-        self.files[id]
+        self.first_file_occurrence(id).is_some()
     }
 
     /// The faults of names: those of occurrences that resolve to no full name or to several, in their order, and then

@@ -2,15 +2,16 @@
 ghost use Rattle.std.specs.Prelude.{◌≡◌, [], IfOk, OnOk, map};
 ghost use Rattle.std.specs.List.{position_or_len};
 ghost use Rattle.std.specs.Str.{bytes_eq};
-ghost use Rattle.tangle_names.specs.Names.{One};
+ghost use Rattle.tangle_names.specs.Names.{One, full_names};
 ghost use Rattle.tangle_names.specs.Numbers.{key_texts};
-ghost use Rattle.tangle_names.specs.Resolving.{names_of, numbered, with_name};
-ghost use Rattle.tangle_names.specs.Sorted.{meaning_of};
+ghost use Rattle.tangle_names.specs.Resolving.{names_in_order, names_of, resolution, resolve, with_name};
+ghost use Rattle.tangle_names.specs.Sorted.{IsInOrder, SameTexts, meaning_of, texts_of};
 
 use crate::Resolved;
-use crate::sorted::Meaning;
+use crate::sorted::{Meaning, meanings};
 use indexmap::IndexSet;
 use std::alloc::{AllocError, Global};
+use tangle_scan::Occurrence;
 
 /// The number of a full name; a name that isn't there goes last.
 fn intern(alloc: Global, names: &mut IndexSet<Vec<u8>>, text: &[u8]) -> Result<usize, AllocError>
@@ -36,7 +37,7 @@ fn resolve(
     ensures names { OnOk result (key_texts names.new.keys
         ≡ with_name (key_texts names.old.keys) (meaning_of meaning.entry)) }
     ensures number { IfOk result (λ resolved. resolved
-        ≡ numbered (key_texts names.old.keys) (meaning_of meaning.entry)) }
+        ≡ resolution (key_texts names.old.keys) (meaning_of meaning.entry)) }
 {
     match meaning {
         Meaning::One(text) => Ok(Resolved::Name(intern(alloc, names, text)?)),
@@ -47,7 +48,7 @@ fn resolve(
 
 /// What the occurrences resolve to, by what each means. The full names go into `names`, in the order of the first
 /// occurrences that resolve to them.
-pub(crate) fn resolve_all(
+fn resolve_all(
     alloc: Global,
     names: &mut IndexSet<Vec<u8>>,
     meanings: &[Meaning],
@@ -55,13 +56,31 @@ pub(crate) fn resolve_all(
     requires { names.old.keys ≡ [] }
     ensures names { OnOk result (key_texts names.new.keys ≡ names_of (map meaning_of meanings.now)) }
     ensures resolved { let meant = map meaning_of meanings.now in
-        IfOk result (λ resolved. resolved.items ≡ map (numbered (names_of meant)) meant) }
+        IfOk result (λ resolved. resolved.items ≡ map (resolution (names_of meant)) meant) }
 {
     let mut resolved = Vec::new(alloc);
     for meaning in meanings {
         resolved.push(resolve(alloc, names, *meaning)?)?;
     }
     Ok(resolved)
+}
+
+/// What the occurrences of a web resolve to. Its full names go into `names`, in order.
+pub(crate) fn resolve_occurrences(
+    alloc: Global,
+    names: &mut IndexSet<Vec<u8>>,
+    sorted: &[&[u8]],
+    occurrences: &[Occurrence],
+) -> Result<Vec<Resolved>, AllocError>
+    requires empty { names.old.keys ≡ [] }
+    requires order { IsInOrder (texts_of sorted.now) }
+    requires same { SameTexts (full_names occurrences.now) (texts_of sorted.now) }
+    ensures names { OnOk result (key_texts names.new.keys ≡ names_in_order occurrences.now) }
+    ensures resolved { IfOk result (λ resolved. resolved.items
+        ≡ map (resolve occurrences.now) occurrences.now) }
+{
+    let meanings = meanings(alloc, sorted, occurrences)?;
+    resolve_all(alloc, names, &meanings)
 }
 
 /// The number of a full name.

@@ -2,15 +2,16 @@
 use Rattle.std.specs.Prelude.{◌≡◌, ◌<◌, ℕ, length, Bool, true, false, List, [], ◌∷◌, flat_map, if◌then◌else◌, Option, Some, None}
 use Rattle.std.specs.List.{AllZip}
 use Rattle.tangle_lines.specs.declared.faults.Origin.{Origin}
-use Rattle.tangle_scan.specs.declared.events.Event.{Event}
-use Rattle.tangle_scan.specs.declared.events.Event.TheVariants as event
+use Rattle.tangle_lexer.specs.declared.tokens.Token.{Token}
+use Rattle.tangle_lexer.specs.declared.tokens.Token.TheVariants as token
 use Rattle.tangle_scan.specs.declared.items.Item.{Item}
 use Rattle.tangle_scan.specs.declared.items.Item.TheVariants as item
 use Rattle.tangle_lines.specs.Reading.{Line, SourceRead}
-use Rattle.tangle_scan.specs.Steps.{all_events}
-use Rattle.tangle_scan.specs.Web.{WebRead, PartKind, parts}
-use Rattle.tangle_scan.specs.Web.PartKind.{OfMacro, OfPiece}
-use Rattle.tangle_scan.specs.Rules.{place_at, next_line, without_faults}
+use Rattle.tangle_lexer.specs.Steps.{all_tokens}
+use Rattle.tangle_scan.specs.Web.{WebRead, BlockKind, blocks}
+use Rattle.tangle_scan.specs.Web.BlockKind.{OfMacro, OfPiece}
+use Rattle.tangle_scan.specs.Rules.{text_item, next_line, without_faults}
+use Rattle.tangle_lexer.specs.Occurrences.{place_at}
 
 -- Items with a text of their own are words, signs, quoted and verbatim texts, and ASCII codes.
 
@@ -40,7 +41,7 @@ placed_items place (item.Defs ∷ items) = placed_items None items
 placed_items place (item.Blank ∷ items) = placed_items place items
 
 -- An item with a text, the source line that the text stands on, and whether it is in a stretch, where the compiler's place is another.
--- The item of an ASCII code doesn't tell its line, and a run that was removed has no item: so these come from the events of the part.
+-- The item of an ASCII code doesn't tell its line, and a run that was removed has no item: so these come from the tokens of the part.
 pub record Standing : Type 0 where
   pub item : Item
   pub line : ℕ
@@ -49,30 +50,24 @@ pub record Standing : Type 0 where
 -- whether a stretch is on behind a run of joins, white space and line ends: with a line end the run begins one, if a join removes it,
 -- and else ends it
 abbrev pub is_on : Bool → Bool → Bool → Bool
-is_on stretch joined broken = if broken then joined else stretch
+is_on stretch join broken = if broken then join else stretch
 
--- What the events with a text are as items, and where they stand. A stretch begins at a line end that a quoted text takes with it, and
+-- What the tokens with a text are as items, and where they stand. A stretch begins at a line end that a quoted text takes with it, and
 -- where a run with a line end is removed; it ends at a line end that stays and at a mark. The flags say whether a stretch is on before
 -- the run that stands directly before, and whether this run has a join and a line end.
-abbrev pub standings : Bool → Bool → Bool → List Event → List Standing
-standings stretch joined broken [] = []
-standings stretch joined broken (event.Join ∷ es) = standings stretch true broken es
-standings stretch joined broken (event.White ∷ es) = standings stretch joined broken es
-standings stretch joined broken (event.LineEnd line ∷ es) = standings stretch joined true es
-standings stretch joined broken (event.QuoteBreak ∷ es) = standings true false false es
-standings stretch joined broken (event.UseOf name line ∷ es) = standings false false false es
-standings stretch joined broken (event.Defs line ∷ es) = standings false false false es
-standings stretch joined broken (event.Word s ∷ es) =
-    record { item = item.Word s; line = s.line; in_stretch = is_on stretch joined broken } ∷ standings (is_on stretch joined broken) false false es
-standings stretch joined broken (event.Sign s ∷ es) =
-    record { item = item.Sign s; line = s.line; in_stretch = is_on stretch joined broken } ∷ standings (is_on stretch joined broken) false false es
-standings stretch joined broken (event.Quoted s ∷ es) =
-    record { item = item.Quoted s; line = s.line; in_stretch = is_on stretch joined broken } ∷ standings (is_on stretch joined broken) false false es
-standings stretch joined broken (event.Verbatim s ∷ es) =
-    record { item = item.Verbatim s; line = s.line; in_stretch = is_on stretch joined broken } ∷ standings (is_on stretch joined broken) false false es
-standings stretch joined broken (event.Code b line ∷ es) =
-    record { item = item.Code b; line = line; in_stretch = is_on stretch joined broken } ∷ standings (is_on stretch joined broken) false false es
-standings stretch joined broken (_ ∷ es) = standings (is_on stretch joined broken) false false es
+abbrev pub standings : Bool → Bool → Bool → List Token → List Standing
+standings stretch join broken [] = []
+standings stretch join broken (token.Join ∷ es) = standings stretch true broken es
+standings stretch join broken (token.White ∷ es) = standings stretch join broken es
+standings stretch join broken (token.LineEnd line ∷ es) = standings stretch join true es
+standings stretch join broken (token.QuoteBreak ∷ es) = standings true false false es
+standings stretch join broken (token.UseOf name line ∷ es) = standings false false false es
+standings stretch join broken (token.Defs line ∷ es) = standings false false false es
+standings stretch join broken (token.Text kind s ∷ es) =
+    record { item = text_item kind s; line = s.line; in_stretch = is_on stretch join broken } ∷ standings (is_on stretch join broken) false false es
+standings stretch join broken (token.Constant b line ∷ es) =
+    record { item = item.Code b; line = line; in_stretch = is_on stretch join broken } ∷ standings (is_on stretch join broken) false false es
+standings stretch join broken (_ ∷ es) = standings (is_on stretch join broken) false false es
 
 -- Both are the same item, which stands on a line of the source; outside a stretch the compiler's place is that of this line.
 pub record IsOwn (lines : List Line) (p : Placed) (s : Standing) : Type 0 where
@@ -80,20 +75,24 @@ pub record IsOwn (lines : List Line) (p : Placed) (s : Standing) : Type 0 where
   pub line : s.line < length lines
   pub place : s.in_stretch ≡ false → p.place ≡ Some (place_at lines s.line)
 
--- The items with a text of a piece whose opening mark has this place, and which comes from these events: outside stretches each stands
--- at the compiler's place that is its own.
-abbrev pub StandsAtItsLine : List Line → Origin → List Item → List Event → Type 0
-StandsAtItsLine lines mark items events = AllZip (IsOwn lines) (placed_items (Some mark) items) (standings false false false (without_faults events))
+-- The items with a text of a piece whose opening mark has this place, and where they stand: outside stretches each stands at the
+-- compiler's place that is its own.
+abbrev pub StandsAtItsLine : List Line → Origin → List Item → List Standing → Type 0
+StandsAtItsLine lines mark items stands = AllZip (IsOwn lines) (placed_items (Some mark) items) stands
 
-abbrev pub kind_events : PartKind → List Event → List (List Event)
-kind_events (OfMacro line) events = []
-kind_events (OfPiece name line) events = events ∷ []
+-- where the texts of a C part stand
+abbrev pub part_standings : List Token → List Standing
+part_standings tokens = standings false false false (without_faults tokens)
 
--- the events of each C part of the source, in order
-abbrev pub piece_events : List Line → List (List Event)
-piece_events lines = flat_map (λ p. kind_events p.kind p.events) (parts 0 (all_events lines))
+abbrev pub kind_standings : BlockKind → List Token → List (List Standing)
+kind_standings (OfMacro line) tokens = []
+kind_standings (OfPiece name line) tokens = part_standings tokens ∷ []
+
+-- where the texts of each piece of the source stand, in the order of the pieces
+abbrev pub piece_standings : List Line → List (List Standing)
+piece_standings lines = flat_map (λ b. kind_standings b.kind b.tokens) (blocks 0 (all_tokens lines))
 
 -- the texts of each piece stand at their lines
 abbrev pub PiecesStandAtTheirLines : SourceRead → WebRead → Type 0
 PiecesStandAtTheirLines source web =
-    AllZip (λ p events. StandsAtItsLine source.lines p.place p.items events) web.pieces (piece_events source.lines)
+    AllZip (λ p stands. StandsAtItsLine source.lines p.place p.items stands) web.pieces (piece_standings source.lines)

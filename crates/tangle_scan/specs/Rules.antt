@@ -1,19 +1,18 @@
--- From the events of a C part or a macro to its items: five rules, each applied to the whole list in turn.
+-- From the tokens of a C part or a macro to its items: five rules, each applied to the whole list in turn.
 use Rattle.std.specs.Prelude.{ℕ, ◌+◌, Bool, true, false, ◌==◌, nat_le, ◌&&◌, ◌||◌, not, ◌-◌, List, [], ◌∷◌, ◌++◌, length, take, drop, get_or, if◌then◌else◌}
 use Rattle.tangle_lines.specs.declared.faults.Origin.{Origin}
 use Rattle.tangle_lines.specs.Reading.{Line}
-use Rattle.tangle_lines.specs.Reading.{no_line}
-use Rattle.tangle_scan.specs.declared.items.Span.{Span}
+use Rattle.tangle_lexer.specs.declared.spans.Span.{Span}
 use Rattle.tangle_scan.specs.declared.items.Item.{Item}
 use Rattle.tangle_scan.specs.declared.items.Item.TheVariants as item
-use Rattle.tangle_scan.specs.declared.events.Event.{Event}
-use Rattle.tangle_scan.specs.declared.events.Event.TheVariants as event
-use Rattle.tangle_scan.specs.Bytes.{left_parenthesis, is_digit}
+use Rattle.tangle_lexer.specs.declared.tokens.Token.{Token}
+use Rattle.tangle_lexer.specs.declared.tokens.TextKind.{TextKind}
+use Rattle.tangle_lexer.specs.declared.tokens.TextKind.TheVariants as text_kind
+use Rattle.tangle_lexer.specs.declared.tokens.Token.TheVariants as token
+use Rattle.tangle_lexer.specs.Occurrences.{place_at}
+use Rattle.tangle_lexer.specs.Bytes.{left_parenthesis, is_digit}
 
 -- the source lines
-
-abbrev pub place_at : List Line → ℕ → Origin
-place_at lines number = (get_or lines number no_line).place
 
 -- the bytes of a span
 abbrev pub span_text : List (List ℕ) → Span → List ℕ
@@ -24,95 +23,88 @@ abbrev pub first_byte : List (List ℕ) → Span → ℕ
 first_byte texts s = get_or (get_or texts s.line []) s.start 0
 
 -- faults are no items
-abbrev pub without_faults : List Event → List Event
+abbrev pub without_faults : List Token → List Token
 without_faults [] = []
-without_faults (event.Fault kind line ∷ es) = without_faults es
+without_faults (token.Fault kind line ∷ es) = without_faults es
 without_faults (e ∷ es) = e ∷ without_faults es
 
 -- Rule 1: white space is put between a word and an ASCII constant that touch, in either order, and between two constants.
 
-abbrev pub is_constant : Event → Bool
-is_constant (event.Code value line) = true
+abbrev pub is_constant : Token → Bool
+is_constant (token.Constant value line) = true
 is_constant _ = false
 
-abbrev pub is_word_event : Event → Bool
-is_word_event (event.Word s) = true
-is_word_event _ = false
+abbrev pub is_word_token : Token → Bool
+is_word_token (token.Text text_kind.Word s) = true
+is_word_token _ = false
 
-abbrev pub would_merge : Event → Event → Bool
-would_merge e f = is_constant e && (is_constant f || is_word_event f) || is_word_event e && is_constant f
+abbrev pub would_merge : Token → Token → Bool
+would_merge e f = is_constant e && (is_constant f || is_word_token f) || is_word_token e && is_constant f
 
-abbrev pub with_spaces : List Event → List Event
+abbrev pub with_spaces : List Token → List Token
 with_spaces [] = []
 with_spaces (e ∷ []) = e ∷ []
-with_spaces (e ∷ f ∷ es) = e ∷ (if would_merge e f then event.White ∷ [] else []) ++ with_spaces (f ∷ es)
+with_spaces (e ∷ f ∷ es) = e ∷ (if would_merge e f then token.White ∷ [] else []) ++ with_spaces (f ∷ es)
 
 -- In a macro it is also put behind the name, which is the first item, unless ( or white space, a line end or a join follows.
 
-abbrev pub may_follow_name : List (List ℕ) → Event → Bool
-may_follow_name texts event.White = true
-may_follow_name texts (event.LineEnd line) = true
-may_follow_name texts event.Join = true
-may_follow_name texts (event.Sign s) = first_byte texts s == left_parenthesis
+abbrev pub may_follow_name : List (List ℕ) → Token → Bool
+may_follow_name texts token.White = true
+may_follow_name texts (token.LineEnd line) = true
+may_follow_name texts token.Join = true
+may_follow_name texts (token.Text text_kind.Sign s) = first_byte texts s == left_parenthesis
 may_follow_name texts _ = false
 
-abbrev pub with_space_behind : List (List ℕ) → Event → List Event → List Event
+abbrev pub with_space_behind : List (List ℕ) → Token → List Token → List Token
 with_space_behind texts name [] = name ∷ []
-with_space_behind texts name (e ∷ es) = name ∷ (if may_follow_name texts e then [] else event.White ∷ []) ++ e ∷ es
+with_space_behind texts name (e ∷ es) = name ∷ (if may_follow_name texts e then [] else token.White ∷ []) ++ e ∷ es
 
-abbrev pub with_name_space : List (List ℕ) → List Event → List Event
+abbrev pub with_name_space : List (List ℕ) → List Token → List Token
 with_name_space texts [] = []
-with_name_space texts (event.White ∷ es) = event.White ∷ with_name_space texts es
-with_name_space texts (event.LineEnd line ∷ es) = event.LineEnd line ∷ with_name_space texts es
-with_name_space texts (event.Join ∷ es) = event.Join ∷ with_name_space texts es
+with_name_space texts (token.White ∷ es) = token.White ∷ with_name_space texts es
+with_name_space texts (token.LineEnd line ∷ es) = token.LineEnd line ∷ with_name_space texts es
+with_name_space texts (token.Join ∷ es) = token.Join ∷ with_name_space texts es
 with_name_space texts (e ∷ es) = with_space_behind texts e es
 
 -- Rule 2: each run of joins, white space and line ends that has a join is removed.
 
-abbrev pub is_join : Event → Bool
-is_join event.Join = true
+abbrev pub is_join : Token → Bool
+is_join token.Join = true
 is_join _ = false
 
-abbrev pub is_gap : Event → Bool
-is_gap event.Join = true
-is_gap event.White = true
-is_gap (event.LineEnd line) = true
+abbrev pub is_gap : Token → Bool
+is_gap token.Join = true
+is_gap token.White = true
+is_gap (token.LineEnd line) = true
 is_gap _ = false
 
-abbrev pub has_join : List Event → Bool
+abbrev pub has_join : List Token → Bool
 has_join [] = false
-has_join (event.Join ∷ es) = true
+has_join (token.Join ∷ es) = true
 has_join (e ∷ es) = has_join es
 
-abbrev pub left_of_run : List Event → List Event
+abbrev pub left_of_run : List Token → List Token
 left_of_run run = if has_join run then [] else run
 
 -- the first list is the run that stands before the second
-abbrev pub joined : List Event → List Event → List Event
-joined run [] = left_of_run run
-joined run (event.Join ∷ es) = joined (run ++ event.Join ∷ []) es
-joined run (event.White ∷ es) = joined (run ++ event.White ∷ []) es
-joined run (event.LineEnd line ∷ es) = joined (run ++ event.LineEnd line ∷ []) es
-joined run (e ∷ es) = left_of_run run ++ e ∷ joined [] es
+abbrev pub without_joins : List Token → List Token → List Token
+without_joins run [] = left_of_run run
+without_joins run (token.Join ∷ es) = without_joins (run ++ token.Join ∷ []) es
+without_joins run (token.White ∷ es) = without_joins (run ++ token.White ∷ []) es
+without_joins run (token.LineEnd line ∷ es) = without_joins (run ++ token.LineEnd line ∷ []) es
+without_joins run (e ∷ es) = left_of_run run ++ e ∷ without_joins [] es
 
 -- Rule 3: of a run of white space between two items with no line end in it one White is left, which is a blank; other white space is
 -- dropped. The flags say whether an item stands before with no line end behind it, and whether white space stands directly before.
 
-abbrev pub blanks : Bool → Bool → List Event → List Event
+abbrev pub blanks : Bool → Bool → List Token → List Token
 blanks item white [] = []
-blanks item white (event.White ∷ es) = blanks item true es
-blanks item white (event.LineEnd line ∷ es) = event.LineEnd line ∷ blanks false false es
-blanks item white (e ∷ es) = (if item && white then event.White ∷ [] else []) ++ e ∷ blanks true false es
+blanks item white (token.White ∷ es) = blanks item true es
+blanks item white (token.LineEnd line ∷ es) = token.LineEnd line ∷ blanks false false es
+blanks item white (e ∷ es) = (if item && white then token.White ∷ [] else []) ++ e ∷ blanks true false es
 
--- Rule 4: in a C part a mark stands behind each use and each @h, for the line on which it ends.
-
-abbrev pub marked : List Event → List Event
-marked [] = []
-marked (event.UseOf name line ∷ es) = event.UseOf name line ∷ event.MarkAt line ∷ marked es
-marked (event.Defs line ∷ es) = event.Defs line ∷ event.MarkAt line ∷ marked es
-marked (e ∷ es) = e ∷ marked es
-
--- Rule 5: the place that the compiler counts. A line end goes on by one line; it is a mark instead where the next source line has another place.
+-- Rules 4 and 5: the place that the compiler counts. A line end goes on by one line; it is a mark instead where the next source line has
+-- another place. A mark stands behind each use and each @h too, for the line on which it ends.
 
 abbrev pub next_line : Origin → Origin
 next_line p = record { file = p.file; line = p.line + 1 }
@@ -133,53 +125,55 @@ abbrev pub line_item : List Line → Origin → ℕ → Item
 line_item lines count line =
     if goes_on lines count line then item.LineEnd else item.LineMark (place_at lines (line + 1))
 
+-- the item that a text of a kind is
+abbrev pub text_item : TextKind → Span → Item
+text_item text_kind.Word s = item.Word s
+text_item text_kind.Sign s = item.Sign s
+text_item text_kind.Quoted s = item.Quoted s
+text_item text_kind.Verbatim s = item.Verbatim s
+
 -- the items of a C part, with the count before them
-abbrev pub counted : List Line → Origin → List Event → List Item
-counted lines count [] = []
-counted lines count (event.LineEnd line ∷ es) =
-    line_item lines count line ∷ counted lines (count_behind lines count line) es
-counted lines count (event.MarkAt line ∷ es) = item.LineMark (place_at lines line) ∷ counted lines (place_at lines line) es
-counted lines count (event.QuoteBreak ∷ es) = item.QuoteBreak ∷ counted lines (next_line count) es
-counted lines count (event.Word s ∷ es) = item.Word s ∷ counted lines count es
-counted lines count (event.Sign s ∷ es) = item.Sign s ∷ counted lines count es
-counted lines count (event.Quoted s ∷ es) = item.Quoted s ∷ counted lines count es
-counted lines count (event.Verbatim s ∷ es) = item.Verbatim s ∷ counted lines count es
-counted lines count (event.Code value line ∷ es) = item.Code value ∷ counted lines count es
-counted lines count (event.White ∷ es) = item.Blank ∷ counted lines count es
-counted lines count (event.UseOf name line ∷ es) = item.UseOf name ∷ counted lines count es
-counted lines count (event.Defs line ∷ es) = item.Defs ∷ counted lines count es
+abbrev pub items_by_place : List Line → Origin → List Token → List Item
+items_by_place lines count [] = []
+items_by_place lines count (token.LineEnd line ∷ es) =
+    line_item lines count line ∷ items_by_place lines (count_behind lines count line) es
+items_by_place lines count (token.QuoteBreak ∷ es) = item.QuoteBreak ∷ items_by_place lines (next_line count) es
+items_by_place lines count (token.Text kind s ∷ es) = text_item kind s ∷ items_by_place lines count es
+items_by_place lines count (token.Constant value line ∷ es) = item.Code value ∷ items_by_place lines count es
+items_by_place lines count (token.White ∷ es) = item.Blank ∷ items_by_place lines count es
+items_by_place lines count (token.UseOf name line ∷ es) =
+    item.UseOf name ∷ item.LineMark (place_at lines line) ∷ items_by_place lines (place_at lines line) es
+items_by_place lines count (token.Defs line ∷ es) =
+    item.Defs ∷ item.LineMark (place_at lines line) ∷ items_by_place lines (place_at lines line) es
 -- heads, joins and faults are no items
-counted lines count (_ ∷ es) = counted lines count es
+items_by_place lines count (_ ∷ es) = items_by_place lines count es
 
 -- the items of a C part whose head ends on this line
-abbrev pub part_items : List Line → ℕ → List Event → List Item
-part_items lines line events =
-    counted lines (place_at lines line) (marked (blanks false false (joined [] (with_spaces (without_faults events)))))
+abbrev pub part_items : List Line → ℕ → List Token → List Item
+part_items lines line tokens =
+    items_by_place lines (place_at lines line) (blanks false false (without_joins [] (with_spaces (without_faults tokens))))
 
 -- Macros have no marks, and white space and line ends behind @d are skipped.
 
-abbrev pub without_front_gaps : List Event → List Event
+abbrev pub without_front_gaps : List Token → List Token
 without_front_gaps [] = []
-without_front_gaps (event.White ∷ es) = without_front_gaps es
-without_front_gaps (event.LineEnd line ∷ es) = without_front_gaps es
+without_front_gaps (token.White ∷ es) = without_front_gaps es
+without_front_gaps (token.LineEnd line ∷ es) = without_front_gaps es
 without_front_gaps (e ∷ es) = e ∷ es
 
-abbrev pub plain_items : List Event → List Item
-plain_items [] = []
-plain_items (event.LineEnd line ∷ es) = item.LineEnd ∷ plain_items es
-plain_items (event.QuoteBreak ∷ es) = item.QuoteBreak ∷ plain_items es
-plain_items (event.Word s ∷ es) = item.Word s ∷ plain_items es
-plain_items (event.Sign s ∷ es) = item.Sign s ∷ plain_items es
-plain_items (event.Quoted s ∷ es) = item.Quoted s ∷ plain_items es
-plain_items (event.Verbatim s ∷ es) = item.Verbatim s ∷ plain_items es
-plain_items (event.Code value line ∷ es) = item.Code value ∷ plain_items es
-plain_items (event.White ∷ es) = item.Blank ∷ plain_items es
+abbrev pub unmarked_items : List Token → List Item
+unmarked_items [] = []
+unmarked_items (token.LineEnd line ∷ es) = item.LineEnd ∷ unmarked_items es
+unmarked_items (token.QuoteBreak ∷ es) = item.QuoteBreak ∷ unmarked_items es
+unmarked_items (token.Text kind s ∷ es) = text_item kind s ∷ unmarked_items es
+unmarked_items (token.Constant value line ∷ es) = item.Code value ∷ unmarked_items es
+unmarked_items (token.White ∷ es) = item.Blank ∷ unmarked_items es
 -- uses and @h do not stand in macros; heads, joins and faults are no items
-plain_items (_ ∷ es) = plain_items es
+unmarked_items (_ ∷ es) = unmarked_items es
 
-abbrev pub macro_items : List (List ℕ) → List Event → List Item
-macro_items texts events =
-    plain_items (blanks false false (joined [] (with_name_space texts (with_spaces (without_front_gaps (without_faults events))))))
+abbrev pub macro_items : List (List ℕ) → List Token → List Item
+macro_items texts tokens =
+    unmarked_items (blanks false false (without_joins [] (with_name_space texts (with_spaces (without_front_gaps (without_faults tokens))))))
 
 -- A macro is kept if its first item is a word that begins with a word byte other than a digit.
 abbrev pub is_macro : List (List ℕ) → List Item → Bool

@@ -1,4 +1,4 @@
--- The web: the events of the whole text, grouped by section into pieces, macros and occurrences.
+-- The web: the tokens of the whole text, grouped by section into pieces, macros and occurrences.
 use Rattle.std.specs.Prelude.{ℕ, ◌+◌, Bool, true, false, List, [], ◌∷◌, ◌++◌, map, flat_map, if◌then◌else◌, Option, Some, None}
 use Rattle.std.specs.List.{list_any}
 use Rattle.tangle_lines.specs.declared.faults.Origin.{Origin}
@@ -8,13 +8,13 @@ use Rattle.tangle_lines.specs.Faults.{Finding, fault_at}
 use Rattle.tangle_lines.specs.Reading.{Line, SourceRead, named}
 use Rattle.tangle_lines.specs.Lines.{FileTable}
 use Rattle.tangle_scan.specs.declared.items.Item.{Item}
-use Rattle.tangle_scan.specs.declared.occurrences.OccurrenceRole.{OccurrenceRole}
-use Rattle.tangle_scan.specs.declared.events.Event.{Event}
-use Rattle.tangle_scan.specs.declared.events.Event.TheVariants as event
-use Rattle.tangle_scan.specs.Lexemes.{NameRead}
-use Rattle.tangle_scan.specs.Names.{is_abbreviation}
-use Rattle.tangle_scan.specs.Steps.{all_events, all_names}
-use Rattle.tangle_scan.specs.Rules.{place_at, part_items, macro_items, is_macro}
+use Rattle.tangle_lexer.specs.declared.tokens.Token.{Token}
+use Rattle.tangle_lexer.specs.declared.tokens.Token.TheVariants as token
+use Rattle.tangle_lexer.specs.Lexemes.{NameRead}
+use Rattle.tangle_lexer.specs.Heads.{is_head}
+use Rattle.tangle_lexer.specs.Occurrences.{OccurrenceRead, occurrence_of, place_at}
+use Rattle.tangle_lexer.specs.Steps.{all_tokens, all_names}
+use Rattle.tangle_scan.specs.Rules.{part_items, macro_items, is_macro}
 
 -- a piece: a C part, with the number of its section, the place of its opening mark, the number of its name's occurrence if it has a name,
 -- and its items
@@ -23,14 +23,6 @@ pub record PieceRead : Type 0 where
   pub place : Origin
   pub name : Option ℕ
   pub items : List Item
-
--- an occurrence of a section name: its text, an abbreviation's with its dots; whether it is abbreviated; whether it is marked @(
-pub record OccurrenceRead : Type 0 where
-  pub text : List ℕ
-  pub is_abbreviation : Bool
-  pub is_file : Bool
-  pub role : OccurrenceRole
-  pub place : Origin
 
 -- a web, with the bytes of its source lines and the names of its files
 pub record WebRead : Type 0 where
@@ -45,130 +37,114 @@ pub record WebRead : Type 0 where
 
 -- the C parts and macros
 
--- what begins a section, a macro or a C part, and so ends what came before
-abbrev pub is_head : Event → Bool
-is_head event.Section = true
-is_head (event.MacroStart line) = true
-is_head (event.UnnamedPart line) = true
-is_head (event.NamedPart name line) = true
-is_head _ = false
-
--- the events before the next head
-abbrev pub body : List Event → List Event
+-- the tokens before the next head
+abbrev pub body : List Token → List Token
 body [] = []
 body (e ∷ es) = if is_head e then [] else e ∷ body es
 
 -- a macro, or a C part of this name, whose head ends on this line
-pub data PartKind : Type 0 where
-  OfMacro : ℕ → PartKind
-  OfPiece : Option ℕ → ℕ → PartKind
+pub data BlockKind : Type 0 where
+  OfMacro : ℕ → BlockKind
+  OfPiece : Option ℕ → ℕ → BlockKind
 
-pub record Part : Type 0 where
+-- what stands behind a head, up to the next one, with the number of its section
+pub record Block : Type 0 where
   pub section : ℕ
-  pub kind : PartKind
-  pub events : List Event
+  pub kind : BlockKind
+  pub tokens : List Token
 
--- the part that a head begins, if it begins one
-abbrev pub part_at : ℕ → Event → List Event → List Part
-part_at section (event.MacroStart line) es = record { section = section; kind = OfMacro line; events = body es } ∷ []
-part_at section (event.UnnamedPart line) es = record { section = section; kind = OfPiece None line; events = body es } ∷ []
-part_at section (event.NamedPart name line) es = record { section = section; kind = OfPiece (Some name) line; events = body es } ∷ []
-part_at section _ es = []
+-- the macro or the C part that a head begins, if it begins one
+abbrev pub block_at : ℕ → Token → List Token → List Block
+block_at section (token.MacroStart line) es = record { section = section; kind = OfMacro line; tokens = body es } ∷ []
+block_at section (token.UnnamedPart line) es = record { section = section; kind = OfPiece None line; tokens = body es } ∷ []
+block_at section (token.NamedPart name line) es = record { section = section; kind = OfPiece (Some name) line; tokens = body es } ∷ []
+block_at section _ es = []
 
--- the number of the section behind an event
-abbrev pub section_behind : ℕ → Event → ℕ
-section_behind section event.Section = section + 1
+-- the number of the section behind a token
+abbrev pub section_behind : ℕ → Token → ℕ
+section_behind section token.Section = section + 1
 section_behind section _ = section
 
 -- the C parts and macros in order, each with the number of its section, from the number of the section before
-abbrev pub parts : ℕ → List Event → List Part
-parts section [] = []
-parts section (e ∷ es) = part_at section e es ++ parts (section_behind section e) es
+abbrev pub blocks : ℕ → List Token → List Block
+blocks section [] = []
+blocks section (e ∷ es) = block_at section e es ++ blocks (section_behind section e) es
 
-abbrev pub section_count : ℕ → List Event → ℕ
+abbrev pub section_count : ℕ → List Token → ℕ
 section_count section [] = section
 section_count section (e ∷ es) = section_count (section_behind section e) es
 
-abbrev pub is_defs : Event → Bool
-is_defs (event.Defs line) = true
+abbrev pub is_defs : Token → Bool
+is_defs (token.Defs line) = true
 is_defs _ = false
 
 -- a C part with @h
-abbrev pub kind_has_defs : PartKind → List Event → Bool
-kind_has_defs (OfMacro line) events = false
-kind_has_defs (OfPiece name line) events = list_any is_defs events
+abbrev pub kind_has_defs : BlockKind → List Token → Bool
+kind_has_defs (OfMacro line) tokens = false
+kind_has_defs (OfPiece name line) tokens = list_any is_defs tokens
 
-abbrev pub has_defs : Part → Bool
-has_defs p = kind_has_defs p.kind p.events
+abbrev pub has_defs : Block → Bool
+has_defs p = kind_has_defs p.kind p.tokens
 
--- from parts to pieces and macros
+-- from blocks to pieces and macros
 
 module _ (lines : List Line) where
   abbrev pub texts_of : List (List ℕ)
   texts_of = map (λ l. l.bytes) lines
 
-  abbrev pub kind_piece : PartKind → Part → List PieceRead
+  abbrev pub kind_piece : BlockKind → Block → List PieceRead
   kind_piece (OfMacro line) p = []
   kind_piece (OfPiece name line) p =
-      record { section = p.section; place = place_at lines line; name = name; items = part_items lines line p.events } ∷ []
+      record { section = p.section; place = place_at lines line; name = name; items = part_items lines line p.tokens } ∷ []
 
-  -- the piece that a part is
-  abbrev pub piece_of : Part → List PieceRead
+  -- the piece that a block is
+  abbrev pub piece_of : Block → List PieceRead
   piece_of p = kind_piece p.kind p
 
   abbrev pub kept_macro : List Item → List (List Item)
   kept_macro items = if is_macro texts_of items then items ∷ [] else []
 
-  abbrev pub kind_macro : PartKind → Part → List (List Item)
-  kind_macro (OfMacro line) p = kept_macro (macro_items texts_of p.events)
+  abbrev pub kind_macro : BlockKind → Block → List (List Item)
+  kind_macro (OfMacro line) p = kept_macro (macro_items texts_of p.tokens)
   kind_macro (OfPiece name line) p = []
 
-  -- the macro that a part is, unless it is dropped
-  abbrev pub macro_of : Part → List (List Item)
+  -- the macro that a block is, unless it is dropped
+  abbrev pub macro_of : Block → List (List Item)
   macro_of p = kind_macro p.kind p
-
-  abbrev pub occurrence_of : NameRead → OccurrenceRead
-  occurrence_of n = record {
-    text = n.text;
-    is_abbreviation = is_abbreviation n.text;
-    is_file = n.is_file;
-    role = n.role;
-    place = place_at lines n.line;
-  }
 
 module _ (files : FileTable) (lines : List Line) where
   abbrev pub fault_on : FaultKind → ℕ → Finding
   fault_on kind line = fault_at kind (named files (place_at lines line))
 
   -- the fault of a macro that is dropped
-  abbrev pub macro_fault : ℕ → List Event → List Finding
+  abbrev pub macro_fault : ℕ → List Token → List Finding
   macro_fault line es =
       if is_macro (texts_of lines) (macro_items (texts_of lines) (body es)) then [] else fault_on fault.MacroName line ∷ []
 
-  -- the fault that an event is; that of a macro stands at its @d
-  abbrev pub faults_at : Event → List Event → List Finding
-  faults_at (event.Fault kind line) es = fault_on kind line ∷ []
-  faults_at (event.MacroStart line) es = macro_fault line es
+  -- the fault that a token is; that of a macro stands at its @d
+  abbrev pub faults_at : Token → List Token → List Finding
+  faults_at (token.Fault kind line) es = fault_on kind line ∷ []
+  faults_at (token.MacroStart line) es = macro_fault line es
   faults_at _ es = []
 
   -- the faults in the order of the text
-  abbrev pub scan_faults : List Event → List Finding
+  abbrev pub scan_faults : List Token → List Finding
   scan_faults [] = []
   scan_faults (e ∷ es) = faults_at e es ++ scan_faults es
 
--- the web of a source with these events and names
-abbrev pub web_with : SourceRead → List Event → List NameRead → WebRead
-web_with source events names = record {
+-- the web of a source with these tokens and names
+abbrev pub web_with : SourceRead → List Token → List NameRead → WebRead
+web_with source tokens names = record {
   texts = texts_of source.lines;
   file_names = map (λ f. f.0) source.files;
-  sections = section_count 0 events;
-  pieces = flat_map (piece_of source.lines) (parts 0 events);
-  macros = flat_map (macro_of source.lines) (parts 0 events);
+  sections = section_count 0 tokens;
+  pieces = flat_map (piece_of source.lines) (blocks 0 tokens);
+  macros = flat_map (macro_of source.lines) (blocks 0 tokens);
   occurrences = map (occurrence_of source.lines) names;
-  has_defs_code = list_any has_defs (parts 0 events);
-  faults = scan_faults source.files source.lines events;
+  has_defs_code = list_any has_defs (blocks 0 tokens);
+  faults = scan_faults source.files source.lines tokens;
 }
 
 -- the web of a source
 abbrev pub web_of : SourceRead → WebRead
-web_of source = web_with source (all_events source.lines) (all_names source.lines)
+web_of source = web_with source (all_tokens source.lines) (all_names source.lines)

@@ -1,27 +1,28 @@
-//! From the events of C parts and macros to the pieces, macros and faults of a web.
+//! From the tokens of C parts and macros to the pieces, macros and faults of a web.
 ghost use Rattle.std.specs.Prelude.{◌≡◌, ◌≤◌, ◌<◌, ◌+◌, ◌^◌, ◌++◌, ◌∷◌, ◌||◌, [], ℕ, List, length, flat_map, if◌then◌else◌, true, false, Option, Some, None, IfOk, OnOk};
 ghost use Rattle.std.specs.List.{list_any};
 ghost use Rattle.tangle_lines.specs.declared.faults.FaultKind.TheVariants as fault;
 ghost use Rattle.tangle_scan.specs.Rules as rules;
+ghost use Rattle.tangle_lexer.specs.Occurrences as occurrences;
 ghost use Rattle.tangle_scan.specs.Web as web;
+ghost use Rattle.tangle_lexer.specs.Heads.{is_head};
 ghost use Rattle.tangle_scan.specs.Web.{texts_of};
-ghost use Rattle.tangle_scan.specs.Gathered.{own_fault, nothing, gathered_with, with_head};
+ghost use Rattle.tangle_scan.specs.Gathering.{own_fault, nothing, gathering_with, with_head};
 
-use crate::events::Event;
 use crate::items::Item;
 use crate::laying::{lay_macro, lay_part};
-use crate::names::place_at;
 use crate::pieces::{Macro, Piece};
-use crate::spacing::{first_byte, macro_events, part_events};
+use crate::spacing::{first_byte, macro_tokens, part_tokens};
 use std::alloc::Global;
 use std::marker::Model;
+use tangle_lexer::{Token, place_at};
 use tangle_lines::{Fault, FaultKind, NoMemory, Source};
 
-/// Whether some event is `@h`.
-fn has_defs(events: &[Event]) -> bool
-    ensures { result ≡ list_any web.is_defs events.now }
+/// Whether some token is `@h`.
+fn has_defs(tokens: &[Token]) -> bool
+    ensures { result ≡ list_any web.is_defs tokens.now }
 {
-    events.iter().any(|event| matches!(event, Event::Defs(_)))
+    tokens.iter().any(|token| matches!(token, Token::Defs(_)))
 }
 
 /// Notes a fault on a source line.
@@ -41,41 +42,41 @@ fn note(
     Ok(())
 }
 
-/// Notes the fault that an event is, if it is one.
+/// Notes the fault that a token is, if it is one.
 fn note_own(
     alloc: Global,
     source: &Source,
     faults: &mut Vec<Fault>,
-    event: Event,
+    token: Token,
 ) -> Result<(), NoMemory>
-    ensures { OnOk result (faults.new.items ≡ faults.old.items ++ own_fault source.now.files source.now.lines event) }
+    ensures { OnOk result (faults.new.items ≡ faults.old.items ++ own_fault source.now.files source.now.lines token) }
 {
-    if let Event::Fault(kind, line) = event {
+    if let Token::Fault(kind, line) = token {
         note(alloc, source, faults, kind, line)?;
     }
     Ok(())
 }
 
-/// Notes the faults among some events.
+/// Notes the faults among some tokens.
 fn note_faults(
     alloc: Global,
     source: &Source,
     faults: &mut Vec<Fault>,
-    events: &[Event],
+    tokens: &[Token],
 ) -> Result<(), NoMemory>
     ensures { OnOk result (faults.new.items
-        ≡ faults.old.items ++ flat_map (own_fault source.now.files source.now.lines) events.now) }
+        ≡ faults.old.items ++ flat_map (own_fault source.now.files source.now.lines) tokens.now) }
 {
-    for event in events {
-        note_own(alloc, source, faults, *event)?;
+    for token in tokens {
+        note_own(alloc, source, faults, *token)?;
     }
     Ok(())
 }
 
-/// The events and the items of a part on its way to a piece or a macro. Their memory serves every part.
+/// The tokens and the items of a part on its way to a piece or a macro. Their memory serves every part.
 #[derive(Drop)]
 pub struct Workspace {
-    events: Vec<Event>,
+    tokens: Vec<Token>,
     items: Vec<Item>,
 }
 
@@ -83,7 +84,7 @@ impl Workspace {
     /// No memory yet.
     pub fn new(alloc: Global) -> Self {
         Workspace {
-            events: Vec::new(alloc),
+            tokens: Vec::new(alloc),
             items: Vec::new(alloc),
         }
     }
@@ -94,11 +95,11 @@ impl Workspace {
         alloc: Global,
         source: &Source,
         line: u32,
-        events: &[Event],
+        tokens: &[Token],
     ) -> Result<Vec<Item>, NoMemory>
-        ensures { IfOk result (λ items. items.items ≡ rules.part_items source.now.lines line events.now) }
+        ensures { IfOk result (λ items. items.items ≡ rules.part_items source.now.lines line tokens.now) }
     {
-        let left = part_events(source, &mut self.events, events)?;
+        let left = part_tokens(source, &mut self.tokens, tokens)?;
         lay_part(source, &mut self.items, line, left)?;
         Ok(Vec::from_slice(alloc, &self.items)?)
     }
@@ -108,11 +109,11 @@ impl Workspace {
         &mut self,
         alloc: Global,
         source: &Source,
-        events: &[Event],
+        tokens: &[Token],
     ) -> Result<Vec<Item>, NoMemory>
-        ensures { IfOk result (λ items. items.items ≡ rules.macro_items (texts_of source.now.lines) events.now) }
+        ensures { IfOk result (λ items. items.items ≡ rules.macro_items (texts_of source.now.lines) tokens.now) }
     {
-        let left = macro_events(source, &mut self.events, events)?;
+        let left = macro_tokens(source, &mut self.tokens, tokens)?;
         lay_macro(&mut self.items, left)?;
         Ok(Vec::from_slice(alloc, &self.items)?)
     }
@@ -139,9 +140,9 @@ pub struct Gathering {
 }
 
 impl Model for Gathering {
-    ghost use Rattle.tangle_scan.specs.Gathered.{Gathered};
+    ghost use Rattle.tangle_scan.specs.Gathering.{GatheringRead};
 
-    ghost Value = { Gathered };
+    ghost Value = { GatheringRead };
 
     ghost view = { λ g. record {
       sections = g.sections;
@@ -166,18 +167,18 @@ impl Gathering {
         }
     }
 
-    /// Adds the events before the first head.
+    /// Adds the tokens before the first head.
     pub fn add_front(
         &mut self,
         alloc: Global,
         source: &Source,
-        events: &[Event],
+        tokens: &[Token],
     ) -> Result<(), NoMemory>
-        requires { list_any web.is_head events.now ≡ false }
-        ensures gathered { OnOk result (self.new ≡ gathered_with source.now self.old events.now) }
+        requires { list_any is_head tokens.now ≡ false }
+        ensures gathering { OnOk result (self.new ≡ gathering_with source.now self.old tokens.now) }
         ensures sections { OnOk result (self.new.sections ≡ self.old.sections) }
     {
-        note_faults(alloc, source, &mut self.faults, events)?;
+        note_faults(alloc, source, &mut self.faults, tokens)?;
         Ok(())
     }
 
@@ -189,23 +190,23 @@ impl Gathering {
         workspace: &mut Workspace,
         name: Option<usize>,
         line: u32,
-        events: &[Event],
+        tokens: &[Token],
     ) -> Result<(), NoMemory>
         ensures { OnOk result (self.new ≡ record self.old {
           pieces = self.old.pieces ++ record {
             section = self.old.sections;
-            place = rules.place_at source.now.lines line;
+            place = occurrences.place_at source.now.lines line;
             name = name;
-            items = rules.part_items source.now.lines line events.now;
+            items = rules.part_items source.now.lines line tokens.now;
           } ∷ [];
-          has_defs_code = self.old.has_defs_code || list_any web.is_defs events.now;
+          has_defs_code = self.old.has_defs_code || list_any web.is_defs tokens.now;
         }) }
     {
-        let items = workspace.part_items(alloc, source, line, events)?;
+        let items = workspace.part_items(alloc, source, line, tokens)?;
         let place = place_at(source, line);
         self.pieces
             .push(Piece::new(self.sections, place, name, items))?;
-        self.has_defs_code = self.has_defs_code || has_defs(events);
+        self.has_defs_code = self.has_defs_code || has_defs(tokens);
         Ok(())
     }
 
@@ -216,16 +217,16 @@ impl Gathering {
         source: &Source,
         workspace: &mut Workspace,
         line: u32,
-        events: &[Event],
+        tokens: &[Token],
     ) -> Result<(), NoMemory>
-        ensures { OnOk result (let items = rules.macro_items (texts_of source.now.lines) events.now in
+        ensures { OnOk result (let items = rules.macro_items (texts_of source.now.lines) tokens.now in
             let is_macro = rules.is_macro (texts_of source.now.lines) items in
             self.new ≡ record self.old {
               macros = self.old.macros ++ (if is_macro then items ∷ [] else []);
               faults = self.old.faults ++ (if is_macro then [] else web.fault_on source.now.files source.now.lines fault.MacroName line ∷ []);
             }) }
     {
-        let items = workspace.macro_items(alloc, source, events)?;
+        let items = workspace.macro_items(alloc, source, tokens)?;
         if is_macro(source, &items) {
             self.macros.push(Macro::new(items))?;
             return Ok(());
@@ -233,53 +234,53 @@ impl Gathering {
         note(alloc, source, &mut self.faults, FaultKind::MacroName, line)
     }
 
-    /// Adds what a head and the events up to the next head are, but for the faults among these.
+    /// Adds what a head and the tokens up to the next head are, but for the faults among these.
     fn add_head(
         &mut self,
         alloc: Global,
         source: &Source,
         workspace: &mut Workspace,
-        head: Event,
-        events: &[Event],
+        head: Token,
+        tokens: &[Token],
     ) -> Result<(), NoMemory>
         requires room { self.old.sections + 1 < 2 ^ 64 }
-        requires head { web.is_head head ≡ true }
-        requires whole { web.body events.now ≡ events.now }
-        ensures { OnOk result (self.new ≡ with_head source.now self.old head events.now) }
+        requires head { is_head head ≡ true }
+        requires whole { web.body tokens.now ≡ tokens.now }
+        ensures { OnOk result (self.new ≡ with_head source.now self.old head tokens.now) }
     {
         match head {
-            Event::Section => {
+            Token::Section => {
                 self.sections += 1;
                 Ok(())
             }
-            Event::MacroStart(line) => self.add_macro(alloc, source, workspace, line, events),
-            Event::UnnamedPart(line) => {
-                self.add_piece(alloc, source, workspace, None, line, events)
+            Token::MacroStart(line) => self.add_macro(alloc, source, workspace, line, tokens),
+            Token::UnnamedPart(line) => {
+                self.add_piece(alloc, source, workspace, None, line, tokens)
             }
-            Event::NamedPart(name, line) => {
-                self.add_piece(alloc, source, workspace, Some(name), line, events)
+            Token::NamedPart(name, line) => {
+                self.add_piece(alloc, source, workspace, Some(name), line, tokens)
             }
             _ => Ok(()),
         }
     }
 
-    /// Adds what a head and the events up to the next head are.
-    pub fn add_part(
+    /// Adds what a head and the tokens up to the next head are.
+    pub fn add_block(
         &mut self,
         alloc: Global,
         source: &Source,
         workspace: &mut Workspace,
-        head: Event,
-        events: &[Event],
+        head: Token,
+        tokens: &[Token],
     ) -> Result<(), NoMemory>
         requires room { self.old.sections + 1 < 2 ^ 64 }
-        requires head { web.is_head head ≡ true }
-        requires no_head { list_any web.is_head events.now ≡ false }
-        ensures gathered { OnOk result (self.new ≡ gathered_with source.now self.old (head ∷ events.now)) }
+        requires head { is_head head ≡ true }
+        requires no_head { list_any is_head tokens.now ≡ false }
+        ensures gathering { OnOk result (self.new ≡ gathering_with source.now self.old (head ∷ tokens.now)) }
         ensures sections { OnOk result (self.new.sections ≤ self.old.sections + 1) }
     {
-        self.add_head(alloc, source, workspace, head, events)?;
-        note_faults(alloc, source, &mut self.faults, events)?;
+        self.add_head(alloc, source, workspace, head, tokens)?;
+        note_faults(alloc, source, &mut self.faults, tokens)?;
         Ok(())
     }
 }

@@ -1,13 +1,6 @@
 //! The items of pieces and macros.
+use tangle_lexer::Span;
 use tangle_lines::Origin;
-
-/// A range of bytes of one source line: the number of the line, from 0, and the columns of its first byte and behind its last.
-#[derive(Clone, Copy, Debug, PartialEq, Eq)]
-pub struct Span {
-    pub line: u32,
-    pub start: u16,
-    pub end: u16,
-}
 
 /// What a piece or a macro is made of. The text of an item with a span is that range of the source.
 #[derive(Clone, Copy, Debug, PartialEq, Eq)]

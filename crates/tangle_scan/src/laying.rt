@@ -1,16 +1,16 @@
-//! From the events that spacing leaves to items. White space between two items of a line is a blank, and other white space is
+//! From the tokens that spacing leaves to items. White space between two items of a line is a blank, and other white space is
 //! dropped. A line mark stands behind each use and each `@h`, and in place of a line end where the next source line has another
 //! place than the compiler would count.
 ghost use Rattle.std.specs.Prelude.{◌≡◌, ◌≤◌, ◌<◌, ◌-◌, ◌+◌, ◌^◌, ◌++◌, ◌∷◌, ◌&&◌, [], ℕ, List, length, max, if◌then◌else◌, false, Option, None, Some, option_to_list, IfOk, OnOk};
 ghost use Rattle.tangle_scan.specs.Rules as rules;
+ghost use Rattle.tangle_lexer.specs.Occurrences as occurrences;
 ghost use Rattle.tangle_scan.specs.Passes as passes;
-ghost use Rattle.tangle_scan.specs.Passes.{counts, laid_from, plain_from};
-ghost use Rattle.tangle_scan.specs.declared.events.Event.{Event};
+ghost use Rattle.tangle_scan.specs.Passes.{counts, items_ahead, unmarked_from};
+ghost use Rattle.tangle_lexer.specs.declared.tokens.Token.{Token};
 ghost use Rattle.tangle_scan.specs.declared.items.Item.TheVariants as item;
 
-use crate::events::Event;
 use crate::items::Item;
-use crate::names::place_at;
+use tangle_lexer::{Span, TextKind, Token, place_at};
 use tangle_lines::{NoMemory, Origin, Source};
 
 /// What stands before a place on its line: an item, and white space behind it.
@@ -49,7 +49,7 @@ fn next_line(count: Count) -> Count
 fn mark_behind(source: &Source, count: Count, line: u32) -> Option<Origin>
     requires { count.line < 2 ^ 63 }
     ensures { result ≡ (if rules.goes_on source.now.lines (counts count) line then None
-        else Some (rules.place_at source.now.lines (line + 1))) }
+        else Some (occurrences.place_at source.now.lines (line + 1))) }
 {
     let next = line as usize + 1;
     if next >= source.count() {
@@ -108,20 +108,28 @@ fn put_blank(items: &mut Vec<Item>, before: Before) -> Result<(), NoMemory>
     Ok(())
 }
 
-/// The item that an event is, if it is one; white space is a blank.
-fn item_of(event: Event) -> Option<Item>
-    ensures { result ≡ passes.item_of event }
+/// The item that a text of a kind is.
+#[inline(always)]
+fn text_item(kind: TextKind, span: Span) -> Item
+    ensures { result ≡ rules.text_item kind span }
 {
-    match event {
-        Event::Word(span) => Some(Item::Word(span)),
-        Event::Sign(span) => Some(Item::Sign(span)),
-        Event::Quoted(span) => Some(Item::Quoted(span)),
-        Event::QuoteBreak => Some(Item::QuoteBreak),
-        Event::Verbatim(span) => Some(Item::Verbatim(span)),
-        Event::Code(byte, _) => Some(Item::Code(byte)),
-        Event::White => Some(Item::Blank),
-        Event::UseOf(number, _) => Some(Item::UseOf(number)),
-        Event::Defs(_) => Some(Item::Defs),
+    match kind {
+        TextKind::Word => Item::Word(span),
+        TextKind::Sign => Item::Sign(span),
+        TextKind::Quoted => Item::Quoted(span),
+        TextKind::Verbatim => Item::Verbatim(span),
+    }
+}
+
+/// The item that a token is in C parts and macros alike, if it is one.
+#[inline(always)]
+fn item_of(token: Token) -> Option<Item>
+    ensures { result ≡ passes.item_of token }
+{
+    match token {
+        Token::Text(kind, span) => Some(text_item(kind, span)),
+        Token::QuoteBreak => Some(Item::QuoteBreak),
+        Token::Constant(byte, _) => Some(Item::Code(byte)),
         _ => None,
     }
 }
@@ -136,58 +144,52 @@ fn put_some(items: &mut Vec<Item>, item: Option<Item>) -> Result<(), NoMemory>
     Ok(())
 }
 
-/// Puts the item of an event, and a mark behind a use and behind the macros.
+/// Puts the item of a token, and a mark behind a use and behind the macros.
 fn put_item(
     source: &Source,
     items: &mut Vec<Item>,
     count: Count,
-    event: Event,
+    token: Token,
 ) -> Result<Count, NoMemory>
     requires { count.line < 2 ^ 63 }
-    ensures items { OnOk result (items.new.items ≡ items.old.items ++ passes.items_at source.now.lines (counts count) event) }
-    ensures count { IfOk result (λ next. counts next ≡ passes.count_after source.now.lines (counts count) event) }
+    ensures items { OnOk result (items.new.items ≡ items.old.items ++ passes.items_at source.now.lines token) }
+    ensures count { IfOk result (λ next. counts next ≡ passes.count_after source.now.lines (counts count) token) }
     ensures room { IfOk result (λ next. next.line ≤ max (2 ^ 32) (count.line + 1)) }
 {
-    match event {
-        Event::Word(span) => items.push(Item::Word(span))?,
-        Event::Sign(span) => items.push(Item::Sign(span))?,
-        Event::Quoted(span) => items.push(Item::Quoted(span))?,
-        Event::Verbatim(span) => items.push(Item::Verbatim(span))?,
-        Event::Code(value, _) => items.push(Item::Code(value))?,
-        Event::White => items.push(Item::Blank)?,
-        Event::QuoteBreak => {
-            items.push(Item::QuoteBreak)?;
-            return Ok(next_line(count));
-        }
-        Event::LineEnd(line) => return put_line_end(source, items, count, line),
-        Event::UseOf(number, line) => {
+    match token {
+        Token::UseOf(number, line) => {
             items.push(Item::UseOf(number))?;
-            return put_mark(items, place_at(source, line));
+            put_mark(items, place_at(source, line))
         }
-        Event::Defs(line) => {
+        Token::Defs(line) => {
             items.push(Item::Defs)?;
-            return put_mark(items, place_at(source, line));
+            put_mark(items, place_at(source, line))
         }
-        Event::MarkAt(line) => return put_mark(items, place_at(source, line)),
-        _ => {}
+        Token::QuoteBreak => {
+            items.push(Item::QuoteBreak)?;
+            Ok(next_line(count))
+        }
+        _ => {
+            put_some(items, item_of(token))?;
+            Ok(count)
+        }
     }
-    Ok(count)
 }
 
-/// Lays an event behind the items of a C part.
-fn lay_event(
+/// Lays a token behind the items of a C part.
+fn lay_token(
     source: &Source,
     items: &mut Vec<Item>,
     at: Laying,
-    event: Event,
+    token: Token,
 ) -> Result<Laying, NoMemory>
     requires { at.count.line < 2 ^ 63 }
-    ensures laid { IfOk result (λ next. (es : List Event) →
-        items.new.items ++ laid_from source.now.lines next es ≡ items.old.items ++ laid_from source.now.lines at (event ∷ es)) }
+    ensures laid { IfOk result (λ next. (es : List Token) →
+        items.new.items ++ items_ahead source.now.lines next es ≡ items.old.items ++ items_ahead source.now.lines at (token ∷ es)) }
     ensures room { IfOk result (λ next. next.count.line ≤ max (2 ^ 32) (at.count.line + 1)) }
 {
-    match event {
-        Event::White => {
+    match token {
+        Token::White => {
             let before = Before {
                 item: at.before.item,
                 white: true,
@@ -197,7 +199,7 @@ fn lay_event(
                 count: at.count,
             })
         }
-        Event::LineEnd(line) => {
+        Token::LineEnd(line) => {
             let count = put_line_end(source, items, at.count, line)?;
             let before = Before {
                 item: false,
@@ -207,7 +209,7 @@ fn lay_event(
         }
         _ => {
             put_blank(items, at.before)?;
-            let count = put_item(source, items, at.count, event)?;
+            let count = put_item(source, items, at.count, token)?;
             let before = Before {
                 item: true,
                 white: false,
@@ -222,10 +224,10 @@ pub fn lay_part(
     source: &Source,
     items: &mut Vec<Item>,
     line: u32,
-    events: &[Event],
+    tokens: &[Token],
 ) -> Result<(), NoMemory>
-    ensures { OnOk result (items.new.items ≡ rules.counted source.now.lines (rules.place_at source.now.lines line)
-        (rules.marked (rules.blanks false false events.now))) }
+    ensures { OnOk result (items.new.items ≡ rules.items_by_place source.now.lines (occurrences.place_at source.now.lines line)
+        (rules.blanks false false tokens.now)) }
 {
     items.clear();
     let place = place_at(source, line);
@@ -239,34 +241,23 @@ pub fn lay_part(
             line: place.line as usize,
         },
     };
-    for event in events {
-        at = lay_event(source, items, at, *event)?;
+    for token in tokens {
+        at = lay_token(source, items, at, *token)?;
     }
     Ok(())
 }
 
-/// The item that an event of a macro is, if it is one.
-fn plain_item_of(event: Event) -> Option<Item>
-    ensures { result ≡ passes.plain_item_of event }
+/// Lays a token behind the items of a macro.
+fn lay_unmarked(items: &mut Vec<Item>, at: Before, token: Token) -> Result<Before, NoMemory>
+    ensures { IfOk result (λ next. (es : List Token) →
+        items.new.items ++ unmarked_from next es ≡ items.old.items ++ unmarked_from at (token ∷ es)) }
 {
-    match event {
-        Event::LineEnd(_) => Some(Item::LineEnd),
-        Event::UseOf(..) | Event::Defs(_) => None,
-        _ => item_of(event),
-    }
-}
-
-/// Lays an event behind the items of a macro.
-fn lay_plain(items: &mut Vec<Item>, at: Before, event: Event) -> Result<Before, NoMemory>
-    ensures { IfOk result (λ next. (es : List Event) →
-        items.new.items ++ plain_from next es ≡ items.old.items ++ plain_from at (event ∷ es)) }
-{
-    match event {
-        Event::White => Ok(Before {
+    match token {
+        Token::White => Ok(Before {
             item: at.item,
             white: true,
         }),
-        Event::LineEnd(_) => {
+        Token::LineEnd(_) => {
             items.push(Item::LineEnd)?;
             Ok(Before {
                 item: false,
@@ -275,7 +266,7 @@ fn lay_plain(items: &mut Vec<Item>, at: Before, event: Event) -> Result<Before, 
         }
         _ => {
             put_blank(items, at)?;
-            put_some(items, plain_item_of(event))?;
+            put_some(items, item_of(token))?;
             Ok(Before {
                 item: true,
                 white: false,
@@ -285,16 +276,16 @@ fn lay_plain(items: &mut Vec<Item>, at: Before, event: Event) -> Result<Before, 
 }
 
 /// Lays the items of a macro.
-pub fn lay_macro(items: &mut Vec<Item>, events: &[Event]) -> Result<(), NoMemory>
-    ensures { OnOk result (items.new.items ≡ rules.plain_items (rules.blanks false false events.now)) }
+pub fn lay_macro(items: &mut Vec<Item>, tokens: &[Token]) -> Result<(), NoMemory>
+    ensures { OnOk result (items.new.items ≡ rules.unmarked_items (rules.blanks false false tokens.now)) }
 {
     items.clear();
     let mut at = Before {
         item: false,
         white: false,
     };
-    for event in events {
-        at = lay_plain(items, at, *event)?;
+    for token in tokens {
+        at = lay_unmarked(items, at, *token)?;
     }
     Ok(())
 }

@@ -1,31 +1,18 @@
 //! The scanner: from source lines to the pieces, macros and section names of a web.
 #![tactic(auto)]
 
-mod ahead;
-mod bytes;
-mod comments;
-mod constants;
-mod events;
 mod gathering;
 mod items;
 mod laying;
-mod lexer;
-mod line_buffer;
-mod modes;
-mod names;
-mod occurrences;
+mod line_truth;
 mod pieces;
-mod plain;
-mod quoted;
-mod regions;
 mod scanning;
-mod sights;
 mod spacing;
-mod steps;
 mod webs;
 
-pub use items::{Item, Span};
-pub use occurrences::{Occurrence, OccurrenceRole};
+pub use items::Item;
+pub use line_truth::pieces_stand_at_their_lines;
 pub use pieces::{Macro, Piece};
 pub use scanning::scan;
+pub use tangle_lexer::{Occurrence, OccurrenceRole, Span};
 pub use webs::Web;

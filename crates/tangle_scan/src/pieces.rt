@@ -60,7 +60,7 @@ impl Piece {
     pub fn items(&self) -> &[Item]
         ensures { result.now ≡ self.now.items }
     {
-        self.items.as_slice()
+        &self.items
     }
 }
 

@@ -1,30 +1,29 @@
-//! White space between the events of a C part or a macro. It is put between a word and an ASCII constant, or two constants, that
+//! White space between the tokens of a C part or a macro. It is put between a word and an ASCII constant, or two constants, that
 //! touch, and behind the name of a macro. Each run of joins, white space and line ends that has a join is taken out.
 ghost use Rattle.std.specs.Prelude.{◌≡◌, ◌≤◌, ◌<◌, ◌-◌, ◌+◌, ◌++◌, ◌∷◌, [], ℕ, List, length, take, drop, get_or, if◌then◌else◌, IfOk, OnOk};
 ghost use Rattle.std.specs.List.{list_any};
 ghost use Rattle.tangle_scan.specs.Rules as rules;
 ghost use Rattle.tangle_scan.specs.Web.{texts_of};
 ghost use Rattle.tangle_scan.specs.Passes as passes;
-ghost use Rattle.tangle_scan.specs.Passes.{IsRun, joined_from, spaced_from};
-ghost use Rattle.tangle_scan.specs.declared.events.Event.{Event};
-ghost use Rattle.tangle_scan.specs.declared.events.Event.TheVariants as event;
+ghost use Rattle.tangle_scan.specs.Passes.{IsRun, without_joins_from, spacing_from};
+ghost use Rattle.tangle_lexer.specs.declared.tokens.Token.{Token};
+ghost use Rattle.tangle_lexer.specs.declared.tokens.Token.TheVariants as token;
 
-use crate::events::Event;
-use crate::items::Span;
+use tangle_lexer::{Span, TextKind, Token};
 use tangle_lines::{NoMemory, Source};
 
 /// A join, white space or a line end.
-fn is_gap(event: Event) -> bool
-    ensures { result ≡ rules.is_gap event }
+fn is_gap(token: Token) -> bool
+    ensures { result ≡ rules.is_gap token }
 {
-    matches!(event, Event::Join | Event::White | Event::LineEnd(_))
+    matches!(token, Token::Join | Token::White | Token::LineEnd(_))
 }
 
 /// A join.
-fn is_join(event: Event) -> bool
-    ensures { result ≡ rules.is_join event }
+fn is_join(token: Token) -> bool
+    ensures { result ≡ rules.is_join token }
 {
-    matches!(event, Event::Join)
+    matches!(token, Token::Join)
 }
 
 /// The run of joins, white space and line ends at the end of a list: where it begins, and whether it has a join.
@@ -35,7 +34,7 @@ struct Run {
 }
 
 /// Takes a run away that has a join.
-fn close_run(out: &mut Vec<Event>, run: Run)
+fn close_run(out: &mut Vec<Token>, run: Run)
     ensures { out.new.items ≡ (if run.has_join then take run.start out.old.items else out.old.items) }
 {
     if run.has_join {
@@ -43,23 +42,23 @@ fn close_run(out: &mut Vec<Event>, run: Run)
     }
 }
 
-/// Adds an event behind a run.
-fn add(out: &mut Vec<Event>, run: Run, event: Event) -> Result<Run, NoMemory>
+/// Adds a token behind a run.
+fn add(out: &mut Vec<Token>, run: Run, token: Token) -> Result<Run, NoMemory>
     requires { IsRun out.old.items run }
     ensures run { IfOk result (λ next. IsRun out.new.items next) }
-    ensures joined { IfOk result (λ next. (es : List Event) →
-        joined_from out.new.items next.start es ≡ joined_from out.old.items run.start (event ∷ es)) }
+    ensures without_joins { IfOk result (λ next. (es : List Token) →
+        without_joins_from out.new.items next.start es ≡ without_joins_from out.old.items run.start (token ∷ es)) }
 {
-    if is_gap(event) {
-        let join = is_join(event);
-        out.push(event)?;
+    if is_gap(token) {
+        let join = is_join(token);
+        out.push(token)?;
         return Ok(Run {
             start: run.start,
             has_join: run.has_join | join,
         });
     }
     close_run(out, run);
-    out.push(event)?;
+    out.push(token)?;
     Ok(Run {
         start: out.len(),
         has_join: false,
@@ -67,15 +66,15 @@ fn add(out: &mut Vec<Event>, run: Run, event: Event) -> Result<Run, NoMemory>
 }
 
 /// Adds white space behind a run, where it is wanted.
-fn add_space(out: &mut Vec<Event>, run: Run, wanted: bool) -> Result<Run, NoMemory>
+fn add_space(out: &mut Vec<Token>, run: Run, wanted: bool) -> Result<Run, NoMemory>
     requires { IsRun out.old.items run }
     ensures run { IfOk result (λ next. IsRun out.new.items next) }
-    ensures joined { IfOk result (λ next. (es : List Event) →
-        joined_from out.new.items next.start es
-        ≡ joined_from out.old.items run.start ((if wanted then event.White ∷ [] else []) ++ es)) }
+    ensures without_joins { IfOk result (λ next. (es : List Token) →
+        without_joins_from out.new.items next.start es
+        ≡ without_joins_from out.old.items run.start ((if wanted then token.White ∷ [] else []) ++ es)) }
 {
     if wanted {
-        return add(out, run, Event::White);
+        return add(out, run, Token::White);
     }
     Ok(run)
 }
@@ -91,12 +90,12 @@ enum Stage {
     Inside,
 }
 
-/// How far the events were spaced.
+/// How far the tokens were spaced.
 #[derive(Clone, Copy)]
 struct Spacing {
     run: Run,
     stage: Stage,
-    before: Event,
+    before: Token,
 }
 
 /// The byte at the start of a span of the source, or 0.
@@ -120,93 +119,93 @@ fn byte_at(line: &[u8], column: usize) -> u8
     }
 }
 
-/// White space stands between two events.
-fn would_merge(before: Event, event: Event) -> bool
-    ensures { result ≡ rules.would_merge before event }
+/// White space stands between two tokens.
+fn would_merge(before: Token, token: Token) -> bool
+    ensures { result ≡ rules.would_merge before token }
 {
-    match (before, event) {
-        (Event::Code(..), Event::Code(..) | Event::Word(_)) => true,
-        (Event::Word(_), Event::Code(..)) => true,
+    match (before, token) {
+        (Token::Constant(..), Token::Constant(..) | Token::Text(TextKind::Word, _)) => true,
+        (Token::Text(TextKind::Word, _), Token::Constant(..)) => true,
         _ => false,
     }
 }
 
 /// What may follow the name of a macro without white space.
-fn may_follow_name(source: &Source, event: Event) -> bool
-    ensures { result ≡ rules.may_follow_name (texts_of source.now.lines) event }
+fn may_follow_name(source: &Source, token: Token) -> bool
+    ensures { result ≡ rules.may_follow_name (texts_of source.now.lines) token }
 {
-    match event {
-        Event::White | Event::LineEnd(_) | Event::Join => true,
-        Event::Sign(span) => first_byte(source, span) == b'(',
+    match token {
+        Token::White | Token::LineEnd(_) | Token::Join => true,
+        Token::Text(TextKind::Sign, span) => first_byte(source, span) == b'(',
         _ => false,
     }
 }
 
-/// White space is put between two events, the second of which has this stage.
-fn needs_space(source: &Source, stage: Stage, before: Event, event: Event) -> bool
-    ensures { result ≡ passes.needs_space (texts_of source.now.lines) stage before event }
+/// White space is put between two tokens, the second of which has this stage.
+fn needs_space(source: &Source, stage: Stage, before: Token, token: Token) -> bool
+    ensures { result ≡ passes.needs_space (texts_of source.now.lines) stage before token }
 {
     match stage {
-        Stage::BehindName => would_merge(before, event) || !may_follow_name(source, event),
-        _ => would_merge(before, event),
+        Stage::BehindName => would_merge(before, token) || !may_follow_name(source, token),
+        _ => would_merge(before, token),
     }
 }
 
-/// The stage behind an event.
-fn stage_behind(stage: Stage, event: Event) -> Stage
-    ensures { result ≡ passes.stage_behind stage event }
+/// The stage behind a token.
+fn stage_behind(stage: Stage, token: Token) -> Stage
+    ensures { result ≡ passes.stage_behind stage token }
 {
     match stage {
-        Stage::Front | Stage::BeforeName if is_gap(event) => Stage::BeforeName,
+        Stage::Front | Stage::BeforeName if is_gap(token) => Stage::BeforeName,
         Stage::Front | Stage::BeforeName => Stage::BehindName,
         Stage::BehindName | Stage::Inside => Stage::Inside,
     }
 }
 
 /// Faults are taken out, and so are the white space and the line ends at the front of a macro.
-fn is_taken_out(stage: Stage, event: Event) -> bool
-    ensures { result ≡ passes.is_taken_out stage event }
+fn is_skipped(stage: Stage, token: Token) -> bool
+    ensures { result ≡ passes.is_skipped stage token }
 {
-    match (stage, event) {
-        (_, Event::Fault(..)) => true,
-        (Stage::Front, Event::White | Event::LineEnd(_)) => true,
+    match (stage, token) {
+        (_, Token::Fault(..)) => true,
+        (Stage::Front, Token::White | Token::LineEnd(_)) => true,
         _ => false,
     }
 }
 
-/// Puts an event behind those that were spaced.
-fn put_event(
+/// Puts a token behind those that were spaced.
+fn put_token(
     source: &Source,
-    out: &mut Vec<Event>,
+    out: &mut Vec<Token>,
     at: Spacing,
-    event: Event,
+    token: Token,
 ) -> Result<Spacing, NoMemory>
     requires { IsRun out.old.items at.run }
     ensures run { IfOk result (λ next. IsRun out.new.items next.run) }
-    ensures spaced { IfOk result (λ next. (es : List Event) →
-        spaced_from (texts_of source.now.lines) out.new.items next es ≡ spaced_from (texts_of source.now.lines) out.old.items at (event ∷ es)) }
+    ensures spacing { IfOk result (λ next. (es : List Token) →
+        spacing_from (texts_of source.now.lines) out.new.items next es ≡ spacing_from (texts_of source.now.lines) out.old.items at (token ∷ es)) }
 {
-    if is_taken_out(at.stage, event) {
+    if is_skipped(at.stage, token) {
         return Ok(at);
     }
-    let space = needs_space(source, at.stage, at.before, event);
-    let spaced = add_space(out, at.run, space)?;
-    let run = add(out, spaced, event)?;
+    let space = needs_space(source, at.stage, at.before, token);
+    let behind_space = add_space(out, at.run, space)?;
+    let run = add(out, behind_space, token)?;
     Ok(Spacing {
         run,
-        stage: stage_behind(at.stage, event),
-        before: event,
+        stage: stage_behind(at.stage, token),
+        before: token,
     })
 }
 
-/// Spaces the events of a C part or a macro, which begins at this stage.
+/// Spaces the tokens of a C part or a macro, which begins at this stage.
 fn space(
     source: &Source,
-    out: &mut Vec<Event>,
+    out: &mut Vec<Token>,
     stage: Stage,
-    events: &[Event],
+    tokens: &[Token],
 ) -> Result<(), NoMemory>
-    ensures { OnOk result (out.new.items ≡ rules.joined [] (passes.spaced (texts_of source.now.lines) stage event.White (passes.taken_out stage events.now))) }
+    ensures { OnOk result (out.new.items ≡ rules.without_joins [] (passes.with_white_space (texts_of source.now.lines) stage token.White (passes.without_skipped stage tokens.now))) }
 {
     out.clear();
     let mut at = Spacing {
@@ -215,53 +214,53 @@ fn space(
             has_join: false,
         },
         stage,
-        before: Event::White,
+        before: Token::White,
     };
-    for event in events {
-        at = put_event(source, out, at, *event)?;
+    for token in tokens {
+        at = put_token(source, out, at, *token)?;
     }
     close_run(out, at.run);
     Ok(())
 }
 
-/// Whether spacing may change events: it takes faults and joined runs out, and puts white space beside constants.
-fn is_spaced(event: Event) -> bool
-    ensures { result ≡ passes.is_spaced event }
+/// Whether spacing may change tokens: it takes faults and joined runs out, and puts white space beside constants.
+fn may_change(token: Token) -> bool
+    ensures { result ≡ passes.may_change token }
 {
-    matches!(event, Event::Fault(..) | Event::Join | Event::Code(..))
+    matches!(token, Token::Fault(..) | Token::Join | Token::Constant(..))
 }
 
-/// Whether spacing may change some of these events.
-fn are_spaced(events: &[Event]) -> bool
-    ensures { result ≡ list_any passes.is_spaced events.now }
+/// Whether spacing may change some of these tokens.
+fn may_change_any(tokens: &[Token]) -> bool
+    ensures { result ≡ list_any passes.may_change tokens.now }
 {
-    events.iter().any(|event| is_spaced(*event))
+    tokens.iter().any(|token| may_change(*token))
 }
 
-/// The events of a C part that are left for its items: most parts keep all of theirs.
-pub fn part_events<'e>(
+/// The tokens of a C part that are left for its items: most parts keep all of theirs.
+pub fn part_tokens<'e>(
     source: &Source,
-    out: &'e mut Vec<Event>,
-    events: &'e [Event],
-) -> Result<&'e [Event], NoMemory>
-    ensures { IfOk result (λ left. left.now ≡ rules.joined [] (rules.with_spaces (rules.without_faults events.entry.now))) }
+    out: &'e mut Vec<Token>,
+    tokens: &'e [Token],
+) -> Result<&'e [Token], NoMemory>
+    ensures { IfOk result (λ left. left.now ≡ rules.without_joins [] (rules.with_spaces (rules.without_faults tokens.entry.now))) }
 {
-    if !are_spaced(events) {
-        return Ok(events);
+    if !may_change_any(tokens) {
+        return Ok(tokens);
     }
-    space(source, out, Stage::Inside, events)?;
+    space(source, out, Stage::Inside, tokens)?;
     Ok(out.as_slice())
 }
 
-/// The events of a macro that are left for its items.
-pub fn macro_events<'e>(
+/// The tokens of a macro that are left for its items.
+pub fn macro_tokens<'e>(
     source: &Source,
-    out: &'e mut Vec<Event>,
-    events: &'e [Event],
-) -> Result<&'e [Event], NoMemory>
-    ensures { IfOk result (λ left. left.now ≡ rules.joined [] (rules.with_name_space (texts_of source.now.lines)
-        (rules.with_spaces (rules.without_front_gaps (rules.without_faults events.entry.now))))) }
+    out: &'e mut Vec<Token>,
+    tokens: &'e [Token],
+) -> Result<&'e [Token], NoMemory>
+    ensures { IfOk result (λ left. left.now ≡ rules.without_joins [] (rules.with_name_space (texts_of source.now.lines)
+        (rules.with_spaces (rules.without_front_gaps (rules.without_faults tokens.entry.now))))) }
 {
-    space(source, out, Stage::Front, events)?;
+    space(source, out, Stage::Front, tokens)?;
     Ok(out.as_slice())
 }

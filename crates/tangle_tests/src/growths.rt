@@ -2,7 +2,7 @@
 ghost use Rattle.std.specs.Prelude.{◌≡◌, true};
 ghost use Rattle.tangle_lines.specs.Roles.{fits};
 
-use crate::support::{AMPLE, check_only_output, files_with, folder_with, read, web_of};
+use crate::support::{AMPLE, check_only_output, files_with, folder_with, read};
 use ctangle_cli::run_ctangle;
 use std::alloc::Global;
 use std::process::Abort;
@@ -164,7 +164,9 @@ fn building_is_spared(rt: &impl Abort, alloc: Global, web: &Web, nth: u32) -> bo
 #[test]
 fn each_growth_of_build_refused(rt: HostRuntime) -> Result<(), Fail> {
     let text = b"@ A.\n@c\n@<a...@>@<a@>@<ab@>@<c...@>@<b@>@(d@>\n";
-    let web = web_of(rt.alloc(), text)?;
+    let files = files_with(rt.alloc(), &[(b"a.w", text)])?;
+    let source = read(rt.alloc(), &files, None)?;
+    let web = scan(rt.alloc(), &source)?;
     for nth in 1..1000 {
         if building_is_spared(&rt, rt.alloc(), &web, nth) {
             return Ok(());

@@ -12,11 +12,11 @@ mod growths;
 #[cfg(test)]
 mod loads;
 #[cfg(test)]
+mod messages;
+#[cfg(test)]
 mod reading;
 #[cfg(test)]
 mod real_folder;
-#[cfg(test)]
-mod runs;
 #[cfg(test)]
 mod scanning;
 #[cfg(test)]
@@ -25,7 +25,5 @@ mod section_names;
 mod stops;
 #[cfg(test)]
 mod support;
-#[cfg(test)]
-mod webs;
 #[cfg(test)]
 mod words;

@@ -35,13 +35,13 @@ fn roles_of_three_files(rt: HostRuntime) -> Result<(), Fail> {
 fn assert_unchanged(rt: &impl Abort, source: &Source) {
     assert_eq!(rt; source.count(), 2);
     assert!(rt; source.line(0) == b"@ A.".as_slice());
-    assert!(rt; !source.is_marked(0));
+    assert!(rt; !source.is_changed(0));
 }
 
 // The second line is `int z;`, from line 6 of the change file.
 fn assert_changed(rt: &impl Abort, source: &Source) {
     assert!(rt; source.line(1) == b"int z;".as_slice());
-    assert!(rt; source.is_marked(1));
+    assert!(rt; source.is_changed(1));
     assert_eq!(rt; source.origin(1), Origin { file: 2, line: 6 });
     assert!(rt; source.file_name(source.origin(1)) == b"a.ch".as_slice());
 }

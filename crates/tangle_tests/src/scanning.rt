@@ -3,14 +3,14 @@ ghost use Rattle.std.specs.List.{All};
 ghost use Rattle.tangle_scan.specs.SourceOrder.{IsInRange};
 
 use crate::fault_lines::lines_of;
-use crate::support::web_of;
+use crate::support::{files_with, read};
 use std::alloc::Global;
 use std::test::Fail;
-use tangle_scan::{Item, Occurrence, OccurrenceRole, Web};
+use tangle_scan::{Item, Occurrence, OccurrenceRole, Web, scan};
 
 // Webs, and what they are: sections, macros, pieces, names and faults. An item is its kind with its text: `w` a word, `s` a sign, `q` quoted, `v` verbatim,
 // `_` a blank, `/` a line end.
-const WEBS: [(&[u8], &[u8]); 11] = [
+const WEBS: [(&[u8], &[u8]); 6] = [
     // Definitions, and their use.
     (
         b"@ A.\n@d N 10\n@c\n@h\nint x=N;\n",
@@ -18,61 +18,17 @@ const WEBS: [(&[u8], &[u8]); 11] = [
           macro w:N _ w:10 / \n\
           1 at 3 / defs mark:a.w:4 / w:int _ w:x s:= w:N s:; / \n",
     ),
-    // A join over a line end.
-    (
-        b"@ A.\n@c\na@&\nb;\nc;\n",
-        b"1 sections\n\
-          1 at 2 / w:a w:b s:; mark:a.w:5 w:c s:; / \n",
-    ),
-    // A quoted text with a single @, which does not end.
-    (
-        b"@ A.\n@c\ns=\"a@b\nt;\n",
-        b"1 sections\n\
-          1 at 2 / w:s s:= q:\"a@b / w:t s:; / \n\
-          a.w:3: error: single @ in quoted text\n\
-          a.w:3: error: quoted text did not end\n",
-    ),
     // Comments, codes, a constant, cut quoted texts, verbatim and control texts.
     (
         b"@ A.\n@c\na /* b */ c // d\nreturn@,x+@'A';@^idx@>\n\"q@@\"@=v@> @t\\TeX@>z\n",
         b"1 sections\n\
           1 at 2 / w:a _ w:c / w:return _ w:x s:+ code:65 s:; / q:\"q@ q:\" v:v _ w:z / \n",
     ),
-    // Macros over lines, and one that is dropped.
-    (
-        b"@ A.\n@d F(x) x\n  +1\n\n@d 3\n@c\ny\n",
-        b"1 sections\n\
-          macro w:F s:( w:x s:) _ w:x / s:+ w:1 / / \n\
-          1 at 6 / w:y / \n\
-          a.w:5: error: macro must start with an identifier\n",
-    ),
-    // Faults of every kind in C text and a macro.
-    (
-        b"@ A.\n@d M @h 1\n@c\n@d x @'ab' y\n@^q@,z\n@=v\n/* w\n@ B.\n",
-        b"2 sections\n\
-          macro w:M _ w:1 / \n\
-          1 at 3 / w:x _ w:y / w:z / v:v / / \n\
-          a.w:2: error: @h in a macro\n\
-          a.w:4: error: definition code in C text\n\
-          a.w:4: error: bad ASCII constant\n\
-          a.w:5: error: control text did not end\n\
-          a.w:6: error: verbatim text did not end\n\
-          a.w:8: error: comment did not end\n",
-    ),
     // Texts that are cut at a line end and at @@, and the name of an inclusion.
     (
         b"@ A.\n@c\ns=\"a\\\nb\";@=u@@v@>\n#include <p@@q>\n",
         b"1 sections\n\
           1 at 2 / w:s s:= q:\"a\\ break q:b\" s:; v:u@ v:v / s:# w:include _ q:<p@ q:q> / \n",
-    ),
-    // A name, used and defined.
-    (
-        b"@ A.\n@c\nint x=@<v@>;\n@ @<v@>=\n1\n",
-        b"2 sections\n\
-          1 at 2 / w:int _ w:x s:= use:0 mark:a.w:3 s:; / \n\
-          2 at 4 named 1 / w:1 / \n\
-          use at 3: v\n\
-          definition at 4: v\n",
     ),
     // Mentions and uses of names, one that looks like a definition, and one that does not end.
     (
@@ -219,7 +175,9 @@ fn show_web(alloc: Global, web: &Web) -> Result<Vec<u8>, Fail> {
 fn items_places_and_faults(rt: HostRuntime) -> Result<(), Fail> {
     let alloc = rt.alloc();
     for (web, wanted) in WEBS {
-        let web = web_of(alloc, web)?;
+        let files = files_with(alloc, &[(b"a.w", web)])?;
+        let source = read(alloc, &files, None)?;
+        let web = scan(alloc, &source)?;
         let shown = show_web(alloc, &web)?;
         assert_eq!(rt; shown.as_slice(), wanted);
     }

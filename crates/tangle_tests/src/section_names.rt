@@ -3,12 +3,12 @@ ghost use Rattle.std.specs.Prelude.{◌≡◌};
 ghost use Rattle.tangle_names.specs.NameTable.{table_of};
 
 use crate::fault_lines::assert_faults;
-use crate::support::web_of;
+use crate::support::{files_with, read};
 use std::alloc::Global;
 use std::process::Abort;
 use std::test::Fail;
 use tangle_names::{NameTable, Resolved};
-use tangle_scan::Web;
+use tangle_scan::{Web, scan};
 
 pub(crate) fn assert_names(rt: &impl Abort, table: &NameTable, names: &[&[u8]]) {
     assert_eq!(rt; table.count(), names.len());
@@ -28,7 +28,9 @@ fn assert_resolved(rt: &impl Abort, web: &Web, table: &NameTable, wanted: &[Reso
 }
 
 fn table_for(alloc: Global, text: &[u8]) -> Result<NameTable, Fail> {
-    let web = web_of(alloc, text)?;
+    let files = files_with(alloc, &[(b"a.w", text)])?;
+    let source = read(alloc, &files, None)?;
+    let web = scan(alloc, &source)?;
     Ok(NameTable::build(alloc, &web)?)
 }
 
@@ -41,7 +43,9 @@ fn check_names(
     resolved: &[Resolved],
     lines: &[u8],
 ) -> Result<(), Fail> {
-    let web = web_of(alloc, text)?;
+    let files = files_with(alloc, &[(b"a.w", text)])?;
+    let source = read(alloc, &files, None)?;
+    let web = scan(alloc, &source)?;
     let table = NameTable::build(alloc, &web)?;
     assert_names(rt, &table, names);
     assert_resolved(rt, &web, &table, resolved);
@@ -49,33 +53,10 @@ fn check_names(
 }
 
 #[test]
-fn a_name_used_in_front_of_its_definition(rt: HostRuntime) -> Result<(), Fail> {
-    let text = b"@ A.\n@c\nint x=@<v@>;\n@ @<v@>=\n1\n";
-    let resolved = [Resolved::Name(0), Resolved::Name(0)];
-    check_names(&rt, rt.alloc(), text, &[b"v"], &resolved, b"")
-}
-
-#[test]
-fn an_abbreviation_in_front_of_its_name(rt: HostRuntime) -> Result<(), Fail> {
-    let text = b"@ A.\n@c\n@<Ini...@>\n@ @<Initialize@>=\nx=0;\n";
-    let resolved = [Resolved::Name(0), Resolved::Name(0)];
-    check_names(&rt, rt.alloc(), text, &[b"Initialize"], &resolved, b"")
-}
-
-#[test]
 fn an_abbreviation_gives_its_name_the_first_number(rt: HostRuntime) -> Result<(), Fail> {
     let text = b"@ A.\n@c\n@<b...@>@<a@>@<bc@>\n";
     let resolved = [Resolved::Name(0), Resolved::Name(1), Resolved::Name(0)];
     check_names(&rt, rt.alloc(), text, &[b"bc", b"a"], &resolved, b"")
-}
-
-#[test]
-fn an_abbreviation_of_two_names(rt: HostRuntime) -> Result<(), Fail> {
-    let text = b"@ A.\n@c\n@<Ini...@>\n@ @<Initialize@>=\nx=0;\n@ @<Init table@>=\n";
-    let names = [b"Initialize".as_slice(), b"Init table"];
-    let resolved = [Resolved::Ambiguous, Resolved::Name(0), Resolved::Name(1)];
-    let lines = b"a.w:3: error: several full names for <Ini...>\n";
-    check_names(&rt, rt.alloc(), text, &names, &resolved, lines)
 }
 
 #[test]
@@ -103,12 +84,22 @@ fn an_abbreviation_is_no_full_name(rt: HostRuntime) -> Result<(), Fail> {
     Ok(())
 }
 
+// The first occurrences of the name of this number, of all and of those as a file.
+fn assert_first(rt: &impl Abort, table: &NameTable, id: usize, first: usize, file: Option<usize>) {
+    assert!(rt; id < table.count());
+    assert_eq!(rt; table.first_occurrence(id), first);
+    assert_eq!(rt; table.first_file_occurrence(id), file);
+    assert_eq!(rt; table.is_file(id), file.is_some());
+}
+
 #[test]
-fn a_file_marked_at_an_abbreviation(rt: HostRuntime) -> Result<(), Fail> {
+fn a_file_named_by_an_abbreviation(rt: HostRuntime) -> Result<(), Fail> {
     let alloc = rt.alloc();
-    let table = table_for(alloc, b"@ A.\n@c\n@<u@>@<a.h@>\n@ @(a...@>=\n1\n")?;
+    let text = b"@ A.\n@c\n@<u@>@<a.h@>\n@ @(a...@>=\n1@(a.h@>\n";
+    let table = table_for(alloc, text)?;
     assert_names(&rt, &table, &[b"u", b"a.h"]);
-    assert!(rt; table.count() > 1 && !table.is_file(0) && table.is_file(1));
+    assert_first(&rt, &table, 0, 0, None);
+    assert_first(&rt, &table, 1, 1, Some(2));
     Ok(())
 }
 

@@ -23,42 +23,6 @@ fn check_stop(
     Ok(())
 }
 
-#[test]
-fn misused_words(rt: HostRuntime) -> Result<(), Fail> {
-    let alloc = rt.alloc();
-    let usage = b"usage: ctangle [flags] web [change [out]]\n";
-    check_stop(
-        &rt,
-        alloc,
-        b"a b c d",
-        folder_with(alloc, &[(b"a.w", WEB)])?,
-        usage,
-        2,
-    )?;
-    check_stop(&rt, alloc, b"-x", folder_with(alloc, &[])?, usage, 2)
-}
-
-#[test]
-fn files_that_are_missing(rt: HostRuntime) -> Result<(), Fail> {
-    let alloc = rt.alloc();
-    check_stop(
-        &rt,
-        alloc,
-        b"a",
-        folder_with(alloc, &[])?,
-        b"ctangle: cannot read a.w\n",
-        3,
-    )?;
-    check_stop(
-        &rt,
-        alloc,
-        b"a b",
-        folder_with(alloc, &[(b"a.w", WEB)])?,
-        b"ctangle: cannot read b.ch\n",
-        3,
-    )
-}
-
 // A run over a web that includes `b.w` with so many of one byte stops with this line.
 fn check_full(
     rt: &impl Abort,

@@ -5,7 +5,6 @@ use std::process::Abort;
 use std::test::Fail;
 use tangle_folders::{MemoryFolder, MemorySink};
 use tangle_lines::{Files, Roles, Source, read_source};
-use tangle_scan::{Web, scan};
 
 /// Room for all that a test writes.
 pub(crate) const AMPLE: usize = 1_000_000;
@@ -74,11 +73,4 @@ pub(crate) fn read<'a>(
         return Err(Fail::from("a file of the roles is not there"));
     }
     Ok(read_source(alloc, files, &roles)?)
-}
-
-/// The web of a file `a.w` with this text.
-pub(crate) fn web_of(alloc: Global, text: &[u8]) -> Result<Web, Fail> {
-    let files = files_with(alloc, &[(b"a.w", text)])?;
-    let source = read(alloc, &files, None)?;
-    Ok(scan(alloc, &source)?)
 }

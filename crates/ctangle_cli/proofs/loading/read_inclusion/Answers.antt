@@ -22,3 +22,6 @@ returns-then-contains-clause-ok g c = (
       (sym c.has.ensures ∙ c.if-has.false) (sym c.is_file_name.ensures ∙ c.if-not-is_file_name.false),
   refl,
 )
+
+pub returns-in-Ok-clause-told : goal.returns-in-Ok-clause-told
+returns-in-Ok-clause-told g c = IfErr-weaker c.add_file.result _ _ (λ fault told. told _) c.add_file.ensures.told

@@ -11,3 +11,6 @@ returns-in-Ok-clause-err g c =
     (rw c.as_slice.ensures.value (wanted_bytes (g.F.Folder.files c.args.folder.now) c.args.files.now c.args.name.now c.in-Ok.bytes c.in-Ok.ensures.answer))
     (stops (g.F.Folder.files c.args.folder.now) (g.F.Folder.failures c.read_file.new.self)))
     c.add_file.ensures.err
+
+pub returns-in-Ok-clause-told : goal.returns-in-Ok-clause-told
+returns-in-Ok-clause-told g c = IfErr-weaker c.add_file.result _ _ (λ fault told. told _) c.add_file.ensures.told

@@ -4,4 +4,4 @@ use Rattle.ctangle_cli.proofs.messages.write_faults.Given as goal
 
 abbrev pub invariant-loop-fault : goal.invariant-loop-fault
 invariant-loop-fault g l =
-    TakesAll (g.E.Sink.taken l.initial.err) (g.E.Sink.taken l.err) (g.E.Sink.failures l.initial.err) (g.E.Sink.failures l.err) (fault_lines (take l.fault-index l.faults))
+    TakesAll (g.E.Sink.stream l.initial.err) (g.E.Sink.stream l.err) (fault_lines (take l.fault-index l.faults))

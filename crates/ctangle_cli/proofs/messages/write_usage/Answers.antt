@@ -1,9 +1,8 @@
 use Rattle.std.proofs.Common.{[], arith}
-use Rattle.tangle_lines.proofs.StreamLemmas.{PutsOut-none}
+use Rattle.tangle_streams.proofs.StreamLemmas.{PutsOut-none}
 use Rattle.ctangle_cli.proofs.messages.write_usage.Goals as goal
 
 pub returns : goal.returns
 returns g c =
-    let old = g.E.Sink.taken c.args.err.now in
-    let failures = g.E.Sink.failures c.args.err.now in
-    c.put.ensures old failures [] (PutsOut-none old failures) (omega arith)
+    let old = g.E.Sink.stream c.args.err.now in
+    c.put.ensures old [] (PutsOut-none old) (omega arith)

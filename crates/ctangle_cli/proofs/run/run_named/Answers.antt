@@ -6,13 +6,13 @@ use Rattle.ctangle_cli.proofs.run.run_named.Goals as goal
 
 pub returns-in-Err : goal.returns-in-Err
 returns-in-Err g c =
-    IsUnloaded (ending_of c.in-Err.fault) c.in-Err.ensures.err (tries_from _ _ _ _ c.write_load.result _ c.write_load.ensures) c.in-Err.ensures.created_stay refl
+    IsUnloaded (ending_of c.in-Err.fault) c.in-Err.ensures.err (tries_from _ _ c.write_load.result _ c.write_load.ensures) c.in-Err.ensures.created_stay refl
 
 pub returns-in-Err-tangle : goal.returns-in-Err-tangle
 returns-in-Err-tangle g c =
-    IsUntangled c.in-Ok.files c.in-Ok.ensures.ok (tries_from _ _ _ _ c.write_load-in-Err-tangle.result _ c.write_load-in-Err-tangle.ensures) c.in-Ok.ensures.created_stay refl
+    IsUntangled c.in-Ok.files c.in-Ok.ensures.ok (tries_from _ _ c.write_load-in-Err-tangle.result _ c.write_load-in-Err-tangle.ensures) c.in-Ok.ensures.created_stay refl
 
 pub returns : goal.returns
 returns g c =
-    named_tangled c.args.words.now c.in-Ok.files c.in-Ok-tangle.tangled _ _ _ _ _ _ _ _ _ c.run_tangled.result c.in-Ok.ensures.ok
+    named_tangled c.args.words.now c.in-Ok.files c.in-Ok-tangle.tangled _ _ _ _ _ _ _ _ c.run_tangled.result c.in-Ok.ensures.ok
     (rw (← c.in-Ok.ensures.roles) c.in-Ok-tangle.ensures) c.in-Ok.ensures.files_stay c.in-Ok.ensures.created_stay c.run_tangled.ensures

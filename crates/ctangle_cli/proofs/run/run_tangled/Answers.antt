@@ -3,7 +3,7 @@ use Rattle.ctangle_cli.proofs.run.run_tangled.Goals as goal
 
 pub returns-in-Err-write_outputs : goal.returns-in-Err-write_outputs
 returns-in-Err-write_outputs g c =
-    tangled_stops c.args.tangled.now _ _ _ _ c.in-Err-write_outputs.stop.at c.in-Err-write_outputs.stop.fault c.index-outputs-stop.result c.write_unwritten.result
+    tangled_stops c.args.tangled.now _ _ _ c.in-Err-write_outputs.stop.at c.in-Err-write_outputs.stop.fault c.index-outputs-stop.result c.write_unwritten.result
     (rw c.outputs.ensures at c.in-Err-write_outputs.ensures.stopped)
     c.in-Err-write_outputs.ensures.failed
     c.in-Err-write_outputs.ensures.unfailed_memory

@@ -1,14 +1,20 @@
-use Rattle.std.proofs.Common.{sym, add-one, arith}
-use Rattle.tangle_lines.proofs.CuttingLemmas.{trimmed_at, trimmed_none, other_byte, space_byte}
+use Rattle.std.proofs.Common.{◌≡◌, ◌-◌, ◌==◌, suc, false, get_or, take, sym, subst, arith}
+use Rattle.std.proofs.lemmas.Bool.{ne_eqb}
+use Rattle.tangle_lines.specs.Lines.{trimmed}
+use Rattle.tangle_lines.proofs.CuttingLemmas.{trimmed_at, trimmed_none}
 use Rattle.tangle_lines.proofs.cutting.without_trailing_spaces.Goals as goal
 
-pub returns-in-Some : goal.returns-in-Some
-returns-in-Some c =
-    let h = c.in-Some.ensures in
-    rw add-one
-    (sym (trimmed_at c.args.line.now c.in-Some.last h.0.high (other_byte _ h.1) (λ k l m. space_byte _ (h.0.after k (omega arith) m))))
+pub returns-then-line-end-ne32 : goal.returns-then-line-end-ne32
+returns-then-line-end-ne32 c =
+    let line = c.args.line.now in
+    let last = c.loop-end.end - 1 in
+    let next : suc last ≡ c.loop-end.end = omega (arith, c.loop-end-test.true) in
+    let other : (get_or line last 0 == 32) ≡ false = ne_eqb _ 32 c.if-line-end-ne32.true in
+    let spaces = c.loop-end.invariant.spaces in
+    subst (λ n. take n line ≡ trimmed line) next
+    (sym (trimmed_at line last (omega (arith, c.loop-end-test.true, c.loop-end.invariant.within)) other (λ k l m. spaces k (omega arith) m)))
 
-pub returns-in-None : goal.returns-in-None
-returns-in-None c =
-    let h = c.in-None.ensures in
-    sym (trimmed_none c.args.line.now (λ k l. space_byte _ (h k (omega arith) l)))
+pub returns : goal.returns
+returns c =
+    let spaces = c.loop-end.invariant.spaces in
+    sym (trimmed_none c.args.line.now (λ k l. spaces k (omega (arith, c.loop-end-test.false)) l))

@@ -1,17 +1,16 @@
 use Rattle.std.proofs.Common.{arith, ℕ, [], length-append}
-use Rattle.tangle_lines.proofs.StreamLemmas.{PutsOut-none}
+use Rattle.tangle_streams.proofs.StreamLemmas.{PutsOut-none}
 use Rattle.tangle_lines.proofs.fault_text.put_spot.Goals as goal
 
 pub returns-clause-written : goal.returns-clause-written
 returns-clause-written g c =
-    let old = g.S.Sink.taken c.args.sink.now in
-    let failures = g.S.Sink.failures c.args.sink.now in
+    let old = g.S.Sink.stream c.args.sink.now in
     let file_len = c.file.type_inv in
     let line_len = c.as_bytes.type_inv in
-    let file = c.put-file.ensures old failures [] (PutsOut-none old failures) (omega arith) in
-    let colon = c.put-colon.ensures old failures _ file (omega arith) in
-    let line = c.put-line.ensures old failures _ colon (omega (arith, length-append {A = ℕ})) in
-    let whole = c.put.ensures old failures _ line (omega (arith, length-append {A = ℕ})) in
+    let file = c.put-file.ensures old [] (PutsOut-none old) (omega arith) in
+    let colon = c.put-colon.ensures old _ file (omega arith) in
+    let line = c.put-line.ensures old _ colon (omega (arith, length-append {A = ℕ})) in
+    let whole = c.put.ensures old _ line (omega (arith, length-append {A = ℕ})) in
     rw (← c.file.ensures, ← c.line.ensures, ← c.format.ensures.text, ← c.as_bytes.ensures.value) whole
 
 pub returns-clause-short : goal.returns-clause-short

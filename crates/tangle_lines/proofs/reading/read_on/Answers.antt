@@ -1,13 +1,13 @@
 use Rattle.std.proofs.Common.{arith, ◌+◌, ◌∷◌, [], ◌++◌, List, ap, sym, ◌∙◌}
 use Rattle.tangle_lines.specs.declared.faults.FaultKind.TheVariants.{SourceTooLong}
 use Rattle.tangle_lines.specs.Faults.{Finding, fault_at}
-use Rattle.tangle_lines.specs.Reading.{Raw, Line, Reads, named, reads_from, before_reads}
+use Rattle.tangle_lines.specs.Reading.{WaitingLine, Line, Reads, named, reads_from, before_reads}
 use Rattle.tangle_lines.proofs.ReadingLemmas.{at, so_far-end, so_far-stop, so_far-plain, so_far-used}
 use Rattle.tangle_lines.proofs.reading.read_on.Goals as goal
 
 pub returns-then-taken-ge-LINE_LIMIT-clause-read : goal.returns-then-taken-ge-LINE_LIMIT-clause-read
 returns-then-taken-ge-LINE_LIMIT-clause-read c =
-    let place = ap (λ (r : Raw). r.place) c.line.view_is in
+    let place = ap (λ (r : WaitingLine). r.place) c.line.view_is in
     let read : List Line = c.loop-line.lines.items in
     let noted : List Finding = c.loop-line.faults.items in
     so_far-stop c.args.files.now c.args.change_file _ _ _ _ _ _ c.loop-line.invariant.read c.in-Some.line c.take.new.self c.in-Some.ensures.front c.if-taken-ge-LINE_LIMIT.true

@@ -1,6 +1,6 @@
 use Rattle.std.proofs.Common.{◌≡◌, ◌++◌, take, map}
 use Rattle.tangle_names.specs.declared.Resolved.{Resolved}
-use Rattle.tangle_scan.specs.Web.{OccurrenceRead}
+use Rattle.tangle_lexer.specs.Occurrences.{OccurrenceRead}
 use Rattle.tangle_names.specs.Faults.{resolution_faults}
 use Rattle.tangle_names.proofs.faults.add_resolution_faults.Given as goal
 

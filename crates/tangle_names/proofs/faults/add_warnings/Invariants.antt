@@ -4,4 +4,4 @@ use Rattle.tangle_names.proofs.faults.add_warnings.Given as goal
 
 abbrev pub invariant-loop-id : goal.invariant-loop-id
 invariant-loop-id l =
-    l.faults.items ≡ l.fn.faults.items ++ warnings l.web.file_names l.begins l.firsts 0 (take l.id (key_texts l.names))
+    l.faults.items ≡ l.fn.faults.items ++ warnings l.web l.begins l.firsts 0 (take l.id (key_texts l.names))

@@ -1,12 +1,12 @@
 use Rattle.std.proofs.Common.{◌≡◌, ◌∷◌, [], ◌++◌, ◌∙◌, sym, ap, arith, map, length, append_assoc, append-nil, option_to_list, List, Option, None, Some}
 use Rattle.std.specs.Option.{IfNone}
-use Rattle.tangle_scan.specs.declared.events.Event.{Event}
-use Rattle.tangle_scan.specs.Text.{Cell}
-use Rattle.tangle_scan.specs.Steps.{events_from, names_from, at_first}
-use Rattle.tangle_scan.specs.Web.{occurrence_of}
-use Rattle.tangle_scan.specs.Gathered.{nothing, gathered_with}
-use Rattle.tangle_scan.proofs.GatheringLemmas.{gathered-nothing}
-use Rattle.tangle_scan.proofs.ScanLemmas.{events-end, names-end, part-gathered, front-gathered, part-shorter}
+use Rattle.tangle_lexer.specs.declared.tokens.Token.{Token}
+use Rattle.tangle_lexer.specs.Text.{Cell}
+use Rattle.tangle_lexer.specs.Steps.{tokens_from, names_from, at_first}
+use Rattle.tangle_lexer.specs.Occurrences.{occurrence_of}
+use Rattle.tangle_scan.specs.Gathering.{nothing, gathering_with}
+use Rattle.tangle_scan.proofs.lemmas.GatheringLemmas.{gathering-nothing}
+use Rattle.tangle_scan.proofs.lemmas.ScanLemmas.{tokens-end, names-end, block-gathering, front-gathering, block-shorter}
 use Rattle.tangle_scan.proofs.scanning.gather.Goals as goal
 
 pub loop-front-init : goal.loop-front-init
@@ -15,18 +15,18 @@ loop-front-init c =
     let next = c.in_ok-state in
     let read = next.ensures in
     let first = c.first_state-first.ensures in
-    let ahead = option_to_list next.front ++ events_from next.state c.next_part.new.ahead in
-    let all = read.events ∙ append_assoc c.next_part.new.output.events.items (option_to_list next.front) (events_from next.state c.next_part.new.ahead) in
-    let front = front-gathered source nothing c.first_state-first.result next.state c.new-ahead.result c.next_part.new.ahead _ _ all read.head read.end in
-    let added = c.in_ok-add_front.ensures.gathered
-    ∙ (ap (λ g. gathered_with source g c.deref.result.now) c.new-gathering.ensures ∙ ap (gathered_with source nothing) c.deref.ensures.value) in
+    let ahead = option_to_list next.front ++ tokens_from next.state c.next_block.new.ahead in
+    let all = read.tokens ∙ append_assoc c.next_block.new.output.tokens.items (option_to_list next.front) (tokens_from next.state c.next_block.new.ahead) in
+    let front = front-gathering source nothing c.first_state-first.result next.state c.new-ahead.result c.next_block.new.ahead _ _ all read.head read.end in
+    let added = c.in_ok-add_front.ensures.gathering
+    ∙ (ap (λ g. gathering_with source g c.deref.result.now) c.new-gathering.ensures ∙ ap (gathering_with source nothing) c.deref.ensures.value) in
     record {
-      counted = read.count;
+      count = read.count;
       head = read.head;
       end = read.end;
-      gathered = ap (λ g. gathered_with source g ahead) added ∙ (front
-          ∙ (ap (λ s. gathered_with source nothing (events_from s c.new-ahead.result)) first
-          ∙ ap (λ text. gathered_with source nothing (events_from (at_first (length source.lines)) text)) c.new-ahead.ensures));
+      gathering = ap (λ g. gathering_with source g ahead) added ∙ (front
+          ∙ (ap (λ s. gathering_with source nothing (tokens_from s c.new-ahead.result)) first
+          ∙ ap (λ text. gathering_with source nothing (tokens_from (at_first (length source.lines)) text)) c.new-ahead.ensures));
       names = read.names ∙ (ap (λ ns. ns ++ map (occurrence_of source.lines) (names_from c.first_state-first.result c.new-ahead.result)) c.new-2.ensures.items
           ∙ (ap (λ s. map (occurrence_of source.lines) (names_from s c.new-ahead.result)) first
           ∙ ap (λ text. map (occurrence_of source.lines) (names_from (at_first (length source.lines)) text)) c.new-ahead.ensures));
@@ -34,7 +34,7 @@ loop-front-init c =
         arith,
         c.in_ok-add_front.ensures.sections,
         ap (λ g. g.sections) c.new-gathering.ensures,
-        part-shorter c.new-ahead.result c.next_part.new.ahead next.front read.shorter read.end,
+        block-shorter c.new-ahead.result c.next_block.new.ahead next.front read.shorter read.end,
         ap length c.new-ahead.ensures,
       );
     }
@@ -45,40 +45,40 @@ loop-front-preserved c =
     let before = c.loop-front in
     let next = c.in_ok-state-2 in
     let read = next.ensures in
-    let rest = c.next_part-in-Some.new.ahead in
-    let ahead = option_to_list next.field-0-1 ++ events_from next.field-0-0 rest in
-    let all = read.events ∙ append_assoc c.next_part-in-Some.new.output.events.items (option_to_list next.field-0-1) (events_from next.field-0-0 rest) in
-    let part = part-gathered source before.gathering c.in-Some.head before.state next.field-0-0 before.ahead rest _ _ all read.head read.end in
-    let added = c.in_ok-add_part.ensures.gathered ∙ ap (λ es. gathered_with source before.gathering (c.in-Some.head ∷ es)) c.deref-in-Some.ensures.value in
+    let rest = c.next_block-in-Some.new.ahead in
+    let ahead = option_to_list next.field-0-1 ++ tokens_from next.field-0-0 rest in
+    let all = read.tokens ∙ append_assoc c.next_block-in-Some.new.output.tokens.items (option_to_list next.field-0-1) (tokens_from next.field-0-0 rest) in
+    let part = block-gathering source before.gathering c.in-Some.head before.state next.field-0-0 before.ahead rest _ _ all read.head read.end in
+    let added = c.in_ok-add_block.ensures.gathering ∙ ap (λ es. gathering_with source before.gathering (c.in-Some.head ∷ es)) c.deref-in-Some.ensures.value in
     record {
-      counted = read.count;
+      count = read.count;
       head = read.head;
       end = read.end;
-      gathered = ap (λ g. gathered_with source g ahead) added ∙ (part
-          ∙ (ap (λ f. gathered_with source before.gathering (option_to_list f ++ events_from before.state before.ahead)) (sym c.in-Some.is) ∙ before.invariant.gathered));
+      gathering = ap (λ g. gathering_with source g ahead) added ∙ (part
+          ∙ (ap (λ f. gathering_with source before.gathering (option_to_list f ++ tokens_from before.state before.ahead)) (sym c.in-Some.is) ∙ before.invariant.gathering));
       names = read.names ∙ before.invariant.names;
       room = omega (
         arith,
-        c.in_ok-add_part.ensures.sections,
-        part-shorter before.ahead rest next.field-0-1 read.shorter read.end,
+        c.in_ok-add_block.ensures.sections,
+        block-shorter before.ahead rest next.field-0-1 read.shorter read.end,
         before.invariant.room,
         ap (λ f. length (option_to_list f)) c.in-Some.is,
       );
     }
 
-nothing-ahead : (front : Option Event) (ahead : List Cell) → IfNone front (ahead ≡ []) → front ≡ None → ahead ≡ []
+nothing-ahead : (front : Option Token) (ahead : List Cell) → IfNone front (ahead ≡ []) → front ≡ None → ahead ≡ []
 nothing-ahead None ahead end is = end
 nothing-ahead (Some head) ahead end is = cc
 
-pub returns-clause-gathered : goal.returns-clause-gathered
-returns-clause-gathered c =
+pub returns-clause-gathering : goal.returns-clause-gathering
+returns-clause-gathering c =
     let source = c.args.source.now in
     let end = c.loop-front in
     let ahead = nothing-ahead end.front end.ahead end.invariant.end c.in_default.is in
-    sym (ap (λ f. gathered_with source end.gathering (option_to_list f ++ events_from end.state end.ahead)) c.in_default.is
-    ∙ (ap (λ text. gathered_with source end.gathering (events_from end.state text)) ahead
-    ∙ (ap (gathered_with source end.gathering) (events-end end.state) ∙ gathered-nothing source end.gathering)))
-    ∙ end.invariant.gathered
+    sym (ap (λ f. gathering_with source end.gathering (option_to_list f ++ tokens_from end.state end.ahead)) c.in_default.is
+    ∙ (ap (λ text. gathering_with source end.gathering (tokens_from end.state text)) ahead
+    ∙ (ap (gathering_with source end.gathering) (tokens-end end.state) ∙ gathering-nothing source end.gathering)))
+    ∙ end.invariant.gathering
 
 pub returns-clause-names : goal.returns-clause-names
 returns-clause-names c =

@@ -2,9 +2,9 @@ use Rattle.std.proofs.Common.{arith, ◌∙◌}
 use Rattle.tangle_lines.specs.Reading.{SourceRead}
 use Rattle.tangle_scan.specs.Web.{web_of}
 use Rattle.tangle_scan.specs.WellFormed.{IsWellFormed}
-use Rattle.tangle_scan.proofs.ScanLemmas.{web-whole}
-use Rattle.tangle_scan.proofs.WebLaws.{web-in-range, web-in-order, web-line-truth}
-use Rattle.tangle_scan.proofs.NamesKept.{names-in-range}
+use Rattle.tangle_scan.proofs.lemmas.ScanLemmas.{web-whole}
+use Rattle.tangle_scan.proofs.laws.WebLaws.{web-in-range, web-in-order, web-line-truth}
+use Rattle.tangle_scan.proofs.laws.NameRange.{names-in-range}
 use Rattle.tangle_scan.proofs.scanning.scan.Goals as goal
 
 web-well-formed : (source : SourceRead) → IsWellFormed (web_of source)
@@ -15,13 +15,13 @@ gather-requires c = omega (arith, c.byte_count.ensures)
 
 pub new-requires : goal.new-requires
 new-requires c =
-    let gathered = c.in_ok-gathering.ensures in
-    rw (web-whole c.args.source.now _ _ _ _ c.in_ok-lines.ensures c.in_ok-file_names.ensures gathered.gathered gathered.names) (web-well-formed c.args.source.now)
+    let gathering = c.in_ok-gathering.ensures in
+    rw (web-whole c.args.source.now _ _ gathering.gathering gathering.names) (web-well-formed c.args.source.now)
 
 pub returns-clause-web : goal.returns-clause-web
 returns-clause-web c =
-    let gathered = c.in_ok-gathering.ensures in
-    c.new.ensures ∙ web-whole c.args.source.now _ _ _ _ c.in_ok-lines.ensures c.in_ok-file_names.ensures gathered.gathered gathered.names
+    let gathering = c.in_ok-gathering.ensures in
+    c.new.ensures ∙ web-whole c.args.source.now _ _ gathering.gathering gathering.names
 
 pub returns-clause-well_formed : goal.returns-clause-well_formed
 returns-clause-well_formed c = rw (returns-clause-web c) (web-well-formed c.args.source.now)

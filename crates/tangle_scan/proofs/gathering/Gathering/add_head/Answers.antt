@@ -1,4 +1,4 @@
-use Rattle.tangle_scan.proofs.GatheringLemmas.{no-other-head}
+use Rattle.tangle_scan.proofs.lemmas.GatheringLemmas.{no-other-head}
 use Rattle.tangle_scan.proofs.gathering.Gathering.add_head.Goals as goal
 
 pub returns-in_default : goal.returns-in_default

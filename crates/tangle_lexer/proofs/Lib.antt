@@ -1,0 +1,2 @@
+pub mod lemmas
+pub mod laws

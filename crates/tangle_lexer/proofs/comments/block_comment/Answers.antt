@@ -1,0 +1,27 @@
+use Rattle.std.proofs.Common.{ap, sym, ◌∙◌}
+use Rattle.tangle_lines.specs.declared.faults.FaultKind.TheVariants as fault
+use Rattle.tangle_lexer.specs.declared.regions.Region.TheVariants as region
+use Rattle.tangle_lexer.specs.Regions.{region_end}
+use Rattle.tangle_lexer.specs.Lexemes.{include_over, with_include}
+use Rattle.tangle_lexer.specs.Comments.{ends_comment, line_ends}
+use Rattle.tangle_lexer.proofs.lemmas.RegionLemmas.{drop-two, closed-ahead, open-ahead}
+use Rattle.tangle_lexer.proofs.lemmas.LexemeLemmas.{comment-closed, comment-open}
+use Rattle.tangle_lexer.proofs.comments.block_comment.Goals as goal
+
+pub returns-then-ends_comment : goal.returns-then-ends_comment
+returns-then-ends_comment c =
+    let ends = sym c.ends_comment.ensures ∙ c.if-ends_comment.true in
+    record {
+      tokens = comment-closed ends_comment region.Comment fault.CommentEnd c.args.state.last c.args.ahead.now _ _ _ _ _ c.in_ok-push.ensures.items c.pass.ensures c.in_ok-include.ensures.ahead c.in_ok-include.ensures.tokens ends;
+      ahead = closed-ahead region.Comment ends_comment c.args.ahead.now c.pass_line_ends.new.ahead c.pass-then-ends_comment.new.self (c.in_ok-include.ensures.ahead ∙ ap (region_end region.Comment) c.pass.ensures) ends c.pass-then-ends_comment.ensures;
+      state = ap (λ i. with_include i c.args.state) (c.in_ok-include.ensures.include ∙ ap (λ t. include_over (line_ends region.Comment t) c.args.state.include) (c.pass.ensures ∙ drop-two c.args.ahead.now));
+    }
+
+pub returns-in_ok-push-2 : goal.returns-in_ok-push-2
+returns-in_ok-push-2 c =
+    let isnt = sym c.ends_comment.ensures ∙ c.if-ends_comment.false in
+    record {
+      tokens = comment-open ends_comment region.Comment fault.CommentEnd c.args.state.last c.args.ahead.now _ _ _ _ _ _ c.in_ok-push.ensures.items c.pass.ensures c.in_ok-include.ensures.ahead c.in_ok-include.ensures.tokens isnt _ c.line.ensures c.in_ok-push-2.ensures.items;
+      ahead = open-ahead region.Comment ends_comment c.args.ahead.now c.pass_line_ends.new.ahead (c.in_ok-include.ensures.ahead ∙ ap (region_end region.Comment) c.pass.ensures) isnt;
+      state = ap (λ i. with_include i c.args.state) (c.in_ok-include.ensures.include ∙ ap (λ t. include_over (line_ends region.Comment t) c.args.state.include) (c.pass.ensures ∙ drop-two c.args.ahead.now));
+    }

@@ -1,0 +1,50 @@
+use Rattle.std.proofs.Common.{ap, sym, ◌∙◌, append-nil, append_assoc, ◌++◌}
+use Rattle.tangle_lexer.specs.Regions.{region_end}
+use Rattle.tangle_lexer.specs.Lexemes.{include_over}
+use Rattle.tangle_lexer.specs.Comments.{line_ends, unit_line_end}
+use Rattle.tangle_lexer.proofs.lemmas.RegionLemmas.{unit_at-front, region_end-nothing, region_end-stop, region_end-go}
+use Rattle.tangle_lexer.proofs.lemmas.LexemeLemmas.{from_units-go, from_units-stop, include_over-append}
+use Rattle.tangle_lexer.proofs.lemmas.OrdinaryLemmas.{region_end-ordinary, line_ends-ordinary}
+use Rattle.tangle_lexer.proofs.comments.pass_line_ends.Goals as goal
+
+pub returns-in-Stop-clause-ahead : goal.returns-in-Stop-clause-ahead
+returns-in-Stop-clause-ahead c =
+    let here = unit_at-front c.args.region c.loop-front.ahead c.in-Some.front _ c.in-Some.ensures.front c.unit_of-unit.ensures in
+    sym (region_end-stop c.args.region c.loop-front.ahead (here ∙ c.in-Stop.is)) ∙ c.loop-front.invariant.end
+
+pub returns-in-Stop-clause-tokens : goal.returns-in-Stop-clause-tokens
+returns-in-Stop-clause-tokens c =
+    let here = unit_at-front c.args.region c.loop-front.ahead c.in-Some.front _ c.in-Some.ensures.front c.unit_of-unit.ensures in
+    let none = from_units-stop unit_line_end c.args.region c.loop-front.ahead (here ∙ c.in-Stop.is) in
+    sym (append-nil c.loop-front.tokens.items) ∙ (ap (λ es. c.loop-front.tokens.items ++ es) (sym none) ∙ c.loop-front.invariant.tokens)
+
+pub returns-in-Stop-clause-include : goal.returns-in-Stop-clause-include
+returns-in-Stop-clause-include c =
+    let here = unit_at-front c.args.region c.loop-front.ahead c.in-Some.front _ c.in-Some.ensures.front c.unit_of-unit.ensures in
+    let none = from_units-stop unit_line_end c.args.region c.loop-front.ahead (here ∙ c.in-Stop.is) in
+    sym (ap (λ es. include_over es c.loop-front.include) none) ∙ c.loop-front.invariant.include
+
+pub loop-front-preserved : goal.loop-front-preserved
+loop-front-preserved c =
+    let front = c.in-Some.ensures.front in
+    let here = unit_at-front c.args.region c.loop-front.ahead c.in-Some.front _ front c.unit_of-unit.ensures in
+    let given = from_units-go unit_line_end c.args.region c.args.state.last c.loop-front.ahead c.unit_of-unit.result front.inside here c.in_default-unit.not-Stop in
+    let is = c.requires in
+    let skip = c.skip_ordinary.ensures in
+    record {
+      end = ap (region_end c.args.region) skip.1 ∙ (region_end-ordinary c.args.region is skip.0 c.pass.new.self skip.2
+          ∙ (ap (region_end c.args.region) c.pass.ensures
+          ∙ (sym (region_end-go c.args.region c.loop-front.ahead c.unit_of-unit.result here c.in_default-unit.not-Stop) ∙ c.loop-front.invariant.end)));
+      tokens =
+          let same = ap (line_ends c.args.region) skip.1 ∙ line_ends-ordinary c.args.region is skip.0 c.pass.new.self skip.2 in
+          ap (λ es. c.push_line_end.new.tokens.items ++ es) same
+          ∙ rw (c.pass.ensures, c.in_ok-include.ensures.tokens, c.line.ensures, ← front.byte, append_assoc, ← given) c.loop-front.invariant.tokens;
+      include =
+          let same = ap (line_ends c.args.region) skip.1 ∙ line_ends-ordinary c.args.region is skip.0 c.pass.new.self skip.2 in
+          ap (λ es. include_over es c.in_ok-include.include) same
+          ∙ rw (c.pass.ensures, c.in_ok-include.ensures.include, c.line.ensures, ← front.byte, ← include_over-append, ← given) c.loop-front.invariant.include;
+    }
+
+pub returns-clause-ahead : goal.returns-clause-ahead
+returns-clause-ahead c =
+    c.in_default.ensures.end ∙ (sym (region_end-nothing c.args.region) ∙ (sym (ap (region_end c.args.region) c.in_default.ensures.end) ∙ c.loop-front.invariant.end))

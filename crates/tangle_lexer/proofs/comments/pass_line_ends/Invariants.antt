@@ -1,0 +1,15 @@
+use Rattle.std.proofs.Common.{◌≡◌, ◌++◌, length}
+use Rattle.tangle_lexer.specs.Regions.{region_end}
+use Rattle.tangle_lexer.specs.Lexemes.{include_over}
+use Rattle.tangle_lexer.specs.Comments.{line_ends}
+use Rattle.tangle_lexer.proofs.comments.pass_line_ends.Given as goal
+
+abbrev pub invariant-loop-front : goal.invariant-loop-front
+invariant-loop-front l = record {
+  end : region_end l.region l.ahead ≡ region_end l.region l.fn.ahead;
+  tokens : l.tokens.items ++ line_ends l.region l.ahead ≡ l.fn.tokens.items ++ line_ends l.region l.fn.ahead;
+  include : include_over (line_ends l.region l.ahead) l.include ≡ include_over (line_ends l.region l.fn.ahead) l.state.include;
+}
+
+abbrev pub decreases-loop-front : goal.decreases-loop-front
+decreases-loop-front l = length l.ahead

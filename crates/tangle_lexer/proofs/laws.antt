@@ -1,0 +1,9 @@
+pub mod ConstantOrder
+pub mod KindCells
+pub mod LexemeOrder
+pub mod NameOrder
+pub mod Points
+pub mod QuotedOrder
+pub mod RegionOrder
+pub mod TokenOrder
+pub mod WhiteOrder

@@ -1,0 +1,121 @@
+-- Places of the text, and where it goes on behind cells.
+use Rattle.std.proofs.Common.{◌≡◌, ℕ, zero, suc, ◌+◌, ◌<◌, ◌≤◌, List, [], ◌∷◌, ◌++◌, length, get_or, drop, Option, Some, None, refl, ap, sym, ◌∙◌, arith, add-zero}
+use Rattle.tangle_lines.specs.Reading.{Line}
+use Rattle.tangle_lines.specs.Reading.{no_line}
+use Rattle.tangle_lexer.specs.Text.{Cell, line_text, text_from}
+
+-- a line and a column of it, both from 0
+pub record Point : Type 0 where
+  pub line : ℕ
+  pub column : ℕ
+
+abbrev pub spot : ℕ → ℕ → Point
+spot line column = record { line = line; column = column }
+
+-- not behind it
+abbrev pub Precedes : Point → Point → Type 0
+Precedes at to = (at.line ≤ to.line) × (at.line ≡ to.line → at.column ≤ to.column)
+
+-- not behind it, and on the same line
+abbrev pub PrecedesOnLine : Point → Point → Type 0
+PrecedesOnLine at to = (at.line ≡ to.line) × (at.column ≤ to.column)
+
+abbrev pub IsByte : Option ℕ → Type 0
+IsByte None = ⊥
+IsByte (Some b) = Unit {0}
+
+abbrev pub behind_by : Option ℕ → Cell → Point
+behind_by None c = spot (c.line + 1) 0
+behind_by (Some b) c = spot c.line (c.column + 1)
+
+-- where the text goes on behind a cell
+abbrev pub behind : Cell → Point
+behind c = behind_by c.byte c
+
+-- where it goes on behind so many cells
+abbrev pub walked : Point → ℕ → List Cell → Point
+walked at zero text = at
+walked at (suc k) [] = at
+walked at (suc k) (c ∷ cs) = walked (behind c) k cs
+
+-- the first cells are bytes
+abbrev pub HoldsBytes : ℕ → List Cell → Type 0
+HoldsBytes zero text = Unit {0}
+HoldsBytes (suc k) [] = ⊥
+HoldsBytes (suc k) (c ∷ cs) = IsByte c.byte × HoldsBytes k cs
+
+-- a cell stands at a place inside a line of the source
+pub record IsCellAt (width : ℕ → ℕ) (count : ℕ) (at : Point) (c : Cell) : Type 0 where
+  pub line : c.line ≡ at.line
+  pub column : c.column ≡ at.column
+  pub inside : at.column ≤ width at.line
+  pub real : at.line < count
+
+pub precedes-trans : (a b c : Point) → Precedes a b → Precedes b c → Precedes a c
+precedes-trans a b c h k = (omega (arith, h.0, k.0), λ e. let x : a.line ≡ b.line = omega (arith, h.0, k.0, e) in let y : b.line ≡ c.line = omega (arith, h.0, k.0, e) in omega (arith, h.1 x, k.1 y))
+
+pub precedes-refl : (a : Point) → Precedes a a
+precedes-refl a = (omega arith, λ e. omega arith)
+
+pub behind-byte : (c : Cell) → IsByte c.byte → behind c ≡ spot c.line (c.column + 1)
+behind-byte c h = by c.byte h
+  where
+    by : (b : Option ℕ) → IsByte b → behind_by b c ≡ spot c.line (c.column + 1)
+    by None h = absurd h
+    by (Some b) h = refl
+
+module _ (width : ℕ → ℕ) (count : ℕ) where
+  -- the cells follow one another from a place on, up to the end of the source
+  abbrev pub IsTextAt : Point → List Cell → Type 0
+  IsTextAt at [] = (at.column ≡ 0) × (at.line ≡ count)
+  IsTextAt at (c ∷ cs) = IsCellAt width count at c × IsTextAt (behind c) cs
+
+  -- the text goes on where it was left
+  pub text-walked : (at : Point) (n : ℕ) (text : List Cell) → IsTextAt at text → IsTextAt (walked at n text) (drop n text)
+  text-walked at zero text is = is
+  text-walked at (suc n) [] is = is
+  text-walked at (suc n) (c ∷ cs) is = text-walked (behind c) n cs is.1
+
+  -- where a text goes on is inside a line, or at the end
+  pub text-within : (at : Point) (text : List Cell) → IsTextAt at text → at.column ≤ width at.line
+  text-within at [] is = omega (arith, is)
+  text-within at (c ∷ cs) is = is.0.inside
+
+  precedes-behind : (at : Point) (c : Cell) → IsCellAt width count at c → Precedes at (behind c)
+  precedes-behind at c is = by c.byte
+    where
+      by : (b : Option ℕ) → Precedes at (behind_by b c)
+      by None = (omega (arith, is.line), λ e. absurd (omega (arith, is.line, e)))
+      by (Some b) = (omega (arith, is.line), λ e. omega (arith, is.column))
+
+  pub precedes-walked : (at : Point) (n : ℕ) (text : List Cell) → IsTextAt at text → Precedes at (walked at n text)
+  precedes-walked at zero text is = precedes-refl at
+  precedes-walked at (suc n) [] is = precedes-refl at
+  precedes-walked at (suc n) (c ∷ cs) is =
+      precedes-trans at (behind c) (walked (behind c) n cs) (precedes-behind at c is.0) (precedes-walked (behind c) n cs is.1)
+
+  -- behind bytes it goes on on the same line
+  pub walked-bytes : (at : Point) (n : ℕ) (text : List Cell) → IsTextAt at text → HoldsBytes n text → walked at n text ≡ spot at.line (at.column + n)
+  walked-bytes at zero text is h = λ i. spot at.line (sym (add-zero at.column) i)
+  walked-bytes at (suc n) [] is h = absurd h
+  walked-bytes at (suc n) (c ∷ cs) is h =
+      let goes = behind-byte c h.0 in
+      let column : c.column + 1 + n ≡ at.column + suc n = omega (arith, is.0.column) in
+      walked-bytes (behind c) n cs is.1 h.1
+      ∙ ap (λ (p : Point). spot p.line (p.column + n)) goes
+      ∙ (λ i. spot (is.0.line i) (column i))
+
+  line-is : (line column : ℕ) (bytes : List ℕ) (rest : List Cell) → column + length bytes ≡ width line → line < count
+      → IsTextAt (spot (line + 1) 0) rest → IsTextAt (spot line column) (line_text line column bytes ++ rest)
+  line-is line column [] rest h real is = (record { line = refl; column = refl; inside = omega (arith, h); real = real }, is)
+  line-is line column (b ∷ bs) rest h real is =
+      (record { line = refl; column = refl; inside = omega (arith, h); real = real }, line-is line (column + 1) bs rest (omega (arith, h)) real is)
+
+  -- the text of lines is text, from its first line on
+  pub text-is : (n : ℕ) (lines : List Line) → n + length lines ≡ count → ((k : ℕ) → k < length lines → length (get_or lines k no_line).bytes ≡ width (n + k))
+      → IsTextAt (spot n 0) (text_from n lines)
+  text-is n [] all h = (refl, omega (arith, all))
+  text-is n (l ∷ ls) all h =
+      let first : length l.bytes ≡ width n = h 0 (omega arith) ∙ ap width (add-zero n) in
+      line-is n 0 l.bytes (text_from (n + 1) ls) (omega (arith, first)) (omega (arith, all))
+      (text-is (n + 1) ls (omega (arith, all)) (λ k lt. h (suc k) (omega (arith, lt)) ∙ ap width (omega arith)))

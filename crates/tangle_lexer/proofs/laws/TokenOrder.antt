@@ -1,0 +1,143 @@
+-- The tokens of a text lie in it: each between what stands before and behind it.
+use Rattle.std.proofs.Common.{◌≡◌, ℕ, ◌+◌, ◌<◌, ◌≤◌, Bool, true, false, List, [], ◌∷◌, ◌++◌, inl, inr, refl, sym, ◌∙◌, arith, subst, if◌then◌else◌, ◌==◌}
+use Rattle.std.proofs.lemmas.Bool.Decides.{eqb_tells}
+use Rattle.tangle_lexer.specs.declared.spans.Span.{Span}
+use Rattle.tangle_lexer.specs.declared.tokens.Token.{Token}
+use Rattle.tangle_lexer.specs.declared.tokens.Token.TheVariants as token
+use Rattle.tangle_lexer.proofs.laws.Points.{Point, spot, Precedes, PrecedesOnLine, precedes-trans}
+
+-- C text and macros are read inside; the text between them, which has heads and faults alone, outside.
+
+-- what holds inside alone
+abbrev pub Inside : Bool → Type 0 → Type 0
+Inside true A = A
+Inside false A = ⊥
+
+-- From a place, inside or not, the text goes on at another place, inside or not, with no token between them.
+abbrev pub GoesOn : Bool → Bool → Point → Point → Type 0
+GoesOn true true at to = PrecedesOnLine at to
+GoesOn false true at to = ⊥
+GoesOn from false at to = Precedes at to
+
+abbrev pub span_end : Span → Point
+span_end s = spot s.line s.end
+
+-- at a line that is read further on; on the same line the column stays
+abbrev pub jumped : Point → ℕ → Point
+jumped at line = spot line (if line == at.line then at.column else 0)
+
+-- a range of a line of the source, on the line of a place and not before it
+pub record IsFrom (width : ℕ → ℕ) (count : ℕ) (at : Point) (s : Span) : Type 0 where
+  pub line : s.line ≡ at.line
+  pub real : at.line < count
+  pub start : at.column ≤ s.start
+  pub order : s.start ≤ s.end
+  pub end : s.end ≤ width at.line
+
+module _ (width : ℕ → ℕ) (count : ℕ) where
+  -- The tokens lie between two places, in this order; the flags say whether the text at these places is read inside. Inside, line ends
+  -- alone go on to another line, and names, which may stand over lines.
+  abbrev pub StandInOrder : Bool → Point → List Token → Bool → Point → Type 0
+  StandInOrder from at [] stays to = GoesOn from stays at to
+  StandInOrder from at (token.Section ∷ es) stays to = StandInOrder false at es stays to
+  StandInOrder from at (token.MacroStart line ∷ es) stays to = (at.line ≤ line) × StandInOrder true (jumped at line) es stays to
+  StandInOrder from at (token.UnnamedPart line ∷ es) stays to = (at.line ≤ line) × StandInOrder true (jumped at line) es stays to
+  StandInOrder from at (token.NamedPart name line ∷ es) stays to = (at.line ≤ line) × StandInOrder true (jumped at line) es stays to
+  StandInOrder from at (token.Text kind s ∷ es) stays to = Inside from (IsFrom width count at s × StandInOrder true (span_end s) es stays to)
+  StandInOrder from at (token.Constant value line ∷ es) stays to = Inside from ((line ≡ at.line) × ((at.line < count) × StandInOrder true at es stays to))
+  StandInOrder from at (token.LineEnd line ∷ es) stays to = Inside from ((line ≡ at.line) × StandInOrder true (spot (line + 1) 0) es stays to)
+  StandInOrder from at (token.QuoteBreak ∷ es) stays to = Inside from (StandInOrder true (spot (at.line + 1) 0) es stays to)
+  StandInOrder from at (token.UseOf name line ∷ es) stays to = Inside from ((at.line ≤ line) × StandInOrder true (jumped at line) es stays to)
+  StandInOrder from at (token.Defs line ∷ es) stays to = Inside from ((line ≡ at.line) × StandInOrder true at es stays to)
+  StandInOrder from at (_ ∷ es) stays to = StandInOrder from at es stays to
+
+  inside-after : (from to : Bool) (a at : Point) (A B : Type 0) → GoesOn from to a at → Inside to A → (PrecedesOnLine a at → A → B) → Inside from B
+  inside-after true true a at A B near x f = f near x
+  inside-after false true a at A B near x f = absurd near
+  inside-after true false a at A B near x f = absurd x
+  inside-after false false a at A B near x f = absurd x
+
+  pub goes-precedes : (from to : Bool) (a at : Point) → GoesOn from to a at → Precedes a at
+  goes-precedes true true a at near = (omega (arith, near.0), λ e. near.1)
+  goes-precedes false true a at near = absurd near
+  goes-precedes true false a at near = near
+  goes-precedes false false a at near = near
+
+  goes-trans : (from mid stays : Bool) (a at to : Point) → GoesOn from mid a at → GoesOn mid stays at to → GoesOn from stays a to
+  goes-trans true true true a at to h k = (h.0 ∙ k.0, omega (arith, h.1, k.1))
+  goes-trans false true true a at to h k = absurd h
+  goes-trans from false true a at to h k = absurd k
+  goes-trans true mid false a at to h k = precedes-trans a at to (goes-precedes true mid a at h) (goes-precedes mid false at to k)
+  goes-trans false mid false a at to h k = precedes-trans a at to (goes-precedes false mid a at h) (goes-precedes mid false at to k)
+
+  -- jumps keep the order
+  jump-goes : (a at : Point) (line : ℕ) → Precedes a at → at.line ≤ line → PrecedesOnLine (jumped a line) (jumped at line)
+  jump-goes a at line h over = (
+    refl,
+    elim (eqb_tells line a.line) [
+      | inl same ↦
+          let e : a.line ≡ at.line = omega (arith, h.0, over, same.1) in
+          elim (eqb_tells line at.line) [
+            | inl here ↦ rw (same.0, here.0) (h.1 e)
+            | inr other ↦ absurd (other.1 (omega (arith, same.1, e)))
+          ]
+      | inr other ↦ rw other.0 (omega arith)
+    ],
+  )
+
+  is-from : (a at : Point) (s : Span) → PrecedesOnLine a at → IsFrom width count at s → IsFrom width count a s
+  is-from a at s near is = record {
+    line = is.line ∙ sym near.0;
+    real = omega (arith, near.0, is.real);
+    start = omega (arith, near.1, is.start);
+    order = is.order;
+    end = rw near.0 is.end;
+  }
+
+  -- tokens behind a part of the text that has none
+  pub in_order-after : (from mid : Bool) (a at : Point) (es : List Token) (stays : Bool) (to : Point) → GoesOn from mid a at → StandInOrder mid at es stays to → StandInOrder from a es stays to
+  in_order-after from mid a at [] stays to near ordered = goes-trans from mid stays a at to near ordered
+  in_order-after from mid a at (token.Section ∷ es) stays to near ordered = in_order-after false false a at es stays to (goes-precedes from mid a at near) ordered
+  in_order-after from mid a at (token.MacroStart line ∷ es) stays to near ordered =
+      let p = goes-precedes from mid a at near in
+      (omega (arith, p.0, ordered.0), in_order-after true true (jumped a line) (jumped at line) es stays to (jump-goes a at line p ordered.0) ordered.1)
+  in_order-after from mid a at (token.UnnamedPart line ∷ es) stays to near ordered =
+      let p = goes-precedes from mid a at near in
+      (omega (arith, p.0, ordered.0), in_order-after true true (jumped a line) (jumped at line) es stays to (jump-goes a at line p ordered.0) ordered.1)
+  in_order-after from mid a at (token.NamedPart name line ∷ es) stays to near ordered =
+      let p = goes-precedes from mid a at near in
+      (omega (arith, p.0, ordered.0), in_order-after true true (jumped a line) (jumped at line) es stays to (jump-goes a at line p ordered.0) ordered.1)
+  in_order-after from mid a at (token.Text kind s ∷ es) stays to near ordered = inside-after from mid a at _ _ near ordered (λ n l. (is-from a at s n l.0, l.1))
+  in_order-after from mid a at (token.Constant value line ∷ es) stays to near ordered =
+      inside-after from mid a at _ _ near ordered (λ n l. (l.0 ∙ sym n.0, (omega (arith, n.0, l.1.0), in_order-after true true a at es stays to n l.1.1)))
+  in_order-after from mid a at (token.LineEnd line ∷ es) stays to near ordered = inside-after from mid a at _ _ near ordered (λ n l. (l.0 ∙ sym n.0, l.1))
+  in_order-after from mid a at (token.QuoteBreak ∷ es) stays to near ordered =
+      inside-after from mid a at _ _ near ordered (λ n l. subst (λ x. StandInOrder true (spot (x + 1) 0) es stays to) (sym n.0) l)
+  in_order-after from mid a at (token.UseOf name line ∷ es) stays to near ordered =
+      inside-after from mid a at _ _ near ordered (λ n l. (
+        omega (arith, n.0, l.0),
+        in_order-after true true (jumped a line) (jumped at line) es stays to (jump-goes a at line (goes-precedes true true a at n) l.0) l.1,
+      ))
+  in_order-after from mid a at (token.Defs line ∷ es) stays to near ordered =
+      inside-after from mid a at _ _ near ordered (λ n l. (l.0 ∙ sym n.0, in_order-after true true a at es stays to n l.1))
+  in_order-after from mid a at (_ ∷ es) stays to near ordered = in_order-after from mid a at es stays to near ordered
+
+  inside-map : (from : Bool) (A B : Type 0) → Inside from A → (A → B) → Inside from B
+  inside-map true A B x f = f x
+  inside-map false A B x f = absurd x
+
+  -- tokens after tokens
+  pub in_order-append : (from : Bool) (at : Point) (es : List Token) (mid : Bool) (p : Point) (fs : List Token) (stays : Bool) (to : Point)
+      → StandInOrder from at es mid p → StandInOrder mid p fs stays to → StandInOrder from at (es ++ fs) stays to
+  in_order-append from at [] mid p fs stays to ordered rest = in_order-after from mid at p fs stays to ordered rest
+  in_order-append from at (token.Section ∷ es) mid p fs stays to ordered rest = in_order-append false at es mid p fs stays to ordered rest
+  in_order-append from at (token.MacroStart line ∷ es) mid p fs stays to ordered rest = (ordered.0, in_order-append true (jumped at line) es mid p fs stays to ordered.1 rest)
+  in_order-append from at (token.UnnamedPart line ∷ es) mid p fs stays to ordered rest = (ordered.0, in_order-append true (jumped at line) es mid p fs stays to ordered.1 rest)
+  in_order-append from at (token.NamedPart name line ∷ es) mid p fs stays to ordered rest = (ordered.0, in_order-append true (jumped at line) es mid p fs stays to ordered.1 rest)
+  in_order-append from at (token.Text kind s ∷ es) mid p fs stays to ordered rest = inside-map from _ _ ordered (λ l. (l.0, in_order-append true (span_end s) es mid p fs stays to l.1 rest))
+  in_order-append from at (token.Constant value line ∷ es) mid p fs stays to ordered rest = inside-map from _ _ ordered (λ l. (l.0, (l.1.0, in_order-append true at es mid p fs stays to l.1.1 rest)))
+  in_order-append from at (token.LineEnd line ∷ es) mid p fs stays to ordered rest = inside-map from _ _ ordered (λ l. (l.0, in_order-append true (spot (line + 1) 0) es mid p fs stays to l.1 rest))
+  in_order-append from at (token.QuoteBreak ∷ es) mid p fs stays to ordered rest = inside-map from _ _ ordered (λ l. in_order-append true (spot (at.line + 1) 0) es mid p fs stays to l rest)
+  in_order-append from at (token.UseOf name line ∷ es) mid p fs stays to ordered rest = inside-map from _ _ ordered (λ l. (l.0, in_order-append true (jumped at line) es mid p fs stays to l.1 rest))
+  in_order-append from at (token.Defs line ∷ es) mid p fs stays to ordered rest = inside-map from _ _ ordered (λ l. (l.0, in_order-append true at es mid p fs stays to l.1 rest))
+  in_order-append from at (_ ∷ es) mid p fs stays to ordered rest = in_order-append from at es mid p fs stays to ordered rest

@@ -1,0 +1,12 @@
+pub mod AheadLemmas
+pub mod CutLemmas
+pub mod HeadLemmas
+pub mod LexemeLemmas
+pub mod NameLemmas
+pub mod NamesKept
+pub mod OrdinaryLemmas
+pub mod QuietTokens
+pub mod RegionLemmas
+pub mod RunLemmas
+pub mod SimpleLemmas
+pub mod StepLemmas

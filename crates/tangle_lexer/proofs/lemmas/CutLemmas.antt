@@ -1,0 +1,63 @@
+-- Texts that are cut, unit by unit.
+use Rattle.std.proofs.Common.{◌≡◌, ◌<◌, ◌+◌, ℕ, Bool, true, false, nat_eq, inl, inr, List, [], ◌∷◌, ◌++◌, length, drop, drop-drop, refl, ap, sym, ◌∙◌, arith}
+use Rattle.std.proofs.lemmas.Bool.Decides.{eqb_tells}
+use Rattle.tangle_lexer.specs.declared.regions.Region.{Region}
+use Rattle.tangle_lexer.specs.declared.regions.Unit.{Unit as Unit-of}
+use Rattle.tangle_lexer.specs.declared.regions.Unit.TheVariants as unit
+use Rattle.tangle_lexer.specs.declared.tokens.Token.{Token}
+use Rattle.tangle_lexer.specs.Text.{Cell, byte_at, front_cell}
+use Rattle.tangle_lexer.specs.Regions.{unit_at, more_by, region_end, count_before, count_by}
+use Rattle.tangle_lexer.specs.Quoted.{cut_tokens, unit_tokens, next_start, ends_at_once, one_if}
+use Rattle.tangle_lexer.proofs.lemmas.RegionLemmas.{region_end-is}
+
+-- a unit that isn't the end gives its part
+pub cut-go : (ends : ℕ → List Cell → List Token) (r : Region) (start last : ℕ) (text : List Cell) (u : Unit-of) →
+    0 < length text → unit_at r text ≡ u → (u ≡ unit.Stop → ⊥) →
+    cut_tokens ends r 0 start text
+    ≡ unit_tokens r u start (front_cell last text) (byte_at 1 text)
+    ++ cut_tokens ends r 0 (next_start u start (front_cell last text) (byte_at 1 text)) (drop (more_by u) (drop 1 text))
+cut-go ends r start last [] u inside h go = absurd (omega (arith, inside))
+cut-go ends r start last (c ∷ cs) unit.Stop inside h go = absurd (go refl)
+cut-go ends r start last (c ∷ cs) unit.One inside h go = rw h refl
+cut-go ends r start last (c ∷ []) unit.Two inside h go = rw h refl
+cut-go ends r start last (c ∷ d ∷ cs) unit.Two inside h go = rw h refl
+
+pub cut-stop : (ends : ℕ → List Cell → List Token) (r : Region) (start : ℕ) (text : List Cell) → unit_at r text ≡ unit.Stop →
+    cut_tokens ends r 0 start text ≡ ends start text
+cut-stop ends r start [] h = refl
+cut-stop ends r start (c ∷ cs) h = rw h refl
+
+pub cut-nothing : (ends : ℕ → List Cell → List Token) (r : Region) (start : ℕ) (text : List Cell) → text ≡ [] →
+    cut_tokens ends r 0 start text ≡ ends start text
+cut-nothing ends r start text h = rw h refl
+
+-- a region that ends at once
+pub at_once-stop : (r : Region) (text : List Cell) → unit_at r text ≡ unit.Stop → ends_at_once r text ≡ true
+at_once-stop r [] h = refl
+at_once-stop r (c ∷ cs) h = rw h refl
+
+neq_false : (a b : ℕ) → (a ≡ b → ⊥) → nat_eq a b ≡ false
+neq_false a b h = elim (eqb_tells a b) [ inl same ↦ absurd (h same.1) | inr other ↦ other.0 ]
+
+count_by-go : (u : Unit-of) (n : ℕ) → (u ≡ unit.Stop → ⊥) → nat_eq (count_by u n) 0 ≡ false
+count_by-go unit.Stop n go = absurd (go refl)
+count_by-go unit.One n go = neq_false (1 + n) 0 (λ h. omega (arith, h))
+count_by-go unit.Two n go = neq_false (1 + n) 0 (λ h. omega (arith, h))
+
+pub at_once-go : (r : Region) (text : List Cell) (u : Unit-of) → 0 < length text → unit_at r text ≡ u → (u ≡ unit.Stop → ⊥) → ends_at_once r text ≡ false
+at_once-go r [] u inside h go = absurd (omega (arith, inside))
+at_once-go r (c ∷ cs) u inside h go = count_by-go (unit_at r (c ∷ cs)) _ (λ stop. go (sym h ∙ stop))
+
+pub at_once-end : (r : Region) (text : List Cell) → ends_at_once r text ≡ true → text ≡ region_end r text
+unfolding region_end
+at_once-end r text h = let none : count_before r 0 text ≡ 0 = zero-is (count_before r 0 text) h in rw none refl
+  where
+    zero-is : (n : ℕ) → nat_eq n 0 ≡ true → n ≡ 0
+    zero-is n h = grind (arith, h)
+
+-- behind a region and what may end it
+pub drop-end : (r : Region) (text : List Cell) (b : List Cell → Bool) →
+    drop (one_if (b (region_end r text))) (region_end r text) ≡ drop (count_before r 0 text + one_if (b (drop (count_before r 0 text) text))) text
+drop-end r text b =
+    let is = region_end-is r text in
+    ap (λ t. drop (one_if (b t)) t) is ∙ drop-drop (one_if (b (drop (count_before r 0 text) text))) (count_before r 0 text) text

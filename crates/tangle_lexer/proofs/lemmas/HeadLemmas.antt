@@ -1,0 +1,218 @@
+-- A head is the only token of its lexeme.
+use Rattle.std.proofs.Common.{◌≡◌, ℕ, zero, suc, Bool, true, false, not, ◌||◌, ◌&&◌, List, [], ◌∷◌, ◌++◌, drop, Option, Some, None, if◌then◌else◌, inl, inr, refl}
+use Rattle.std.specs.List.{list_any}
+use Rattle.tangle_lines.specs.declared.faults.FaultKind.{FaultKind}
+use Rattle.tangle_lexer.specs.declared.regions.Region.{Region}
+use Rattle.tangle_lexer.specs.declared.regions.Region.TheVariants as region
+use Rattle.tangle_lexer.specs.declared.regions.Unit.{Unit as Unit-of}
+use Rattle.tangle_lexer.specs.declared.regions.Unit.TheVariants as unit
+use Rattle.tangle_lexer.specs.declared.modes.Mode.{Mode}
+use Rattle.tangle_lexer.specs.declared.modes.Mode.TheVariants as mode
+use Rattle.tangle_lexer.specs.declared.modes.ScanState.{ScanState}
+use Rattle.tangle_lexer.specs.declared.token_kinds.ControlCode.{ControlCode}
+use Rattle.tangle_lexer.specs.declared.token_kinds.ControlCode.TheVariants as code
+use Rattle.tangle_lexer.specs.declared.token_kinds.TokenKind.{TokenKind}
+use Rattle.tangle_lexer.specs.declared.token_kinds.TokenKind.TheVariants as token_kind
+use Rattle.tangle_lexer.specs.declared.tokens.Token.{Token}
+use Rattle.tangle_lexer.specs.declared.tokens.Token.TheVariants as token
+use Rattle.tangle_lexer.specs.declared.constants.Constant.{Constant}
+use Rattle.tangle_lexer.specs.Bytes.{holds, at_sign, backslash, is_line_end}
+use Rattle.tangle_lexer.specs.Text.{Cell, byte_at}
+use Rattle.tangle_lexer.specs.Regions.{unit_at, more_by, unless_stop, from_units}
+use Rattle.tangle_lexer.specs.Lexemes.{fault_if, line_end_by, in_mode}
+use Rattle.tangle_lexer.specs.Comments.{line_ends, unit_line_end, starts_section}
+use Rattle.tangle_lexer.specs.Quoted.{range_token, cut_range, unit_tokens, next_start, at_stop, cut_tokens, quote_end, verbatim_end, verbatim_tokens, empty_end, ends_at_once, quoted_text}
+use Rattle.tangle_lexer.specs.Constants.{constant_at, constant_lexeme}
+use Rattle.tangle_lexer.specs.Names.{head_or_mention, head_count, is_ended, has_single_equals, behind_name}
+use Rattle.tangle_lexer.specs.Steps.{lexeme, lexeme_in, limbo_lexeme, documentation_lexeme, documentation_code, c_code, c_lexeme, macro_code, macro_lexeme, kind_of, code_at}
+use Rattle.tangle_lexer.specs.Heads.{is_head}
+use Rattle.tangle_lexer.specs.Heads.{HasNoHead, IsHeadAlone}
+
+pub no_head-append : (es fs : List Token) → HasNoHead es → HasNoHead fs → HasNoHead (es ++ fs)
+no_head-append [] fs h j = j
+no_head-append (e ∷ es) fs h j = cons (is_head e) h (no_head-append es fs)
+  where
+    cons : (b : Bool) → (b || list_any is_head es) ≡ false → (HasNoHead es → HasNoHead fs → HasNoHead (es ++ fs)) → (b || list_any is_head (es ++ fs)) ≡ false
+    cons true h next = h
+    cons false h next = next h j
+
+fault-none : (b : Bool) (kind : FaultKind) (line : ℕ) → HasNoHead (fault_if b kind line)
+fault-none true kind line = refl
+fault-none false kind line = refl
+
+line_end-none : (b : Option ℕ) (line : ℕ) → HasNoHead (line_end_by b line)
+line_end-none None line = refl
+line_end-none (Some b) line = refl
+
+unless-none : (u : Unit-of) (es : List Token) → HasNoHead es → HasNoHead (unless_stop u es)
+unless-none unit.Stop es h = refl
+unless-none unit.One es h = h
+unless-none unit.Two es h = h
+
+line_ends-none : (r : Region) (k : ℕ) (text : List Cell) → HasNoHead (from_units unit_line_end r k text)
+line_ends-none r k [] = refl
+line_ends-none r (suc k) (c ∷ cs) = line_ends-none r k cs
+line_ends-none r zero (c ∷ cs) =
+    unless-none (unit_at r (c ∷ cs)) _ (no_head-append (line_end_by c.byte c.line) _ (line_end-none c.byte c.line) (line_ends-none r (more_by (unit_at r (c ∷ cs))) cs))
+
+white-none : (r : Region) (text : List Cell) (b : Bool) (kind : FaultKind) (line : ℕ) → HasNoHead (token.White ∷ line_ends r text ++ fault_if b kind line)
+white-none r text b kind line = no_head-append (line_ends r text) _ (line_ends-none r 0 text) (fault-none b kind line)
+
+range-none : (r : Region) (line start end : ℕ) (t : Bool) → HasNoHead (if t then range_token r (record { line = line; start = start; end = end }) ∷ [] else [])
+range-none r line start end false = refl
+range-none region.Comment line start end true = refl
+range-none region.LineComment line start end true = refl
+range-none region.ControlText line start end true = refl
+range-none region.Verbatim line start end true = refl
+range-none region.Name line start end true = refl
+range-none region.DoubleQuote line start end true = refl
+range-none region.Apostrophe line start end true = refl
+range-none region.IncludeName line start end true = refl
+range-none region.Word line start end true = refl
+range-none region.White line start end true = refl
+range-none region.Prose line start end true = refl
+range-none region.BadConstant line start end true = refl
+
+choose-none : (t : Bool) (es fs : List Token) → HasNoHead es → HasNoHead fs → HasNoHead (if t then es else fs)
+choose-none true es fs h j = h
+choose-none false es fs h j = j
+
+unit-none : (r : Region) (u : Unit-of) (start : ℕ) (c : Cell) (next : Option ℕ) → HasNoHead (unit_tokens r u start c next)
+unit-none r unit.Stop start c next = fault-none (holds at_sign c.byte) _ c.line
+unit-none r unit.One start c next = fault-none (holds at_sign c.byte) _ c.line
+unit-none r unit.Two start c next =
+    choose-none (holds at_sign c.byte) _ _ (range-none r c.line start _ _)
+    (choose-none (holds backslash c.byte && is_line_end next) _ [] (no_head-append (cut_range r c.line start _) (token.QuoteBreak ∷ []) (range-none r c.line start _ _) refl) refl)
+
+stop-none : (u : Unit-of) (es fs : List Token) → HasNoHead es → HasNoHead fs → HasNoHead (at_stop u es fs)
+stop-none unit.Stop es fs h j = h
+stop-none unit.One es fs h j = j
+stop-none unit.Two es fs h j = j
+
+cut-none : (ends : ℕ → List Cell → List Token) → ((start : ℕ) (text : List Cell) → HasNoHead (ends start text)) →
+    (r : Region) (k start : ℕ) (text : List Cell) → HasNoHead (cut_tokens ends r k start text)
+cut-none ends last r k start [] = last start []
+cut-none ends last r (suc k) start (c ∷ cs) = cut-none ends last r k start cs
+cut-none ends last r zero start (c ∷ cs) =
+    let u = unit_at r (c ∷ cs) in
+    stop-none u _ _ (last start (c ∷ cs))
+    (no_head-append (unit_tokens r u start c (byte_at 0 cs)) _ (unit-none r u start c (byte_at 0 cs))
+    (cut-none ends last r (more_by u) (next_start u start c (byte_at 0 cs)) cs))
+
+quote-none : (r : Region) (close last start : ℕ) (text : List Cell) → HasNoHead (quote_end r close last start text)
+quote-none r close last start [] = refl
+quote-none r close last start (c ∷ cs) =
+    choose-none (holds close c.byte) _ _ (range-none r c.line start _ _)
+    (no_head-append (cut_range r c.line start c.column) _ (range-none r c.line start _ _) refl)
+
+verbatim_end-none : (start : ℕ) (text : List Cell) → HasNoHead (verbatim_end start text)
+verbatim_end-none start [] = refl
+verbatim_end-none start (c ∷ cs) =
+    no_head-append (cut_range region.Verbatim c.line start c.column) _ (range-none region.Verbatim c.line start _ _) (fault-none (is_line_end c.byte) _ c.line)
+
+empty-none : (text : List Cell) → HasNoHead (empty_end text)
+empty-none [] = refl
+empty-none (c ∷ cs) = fault-none (is_line_end c.byte) _ c.line
+
+verbatim-none : (text : List Cell) → HasNoHead (verbatim_tokens text)
+verbatim-none text =
+    choose-none (ends_at_once region.Verbatim text) _ _ (empty-none text) (cut-none verbatim_end verbatim_end-none region.Verbatim 0 _ text)
+
+constant-none : (found : Option Constant) (s : ScanState) (text : List Cell) → HasNoHead (constant_lexeme found s text).tokens
+constant-none None s text = refl
+constant-none (Some constant) s text = refl
+
+use-none : (a b : Bool) (line at start : ℕ) (k l : FaultKind) → HasNoHead (fault_if a k at ++ fault_if b l start)
+use-none a b line at start k l = no_head-append (fault_if a k at) _ (fault-none a k at) (fault-none b l start)
+
+head-alone : (found : Option ℕ) (s : ScanState) (text : List Cell) → IsHeadAlone (head_or_mention found s text).tokens
+head-alone None s text = inl (fault-none (not (is_ended text)) _ _)
+head-alone (Some count) s text = inr (_, refl, refl)
+
+documentation-alone : (c : ControlCode) (s : ScanState) (text : List Cell) → IsHeadAlone (documentation_code c s text).tokens
+documentation-alone code.SectionStart s text = inr (_, refl, refl)
+documentation-alone code.Macro s text = inr (_, refl, refl)
+documentation-alone code.UnnamedPart s text = inr (_, refl, refl)
+documentation-alone code.Name s text = head-alone (head_count text) s text
+documentation-alone code.DoubleAt s text = inl refl
+documentation-alone code.Format s text = inl refl
+documentation-alone code.ControlText s text = inl refl
+documentation-alone code.Verbatim s text = inl refl
+documentation-alone code.Join s text = inl refl
+documentation-alone code.Defs s text = inl refl
+documentation-alone code.Constant s text = inl refl
+documentation-alone code.Other s text = inl refl
+
+c_code-alone : (c : ControlCode) (s : ScanState) (text : List Cell) → IsHeadAlone (c_code c s text).tokens
+c_code-alone code.SectionStart s text = inr (_, refl, refl)
+c_code-alone code.DoubleAt s text = inl refl
+c_code-alone code.Macro s text = inl refl
+c_code-alone code.Format s text = inl refl
+c_code-alone code.UnnamedPart s text = inl refl
+c_code-alone code.Name s text = inl (no_head-append (fault_if (not (is_ended text)) _ _) _ (fault-none (not (is_ended text)) _ _) (fault-none (has_single_equals (behind_name text)) _ _))
+c_code-alone code.ControlText s text = inl (white-none region.ControlText (drop 2 text) _ _ _)
+c_code-alone code.Verbatim s text = inl (verbatim-none (drop 2 text))
+c_code-alone code.Join s text = inl refl
+c_code-alone code.Defs s text = inl refl
+c_code-alone code.Constant s text = inl (constant-none (constant_at (drop 2 text)) s text)
+c_code-alone code.Other s text = inl refl
+
+quoted-alone : (r : Region) (close : ℕ) (s : ScanState) (text : List Cell) → IsHeadAlone (quoted_text r close s text).tokens
+quoted-alone r close s text = inl (cut-none (quote_end r close s.last) (quote-none r close s.last) r 0 _ (drop 1 text))
+
+c_lexeme-alone : (k : TokenKind) (s : ScanState) (text : List Cell) → IsHeadAlone (c_lexeme k s text).tokens
+c_lexeme-alone (token_kind.Control c) s text = c_code-alone c s text
+c_lexeme-alone token_kind.BlockComment s text = inl (white-none region.Comment (drop 2 text) _ _ _)
+c_lexeme-alone token_kind.LineComment s text = inl (fault-none _ _ _)
+c_lexeme-alone token_kind.DoubleQuote s text = quoted-alone region.DoubleQuote _ s text
+c_lexeme-alone token_kind.Apostrophe s text = quoted-alone region.Apostrophe _ s text
+c_lexeme-alone token_kind.IncludeName s text = quoted-alone region.IncludeName _ s text
+c_lexeme-alone token_kind.LineEnd s text = inl refl
+c_lexeme-alone token_kind.White s text = inl refl
+c_lexeme-alone token_kind.Word s text = inl refl
+c_lexeme-alone token_kind.Other s text = inl refl
+
+macro_code-alone : (c : ControlCode) (s : ScanState) (text : List Cell) → IsHeadAlone (macro_code c s text).tokens
+macro_code-alone code.SectionStart s text = inr (_, refl, refl)
+macro_code-alone code.Macro s text = inr (_, refl, refl)
+macro_code-alone code.UnnamedPart s text = inr (_, refl, refl)
+macro_code-alone code.Name s text = head-alone (head_count text) (in_mode mode.Documentation s) text
+macro_code-alone code.Format s text = inl refl
+macro_code-alone code.Defs s text = inl refl
+macro_code-alone code.DoubleAt s text = c_code-alone code.DoubleAt s text
+macro_code-alone code.ControlText s text = c_code-alone code.ControlText s text
+macro_code-alone code.Verbatim s text = c_code-alone code.Verbatim s text
+macro_code-alone code.Join s text = c_code-alone code.Join s text
+macro_code-alone code.Constant s text = c_code-alone code.Constant s text
+macro_code-alone code.Other s text = c_code-alone code.Other s text
+
+macro-alone : (k : TokenKind) (s : ScanState) (text : List Cell) → IsHeadAlone (macro_lexeme k s text).tokens
+macro-alone (token_kind.Control c) s text = macro_code-alone c s text
+macro-alone token_kind.BlockComment s text = c_lexeme-alone token_kind.BlockComment s text
+macro-alone token_kind.LineComment s text = c_lexeme-alone token_kind.LineComment s text
+macro-alone token_kind.DoubleQuote s text = c_lexeme-alone token_kind.DoubleQuote s text
+macro-alone token_kind.Apostrophe s text = c_lexeme-alone token_kind.Apostrophe s text
+macro-alone token_kind.IncludeName s text = c_lexeme-alone token_kind.IncludeName s text
+macro-alone token_kind.LineEnd s text = inl refl
+macro-alone token_kind.White s text = inl refl
+macro-alone token_kind.Word s text = inl refl
+macro-alone token_kind.Other s text = inl refl
+
+limbo-alone : (a b : Bool) (s : ScanState) (text : List Cell) → starts_section text ≡ a → holds at_sign (byte_at 0 text) ≡ b → IsHeadAlone (limbo_lexeme s text).tokens
+limbo-alone true b s text h j = rw h (inr (token.Section, refl, refl))
+limbo-alone false true s text h j = rw (h, j) (inl refl)
+limbo-alone false false s text h j = rw (h, j) (inl refl)
+
+documentation_lexeme-alone : (b : Bool) (s : ScanState) (text : List Cell) → holds at_sign (byte_at 0 text) ≡ b → IsHeadAlone (documentation_lexeme s text).tokens
+documentation_lexeme-alone true s text j = rw j (documentation-alone (code_at (byte_at 1 text)) s text)
+documentation_lexeme-alone false s text j = rw j (inl refl)
+
+lexeme_in-alone : (m : Mode) (s : ScanState) (text : List Cell) → IsHeadAlone (lexeme_in m s text).tokens
+lexeme_in-alone mode.Limbo s text = limbo-alone _ _ s text refl refl
+lexeme_in-alone mode.Documentation s text = documentation_lexeme-alone _ s text refl
+lexeme_in-alone mode.Code s text = c_lexeme-alone (kind_of s.include text) s text
+lexeme_in-alone mode.Macro s text = macro-alone (kind_of s.include text) s text
+
+pub lexeme-alone : (s : ScanState) (text : List Cell) → IsHeadAlone (lexeme s text).tokens
+unfolding lexeme
+lexeme-alone s text = lexeme_in-alone s.mode s text

@@ -1,0 +1,59 @@
+-- What the units of a region give.
+use Rattle.std.proofs.Common.{◌≡◌, ◌<◌, ℕ, List, [], ◌∷◌, ◌++◌, Bool, true, false, not, append_assoc, append-nil, length, drop, Option, refl, ap, sym, ◌∙◌, arith}
+use Rattle.tangle_lines.specs.declared.faults.FaultKind.{FaultKind}
+use Rattle.tangle_lexer.specs.declared.tokens.Token.TheVariants as token
+use Rattle.tangle_lexer.proofs.lemmas.RegionLemmas.{drop-two, mid-is}
+use Rattle.tangle_lexer.specs.declared.regions.Region.{Region}
+use Rattle.tangle_lexer.specs.declared.regions.Unit.{Unit as Unit-of}
+use Rattle.tangle_lexer.specs.declared.regions.Unit.TheVariants as unit
+use Rattle.tangle_lexer.specs.declared.modes.IncludeState.{IncludeState}
+use Rattle.tangle_lexer.specs.declared.modes.IncludeState.TheVariants as include
+use Rattle.tangle_lexer.specs.declared.tokens.Token.{Token}
+use Rattle.tangle_lexer.specs.Text.{Cell, byte_at, line_at, front_cell}
+use Rattle.tangle_lexer.specs.Regions.{unit_at, more_by, from_units, region_end, count_before}
+use Rattle.tangle_lexer.specs.Lexemes.{include_over, fault_if}
+use Rattle.tangle_lexer.specs.Comments.{line_ends}
+
+-- a unit that isn't the end of a region gives its part
+pub from_units-go : {A : Type 0} (f : Unit-of → Cell → Option ℕ → List A) (r : Region) (last : ℕ) (text : List Cell) (u : Unit-of) →
+    0 < length text → unit_at r text ≡ u → (u ≡ unit.Stop → ⊥) →
+    from_units f r 0 text ≡ f u (front_cell last text) (byte_at 1 text) ++ from_units f r 0 (drop (more_by u) (drop 1 text))
+from_units-go f r last [] u inside h go = absurd (omega (arith, inside))
+from_units-go f r last (c ∷ cs) unit.Stop inside h go = absurd (go refl)
+from_units-go f r last (c ∷ cs) unit.One inside h go = rw h refl
+from_units-go f r last (c ∷ []) unit.Two inside h go = rw h refl
+from_units-go f r last (c ∷ d ∷ cs) unit.Two inside h go = rw h refl
+
+pub from_units-stop : {A : Type 0} (f : Unit-of → Cell → Option ℕ → List A) (r : Region) (text : List Cell) → unit_at r text ≡ unit.Stop → from_units f r 0 text ≡ []
+from_units-stop f r [] h = refl
+from_units-stop f r (c ∷ cs) h = rw h refl
+
+-- behind a line end #include may begin
+include_over-start : (es : List Token) → include_over es include.AtStart ≡ include.AtStart
+include_over-start [] = refl
+include_over-start (e ∷ es) = refl
+
+pub include_over-append : (es fs : List Token) (inc : IncludeState) → include_over (es ++ fs) inc ≡ include_over fs (include_over es inc)
+include_over-append [] fs inc = refl
+include_over-append (e ∷ es) fs inc = sym (include_over-start fs)
+
+-- the tokens of a comment or a control text that is closed
+pub comment-closed : (ends : List Cell → Bool) (r : Region) (kind : FaultKind) (last : ℕ) (text behind mid : List Cell) (old first new : List Token) →
+    first ≡ old ++ token.White ∷ [] → behind ≡ drop 1 (drop 1 text) → mid ≡ region_end r behind → new ≡ first ++ line_ends r behind → ends mid ≡ true →
+    new ≡ old ++ (token.White ∷ (line_ends r (drop 2 text)
+    ++ fault_if (not (ends (drop (count_before r 0 (drop 2 text)) (drop 2 text)))) kind (line_at last (drop (count_before r 0 (drop 2 text)) (drop 2 text)))))
+comment-closed ends r kind last text behind mid old first new h1 h2 h3 h4 closed =
+    let is = mid-is r text mid (h3 ∙ ap (region_end r) h2) in
+    rw (h4, h1, h2, drop-two text, ← is, closed, append-nil, append_assoc) refl
+
+-- and of one that is not
+pub comment-open : (ends : List Cell → Bool) (r : Region) (kind : FaultKind) (last : ℕ) (text behind mid : List Cell) (old first second new : List Token) →
+    first ≡ old ++ token.White ∷ [] → behind ≡ drop 1 (drop 1 text) → mid ≡ region_end r behind → second ≡ first ++ line_ends r behind → ends mid ≡ false →
+    (line : ℕ) → line ≡ line_at last mid → new ≡ second ++ token.Fault kind line ∷ [] →
+    new ≡ old ++ (token.White ∷ (line_ends r (drop 2 text)
+    ++ fault_if (not (ends (drop (count_before r 0 (drop 2 text)) (drop 2 text)))) kind (line_at last (drop (count_before r 0 (drop 2 text)) (drop 2 text)))))
+comment-open ends r kind last text behind mid old first second new h1 h2 h3 h4 isnt line on h5 =
+    let is = mid-is r text mid (h3 ∙ ap (region_end r) h2) in
+    rw (h5, on, h4, h1, h2, drop-two text, ← is, isnt)
+    (append_assoc (old ++ token.White ∷ []) (line_ends r (drop 2 text)) (token.Fault kind (line_at last mid) ∷ [])
+    ∙ append_assoc old (token.White ∷ []) (line_ends r (drop 2 text) ++ token.Fault kind (line_at last mid) ∷ []))

@@ -1,0 +1,96 @@
+-- Names: where they end, and what stands behind them.
+use Rattle.std.proofs.Common.{◌≡◌, ℕ, ◌+◌, zero, suc, Bool, true, false, not, List, [], ◌∷◌, drop, Option, Some, None, refl, ap, sym, ◌∙◌, arith, drop-drop, subst, if◌then◌else◌}
+use Rattle.tangle_lexer.specs.declared.names.Equals.{Equals}
+use Rattle.tangle_lexer.specs.declared.names.Equals.TheVariants as equals
+use Rattle.tangle_lexer.specs.Ahead.{PassesHead}
+use Rattle.tangle_lexer.specs.declared.regions.Region.TheVariants as region
+use Rattle.tangle_lexer.specs.Bytes.{holds, plus_sign}
+use Rattle.tangle_lexer.specs.Text.{Cell, byte_at, line_at}
+use Rattle.tangle_lexer.specs.Regions.{count_before, region_end}
+use Rattle.tangle_lexer.specs.Comments.{two_if, has_end_code}
+use Rattle.tangle_lexer.specs.Names.{name_end, is_ended, behind_name, name_count, count_before_equals, equals_by, equals_in, head_count, name_more, equals_count, count_through}
+use Rattle.tangle_lexer.proofs.lemmas.RegionLemmas.{behind-two, mid-is, region_end-is}
+
+-- the cell at a distance is the first one further on
+pub byte_at-drop : (n : ℕ) (text : List Cell) → byte_at n text ≡ byte_at 0 (drop n text)
+byte_at-drop zero text = refl
+byte_at-drop (suc n) [] = refl
+byte_at-drop (suc n) (c ∷ cs) = byte_at-drop n cs
+
+pub byte_at-next : (n : ℕ) (text : List Cell) → byte_at (n + 1) text ≡ byte_at 1 (drop n text)
+byte_at-next n text =
+    byte_at-drop (n + 1) text ∙ (ap (byte_at 0) (ap (λ k. drop k text) (omega arith) ∙ sym (drop-drop 1 n text)) ∙ sym (byte_at-drop 1 (drop n text)))
+
+-- the equals sign of a head
+pub equals-further : (text : List Cell) →
+    equals_by (byte_at 0 (drop (count_before_equals text) text)) (byte_at 1 (drop (count_before_equals text) text)) ≡ equals_in text
+equals-further text =
+    let n = count_before_equals text in
+    sym (ap (λ b. equals_by b (byte_at (n + 1) text)) (byte_at-drop n text) ∙ ap (equals_by (byte_at 0 (drop n text))) (byte_at-next n text))
+
+pub name_end-is : (text mid : List Cell) → mid ≡ region_end region.Name (drop 1 (drop 1 text)) → mid ≡ name_end text
+name_end-is text mid h = mid-is region.Name text mid h
+
+pub behind-is : (text mid rest : List Cell) → mid ≡ name_end text → rest ≡ drop (two_if (has_end_code mid)) mid → rest ≡ behind_name text
+behind-is text mid rest h go =
+    go ∙ (ap (λ t. drop (two_if (has_end_code t)) t) h
+    ∙ (ap (drop (two_if (is_ended text))) (sym (behind-two (name_count text) text)) ∙ drop-drop (two_if (is_ended text)) (1 + name_count text) (drop 1 text)))
+
+-- + and the white space behind it are passed over
+pub plus-further : (text : List Cell) → holds plus_sign (byte_at 0 (region_end region.White text)) ≡ true →
+    region_end region.White (drop 1 (region_end region.White text)) ≡ drop (count_before_equals text) text
+plus-further text h =
+    let first = count_before region.White 0 text in
+    let is = region_end-is region.White text in
+    let plus : holds plus_sign (byte_at first text) ≡ true = ap (holds plus_sign) (byte_at-drop first text ∙ sym (ap (byte_at 0) is)) ∙ h in
+    let next : drop 1 (region_end region.White text) ≡ drop (first + 1) text = ap (drop 1) is ∙ (drop-drop 1 first text) in
+    region_end-is region.White (drop 1 (region_end region.White text))
+    ∙ (ap (λ t. drop (count_before region.White 0 t) t) next
+    ∙ (drop-drop (count_before region.White 0 (drop (first + 1) text)) (first + 1) text ∙ rw plus refl))
+
+pub no_plus-further : (text : List Cell) → holds plus_sign (byte_at 0 (region_end region.White text)) ≡ false →
+    region_end region.White text ≡ drop (count_before_equals text) text
+no_plus-further text h =
+    let first = count_before region.White 0 text in
+    let is = region_end-is region.White text in
+    let plus : holds plus_sign (byte_at first text) ≡ false = ap (holds plus_sign) (byte_at-drop first text ∙ sym (ap (byte_at 0) is)) ∙ h in
+    is ∙ rw plus refl
+
+some-eq : {a b : ℕ} → Some a ≡ Some b → a ≡ b
+some-eq {a} {b} h = cc
+
+pub not-false : (b : Bool) → not b ≡ false → b ≡ true
+not-false true h = refl
+not-false false h = sym h
+
+none-some : {A : Type 0} (a : A) → Some a ≡ None → ⊥
+none-some a h = cc
+
+-- the head of a definition behind a name
+pub head-read : (last line : ℕ) (text rest : List Cell) (e : Equals) → is_ended text ≡ true → equals_in (behind_name text) ≡ e →
+    PassesHead e (count_before_equals (behind_name text)) last (behind_name text) rest (Some line) →
+    (n : ℕ) × (head_count text ≡ Some n) × (rest ≡ drop (name_more text + n) (drop 1 text)) × (line ≡ line_at last (drop (name_more text + n) text))
+head-read last line text rest equals.Absent ended is takes = absurd (none-some line takes.1)
+head-read last line text rest equals.Single ended is takes =
+    let n = count_before_equals (behind_name text) in (
+      n + 1,
+      ap (λ b. if b then equals_count (behind_name text) else None) ended ∙ ap (λ e. count_through e n) is,
+      takes.0 ∙ drop-drop (n + 1) (name_more text) (drop 1 text),
+      some-eq (takes.1 ∙ ap (λ t. Some (line_at last t)) (drop-drop n (name_more text) (drop 1 text) ∙ (drop-drop (name_more text + n) 1 text ∙ ap (λ k. drop k text) (omega arith)))),
+    )
+head-read last line text rest equals.Double ended is takes =
+    let n = count_before_equals (behind_name text) in (
+      n + 2,
+      ap (λ b. if b then equals_count (behind_name text) else None) ended ∙ ap (λ e. count_through e n) is,
+      takes.0 ∙ drop-drop (n + 2) (name_more text) (drop 1 text),
+      some-eq (takes.1 ∙ ap (λ t. Some (line_at last t)) (drop-drop (n + 1) (name_more text) (drop 1 text) ∙ (drop-drop (name_more text + (n + 1)) 1 text ∙ ap (λ k. drop k text) (omega arith)))),
+    )
+
+-- the same behind a name that was read
+pub head-found : (last line : ℕ) (found : Option ℕ) (text behind rest : List Cell) → is_ended text ≡ true → behind ≡ behind_name text → found ≡ Some line →
+    PassesHead (equals_in behind) (count_before_equals behind) last behind rest found →
+    (n : ℕ) × (head_count text ≡ Some n) × (rest ≡ drop (name_more text + n) (drop 1 text)) × (line ≡ line_at last (drop (name_more text + n) text))
+head-found last line found text behind rest ended is some takes =
+    head-read last line text rest (equals_in (behind_name text)) ended refl
+    (subst (λ t. PassesHead (equals_in t) (count_before_equals t) last t rest (Some line)) is
+    (subst (λ f. PassesHead (equals_in behind) (count_before_equals behind) last behind rest f) some takes))

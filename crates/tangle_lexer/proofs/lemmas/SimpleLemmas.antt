@@ -1,0 +1,110 @@
+-- Words, white space, signs and line ends of C text.
+use Rattle.std.proofs.Common.{◌≡◌, ◌<◌, ℕ, ◌==◌, Bool, true, false, ◌||◌, if◌then◌else◌, List, [], ◌∷◌, ◌++◌, length, drop, arith, Option, Some, None, option_to_list, subst, refl, ap, sym, ◌∙◌}
+use Rattle.std.specs.Option.{IfSome}
+use Rattle.tangle_lines.specs.Bytes.{is_white}
+use Rattle.tangle_lexer.specs.declared.modes.IncludeState.{IncludeState}
+use Rattle.tangle_lexer.specs.declared.token_kinds.TokenKind.TheVariants as token_kind
+use Rattle.tangle_lexer.specs.Bytes.{at_sign, slash, double_quote, apostrophe, less_sign, is_word_byte}
+use Rattle.tangle_lexer.specs.declared.modes.Mode.{Mode}
+use Rattle.tangle_lexer.specs.declared.modes.Mode.TheVariants as mode
+use Rattle.tangle_lexer.specs.declared.modes.ScanState.{ScanState}
+use Rattle.tangle_lexer.specs.declared.simple.Simple.{Simple}
+use Rattle.tangle_lexer.specs.declared.simple.Simple.TheVariants as simple
+use Rattle.tangle_lexer.specs.Text.{Cell, byte_at}
+use Rattle.tangle_lexer.specs.Steps.{kind_by, names_from, lexeme, lexeme_in, c_lexeme, macro_lexeme}
+use Rattle.tangle_lexer.specs.Simple.{IsSimple, is_opener, simple_of, simple_kind, is_c_text}
+use Rattle.tangle_lexer.specs.declared.tokens.Token.{Token}
+use Rattle.tangle_lexer.specs.Ahead.{IsRead}
+use Rattle.tangle_lexer.specs.Heads.{HasNoHead}
+use Rattle.tangle_lexer.proofs.lemmas.StepLemmas.{names_from-step}
+
+-- what opens nothing reads alike in C parts and in macros
+pub lexeme-simple : (s : ScanState) (text : List Cell) (p : Simple) → IsSimple text p → is_c_text s.mode ≡ true → lexeme s text ≡ c_lexeme (simple_kind p) s text
+unfolding lexeme
+lexeme-simple s text p here h = go s.mode h
+  where
+    alike : (p : Simple) → macro_lexeme (simple_kind p) s text ≡ c_lexeme (simple_kind p) s text
+    alike simple.Word = refl
+    alike simple.White = refl
+    alike simple.Sign = refl
+    alike simple.LineEnd = refl
+
+    not-true : false ≡ true → ⊥
+    not-true h = cc
+
+    go : (m : Mode) → is_c_text m ≡ true → lexeme_in m s text ≡ c_lexeme (simple_kind p) s text
+    go mode.Limbo h = absurd (not-true h)
+    go mode.Documentation h = absurd (not-true h)
+    go mode.Code h = ap (λ k. c_lexeme k s text) (here.token_kind s.include)
+    go mode.Macro h = ap (λ k. macro_lexeme k s text) (here.token_kind s.include) ∙ alike p
+
+-- the mode stays, no head comes and no name
+pub simple-mode : (p : Simple) (s : ScanState) (text : List Cell) → (c_lexeme (simple_kind p) s text).after.mode ≡ s.mode
+simple-mode simple.Word s text = refl
+simple-mode simple.White s text = refl
+simple-mode simple.Sign s text = refl
+simple-mode simple.LineEnd s text = refl
+
+pub simple-names : (p : Simple) (s : ScanState) (text : List Cell) → (c_lexeme (simple_kind p) s text).after.names ≡ s.names
+simple-names simple.Word s text = refl
+simple-names simple.White s text = refl
+simple-names simple.Sign s text = refl
+simple-names simple.LineEnd s text = refl
+
+pub simple-none : (p : Simple) (s : ScanState) (text : List Cell) → (c_lexeme (simple_kind p) s text).name ≡ None
+simple-none simple.Word s text = refl
+simple-none simple.White s text = refl
+simple-none simple.Sign s text = refl
+simple-none simple.LineEnd s text = refl
+
+pub simple-no_head : (p : Simple) (s : ScanState) (text : List Cell) → HasNoHead (c_lexeme (simple_kind p) s text).tokens
+simple-no_head simple.Word s text = refl
+simple-no_head simple.White s text = refl
+simple-no_head simple.Sign s text = refl
+simple-no_head simple.LineEnd s text = refl
+
+pub simple-read : (old new : List Token) (s after : ScanState) (text rest : List Cell) (p : Simple) → IsSimple text p → is_c_text s.mode ≡ true →
+    IsRead old new text rest after (c_lexeme (simple_kind p) s text) → IsRead old new text rest after (lexeme s text)
+simple-read old new s after text rest p here h read = subst (λ l. IsRead old new text rest after l) (sym (lexeme-simple s text p here h)) read
+
+pub simple-names_from : (old new : List Token) (s after : ScanState) (text rest : List Cell) (p : Simple) → IsSimple text p → is_c_text s.mode ≡ true →
+    IsRead old new text rest after (c_lexeme (simple_kind p) s text) → names_from after rest ≡ names_from s text
+simple-names_from old new s after text rest p here h read =
+    let is = lexeme-simple s text p here h in
+    let none : (lexeme s text).name ≡ None = ap (λ l. l.name) is ∙ simple-none p s text in
+    rw (read.ahead, read.state, ← is) (sym (names_from-step s text here.inside ∙ ap (λ n. option_to_list n ++ names_from (lexeme s text).after (drop (lexeme s text).more (drop 1 text))) none))
+
+-- what begins with a byte that opens nothing longer
+
+or-parts : (a b : Bool) → (a || b) ≡ false → (a ≡ false) × (b ≡ false)
+or-parts true b h = cc
+or-parts false b h = (refl, h)
+
+some-inside : (text : List Cell) (b : ℕ) → byte_at 0 text ≡ Some b → 0 < length text
+some-inside [] b h = cc
+some-inside (c ∷ cs) b h = omega arith
+
+closed-kind : (inc : IncludeState) (b : ℕ) (next : Option ℕ) → is_opener b ≡ false →
+    kind_by inc (Some b) next ≡ (if is_white b then token_kind.White else if is_word_byte b then token_kind.Word else token_kind.Other)
+closed-kind inc b next h =
+    let less = or-parts _ (b == less_sign) h in
+    let apostrophes = or-parts _ (b == apostrophe) less.0 in
+    let quotes = or-parts _ (b == double_quote) apostrophes.0 in
+    let slashes = or-parts (b == at_sign) (b == slash) quotes.0 in
+    rw (slashes.0, slashes.1, quotes.1, apostrophes.1, less.1) refl
+
+pub simple-is : (text : List Cell) (b : ℕ) → byte_at 0 text ≡ Some b → IfSome (simple_of b) (λ simple. IsSimple text simple)
+simple-is text b is = by (is_opener b) refl (is_white b) refl (is_word_byte b) refl
+  where
+    kind : (s : Simple) → is_opener b ≡ false → (if is_white b then token_kind.White else if is_word_byte b then token_kind.Word else token_kind.Other) ≡ simple_kind s → IsSimple text s
+    kind s closed k = record {
+      inside = some-inside text b is;
+      token_kind = λ inc. ap (λ x. kind_by inc x (byte_at 1 text)) is ∙ (closed-kind inc b (byte_at 1 text) closed ∙ k);
+      byte = λ other. rw is refl;
+    }
+
+    by : (o : Bool) → is_opener b ≡ o → (w : Bool) → is_white b ≡ w → (d : Bool) → is_word_byte b ≡ d → IfSome (simple_of b) (λ simple. IsSimple text simple)
+    by true o w e d f = rw o tt
+    by false o true e d f = rw (o, e) (kind simple.White o (rw e refl))
+    by false o false e true f = rw (o, e, f) (kind simple.Word o (rw (e, f) refl))
+    by false o false e false f = rw (o, e, f) (kind simple.Sign o (rw (e, f) refl))

@@ -1,0 +1,19 @@
+use Rattle.std.proofs.Common.{ap, ◌∙◌}
+use Rattle.tangle_lexer.specs.declared.regions.Region.TheVariants as region
+use Rattle.tangle_lexer.specs.Text.{line_at}
+use Rattle.tangle_lexer.specs.Regions.{region_end}
+use Rattle.tangle_lexer.specs.Comments.{has_end_code}
+use Rattle.tangle_lexer.proofs.lemmas.NameLemmas.{name_end-is, behind-is}
+use Rattle.tangle_lexer.proofs.names.read_name.Goals as goal
+
+pub returns-clause-end : goal.returns-clause-end
+returns-clause-end c =
+    c.line-end.ensures ∙ ap (line_at c.args.last) (name_end-is c.args.ahead.now _ (c.in_ok-text.ensures.ahead ∙ ap (region_end region.Name) c.pass.ensures))
+
+pub returns-clause-is_ended : goal.returns-clause-is_ended
+returns-clause-is_ended c =
+    c.pass_end_code-is_ended.ensures.is_there ∙ ap has_end_code (name_end-is c.args.ahead.now _ (c.in_ok-text.ensures.ahead ∙ ap (region_end region.Name) c.pass.ensures))
+
+pub returns-clause-ahead : goal.returns-clause-ahead
+returns-clause-ahead c =
+    behind-is c.args.ahead.now _ _ (name_end-is c.args.ahead.now _ (c.in_ok-text.ensures.ahead ∙ ap (region_end region.Name) c.pass.ensures)) c.pass_end_code-is_ended.ensures.ahead

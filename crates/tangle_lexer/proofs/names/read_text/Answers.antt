@@ -1,0 +1,35 @@
+use Rattle.std.proofs.Common.{◌++◌, drop, ap, sym, ◌∙◌, append-nil}
+use Rattle.tangle_lexer.specs.declared.regions.Region.TheVariants as region
+use Rattle.tangle_lexer.specs.Regions.{region_end, from_units, more_by}
+use Rattle.tangle_lexer.specs.Names.{with_single_spaces, has_begun, name_bytes}
+use Rattle.tangle_lexer.proofs.lemmas.RegionLemmas.{unit_at-front, region_end-nothing, region_end-stop, region_end-go}
+use Rattle.tangle_lexer.proofs.lemmas.LexemeLemmas.{from_units-go, from_units-stop}
+use Rattle.tangle_lexer.proofs.names.read_text.Goals as goal
+
+pub returns-in-Stop-clause-text : goal.returns-in-Stop-clause-text
+returns-in-Stop-clause-text c =
+    let here = unit_at-front region.Name c.loop-front.ahead c.in-Some.front _ c.in-Some.ensures.front c.unit_of-unit.ensures in
+    let none = from_units-stop name_bytes region.Name c.loop-front.ahead (here ∙ c.in-Stop.is) in
+    sym (append-nil c.loop-front.name.items) ∙ rw none at c.loop-front.invariant.name
+
+pub returns-in-Stop-clause-ahead : goal.returns-in-Stop-clause-ahead
+returns-in-Stop-clause-ahead c =
+    let here = unit_at-front region.Name c.loop-front.ahead c.in-Some.front _ c.in-Some.ensures.front c.unit_of-unit.ensures in
+    sym (region_end-stop region.Name c.loop-front.ahead (here ∙ c.in-Stop.is)) ∙ c.loop-front.invariant.end
+
+pub loop-front-preserved : goal.loop-front-preserved
+loop-front-preserved c =
+    let front = c.in-Some.ensures.front in
+    let here = unit_at-front region.Name c.loop-front.ahead c.in-Some.front _ front c.unit_of-unit.ensures in
+    let given = from_units-go name_bytes region.Name 0 c.loop-front.ahead c.unit_of-unit.result front.inside here c.in_default-unit.not-Stop in
+    record {
+      end = ap (region_end region.Name) c.pass.ensures ∙ (sym (region_end-go region.Name c.loop-front.ahead c.unit_of-unit.result here c.in_default-unit.not-Stop) ∙ c.loop-front.invariant.end);
+      name =
+          let unit = rw (front.byte, front.next) at given in
+          rw c.pass.ensures (c.in_ok-white.ensures (from_units name_bytes region.Name 0 (drop (more_by c.unit_of-unit.result) (drop 1 c.loop-front.ahead)))
+          ∙ (ap (λ bs. c.loop-front.name.items ++ with_single_spaces (has_begun c.loop-front.name.items) c.loop-front.white bs) (sym unit) ∙ c.loop-front.invariant.name));
+    }
+
+pub returns-clause-ahead : goal.returns-clause-ahead
+returns-clause-ahead c =
+    c.in_default.ensures.end ∙ (sym (region_end-nothing region.Name) ∙ (sym (ap (region_end region.Name) c.in_default.ensures.end) ∙ c.loop-front.invariant.end))

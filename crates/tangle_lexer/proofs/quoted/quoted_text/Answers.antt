@@ -1,0 +1,18 @@
+use Rattle.std.proofs.Common.{refl, ap, ◌∙◌, drop}
+use Rattle.tangle_lexer.specs.Bytes.{holds}
+use Rattle.tangle_lexer.specs.Text.{byte_at}
+use Rattle.tangle_lexer.specs.Regions.{region_end}
+use Rattle.tangle_lexer.specs.Quoted.{one_if, quote_end}
+use Rattle.tangle_lexer.proofs.lemmas.CutLemmas.{drop-end}
+use Rattle.tangle_lexer.proofs.quoted.quoted_text.Goals as goal
+
+pub returns : goal.returns
+returns c =
+    let ends = quote_end c.args.region c.args.close c.args.state.last in
+    let end = c.in_ok-start.ensures.ahead ∙ ap (region_end c.args.region) c.advance.ensures in
+    record {
+      tokens = rw (c.in_ok-end_quote.ensures.tokens, c.in_ok-start.ensures.tokens ends, c.advance.ensures, c.column-opening.ensures.column) refl;
+      ahead = c.in_ok-end_quote.ensures.ahead ∙ (ap (λ t. drop (one_if (holds c.args.close (byte_at 0 t))) t) end
+          ∙ drop-end c.args.region (drop 1 c.args.ahead.now) (λ t. holds c.args.close (byte_at 0 t)));
+      state = refl;
+    }

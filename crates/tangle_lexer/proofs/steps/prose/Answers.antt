@@ -1,0 +1,9 @@
+use Rattle.std.proofs.Common.{drop, ap, ◌∙◌}
+use Rattle.tangle_lexer.specs.declared.regions.Region.TheVariants as region
+use Rattle.tangle_lexer.specs.Regions.{region_end}
+use Rattle.tangle_lexer.proofs.lemmas.RegionLemmas.{region_end-is}
+use Rattle.tangle_lexer.proofs.steps.prose.Goals as goal
+
+pub returns : goal.returns
+returns c =
+    c.skip_prose.ensures ∙ (ap (region_end region.Prose) c.advance.ensures ∙ region_end-is region.Prose (drop 1 c.args.ahead.now))

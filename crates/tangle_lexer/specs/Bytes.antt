@@ -1,0 +1,108 @@
+-- Bytes and their classes. A cell of the text holds a byte, or none where a line ends.
+use Rattle.std.specs.Prelude.{ℕ, ◌+◌, Bool, true, false, ◌==◌, nat_le, ◌&&◌, ◌||◌, if◌then◌else◌, Option, Some, None}
+use Rattle.tangle_lines.specs.Bytes.{is_white}
+
+-- the bytes with a meaning of their own
+
+abbrev pub double_quote : ℕ
+double_quote = 34
+
+abbrev pub number_sign : ℕ
+number_sign = 35
+
+abbrev pub apostrophe : ℕ
+apostrophe = 39
+
+abbrev pub left_parenthesis : ℕ
+left_parenthesis = 40
+
+abbrev pub asterisk : ℕ
+asterisk = 42
+
+abbrev pub plus_sign : ℕ
+plus_sign = 43
+
+abbrev pub slash : ℕ
+slash = 47
+
+abbrev pub less_sign : ℕ
+less_sign = 60
+
+abbrev pub equals_sign : ℕ
+equals_sign = 61
+
+abbrev pub greater_sign : ℕ
+greater_sign = 62
+
+abbrev pub at_sign : ℕ
+at_sign = 64
+
+abbrev pub backslash : ℕ
+backslash = 92
+
+-- classes of bytes
+
+abbrev pub is_between : ℕ → ℕ → ℕ → Bool
+is_between low high b = nat_le low b && nat_le b high
+
+abbrev pub is_digit : ℕ → Bool
+is_digit b = is_between 48 57 b
+
+-- a letter, a digit, _, $ or a byte past 127
+abbrev pub is_word_byte : ℕ → Bool
+is_word_byte b =
+    is_between 97 122 b || is_between 65 90 b || is_digit b || b == 95 || b == 36 || is_between 128 255 b
+
+-- a capital letter counts as the small one
+abbrev pub lower : ℕ → ℕ
+lower b = if is_between 65 90 b then b + 32 else b
+
+-- classes of cells, by the byte that they hold
+
+-- this byte
+abbrev pub holds : ℕ → Option ℕ → Bool
+holds wanted None = false
+holds wanted (Some b) = b == wanted
+
+-- a line end
+abbrev pub is_line_end : Option ℕ → Bool
+is_line_end None = true
+is_line_end (Some b) = false
+
+-- white space
+abbrev pub is_space : Option ℕ → Bool
+is_space None = false
+is_space (Some b) = is_white b
+
+-- white space or a line end
+abbrev pub is_blank : Option ℕ → Bool
+is_blank None = true
+is_blank (Some b) = is_white b
+
+-- a word byte
+abbrev pub is_word : Option ℕ → Bool
+is_word None = false
+is_word (Some b) = is_word_byte b
+
+-- an octal digit
+abbrev pub is_octal : Option ℕ → Bool
+is_octal None = false
+is_octal (Some b) = is_between 48 55 b
+
+-- two cells, one after the other
+
+-- these two bytes
+abbrev pub are : ℕ → ℕ → Option ℕ → Option ℕ → Bool
+are first second b next = holds first b && holds second next
+
+-- @ before white space or a line end, and @*
+abbrev pub is_section_start : Option ℕ → Option ℕ → Bool
+is_section_start b next = holds at_sign b && (is_blank next || holds asterisk next)
+
+-- @< and @(
+abbrev pub is_name_start : Option ℕ → Option ℕ → Bool
+is_name_start b next = holds at_sign b && (holds less_sign next || holds left_parenthesis next)
+
+-- @>
+abbrev pub is_end_code : Option ℕ → Option ℕ → Bool
+is_end_code b next = are at_sign greater_sign b next

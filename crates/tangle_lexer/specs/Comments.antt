@@ -1,0 +1,59 @@
+-- Comments and control texts, which are white space.
+use Rattle.std.specs.Prelude.{ℕ, ◌+◌, Bool, not, List, [], drop, if◌then◌else◌, Option}
+use Rattle.tangle_lines.specs.declared.faults.FaultKind.TheVariants as fault
+use Rattle.tangle_lexer.specs.declared.regions.Region.{Region}
+use Rattle.tangle_lexer.specs.declared.regions.Region.TheVariants as region
+use Rattle.tangle_lexer.specs.declared.regions.Unit.{Unit as Unit-of}
+use Rattle.tangle_lexer.specs.declared.modes.ScanState.{ScanState}
+use Rattle.tangle_lexer.specs.declared.tokens.Token.{Token}
+use Rattle.tangle_lexer.specs.Bytes.{asterisk, slash, are, is_section_start, is_end_code}
+use Rattle.tangle_lexer.specs.Text.{Cell, byte_at, line_at}
+use Rattle.tangle_lexer.specs.Regions.{count_before, from_units}
+use Rattle.tangle_lexer.specs.Lexemes.{Lexeme, white_lexeme, fault_if, line_end_by}
+
+-- the line end that a unit is
+abbrev pub unit_line_end : Unit-of → Cell → Option ℕ → List Token
+unit_line_end u c next = line_end_by c.byte c.line
+
+-- the line ends in a region
+abbrev pub line_ends : Region → List Cell → List Token
+line_ends r text = from_units unit_line_end r 0 text
+
+-- */ stands at the front
+abbrev pub ends_comment : List Cell → Bool
+ends_comment text = are asterisk slash (byte_at 0 text) (byte_at 1 text)
+
+-- @> stands at the front
+abbrev pub has_end_code : List Cell → Bool
+has_end_code text = is_end_code (byte_at 0 text) (byte_at 1 text)
+
+-- a section start stands at the front
+abbrev pub starts_section : List Cell → Bool
+starts_section text = is_section_start (byte_at 0 text) (byte_at 1 text)
+
+-- two more cells if the end stands there
+abbrev pub two_if : Bool → ℕ
+two_if b = if b then 2 else 0
+
+-- /* up to */; a section start or the end of the source before that is a fault
+abbrev pub block_comment : ScanState → List Cell → Lexeme
+block_comment s text =
+    let inside : ℕ = count_before region.Comment 0 (drop 2 text) in
+    let behind : List Cell = drop inside (drop 2 text) in
+    white_lexeme (line_ends region.Comment (drop 2 text)) (fault_if (not (ends_comment behind)) fault.CommentEnd (line_at s.last behind))
+    (1 + inside + two_if (ends_comment behind)) s
+
+-- // up to the line end, which is no part of it; a section start before that is a fault
+abbrev pub line_comment : ScanState → List Cell → Lexeme
+line_comment s text =
+    let inside : ℕ = count_before region.LineComment 0 (drop 2 text) in
+    let behind : List Cell = drop inside (drop 2 text) in
+    white_lexeme [] (fault_if (starts_section behind) fault.CommentEnd (line_at s.last behind)) (1 + inside) s
+
+-- @^, @., @:, @t, @q up to @>; another code but @@, or the end of the source, before that is a fault
+abbrev pub control_text : ScanState → List Cell → Lexeme
+control_text s text =
+    let inside : ℕ = count_before region.ControlText 0 (drop 2 text) in
+    let behind : List Cell = drop inside (drop 2 text) in
+    white_lexeme (line_ends region.ControlText (drop 2 text)) (fault_if (not (has_end_code behind)) fault.ControlText (line_at s.last behind))
+    (1 + inside + two_if (has_end_code behind)) s

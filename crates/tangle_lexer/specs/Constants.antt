@@ -1,0 +1,82 @@
+-- ASCII constants: the value of a character, and how many cells it has.
+use Rattle.std.specs.Prelude.{ℕ, ◌+◌, ◌-◌, ◌*◌, ◌==◌, nat_le, not, ◌||◌, List, [], ◌∷◌, drop, if◌then◌else◌, Option, Some, None, unwrap_or}
+use Rattle.tangle_lexer.specs.declared.constants.Constant.{Constant}
+use Rattle.tangle_lines.specs.declared.faults.FaultKind.TheVariants as fault
+use Rattle.tangle_lexer.specs.declared.regions.Region.TheVariants as region
+use Rattle.tangle_lexer.specs.declared.modes.ScanState.{ScanState}
+use Rattle.tangle_lexer.specs.declared.tokens.Token.TheVariants as token
+use Rattle.tangle_lexer.specs.Bytes.{at_sign, backslash, apostrophe, double_quote, holds, is_octal}
+use Rattle.tangle_lexer.specs.Text.{Cell, byte_at, line_at}
+use Rattle.tangle_lexer.specs.Regions.{count_before}
+use Rattle.tangle_lexer.specs.Quoted.{one_if}
+use Rattle.tangle_lexer.specs.Lexemes.{Lexeme, lexeme_of, elsewhere, white_lexeme}
+
+-- a backslash and this byte
+abbrev pub escape_of : ℕ → Option ℕ
+escape_of b =
+    if b == 97 then Some 7 else  -- \a
+    if b == 98 then Some 8 else  -- \b
+    if b == 116 then Some 9 else  -- \t
+    if b == 110 then Some 10 else  -- \n
+    if b == 118 then Some 11 else  -- \v
+    if b == 102 then Some 12 else  -- \f
+    if b == 114 then Some 13 else  -- \r
+    if b == double_quote || b == apostrophe || b == 63 || b == backslash then Some b else None
+
+abbrev pub escape_value : Option ℕ → Option ℕ
+escape_value None = None
+escape_value (Some b) = escape_of b
+
+-- a character of so many cells with this value is a constant where an apostrophe follows it
+abbrev pub if_closed : Option ℕ → ℕ → List Cell → Option Constant
+if_closed None count text = None
+if_closed (Some value) count text =
+    if holds apostrophe (byte_at count text) then Some (record { value = value; count = count }) else None
+
+-- the octal digit at a distance
+abbrev pub digit_at : ℕ → List Cell → ℕ
+digit_at k text = unwrap_or (byte_at k text) 48 - 48
+
+-- a value that fits a byte
+abbrev pub if_byte : ℕ → ℕ → List Cell → Option Constant
+if_byte value count text = if_closed (if nat_le value 255 then Some value else None) count text
+
+-- a backslash at the front and one to three octal digits, as many as there are, with a value of at most 255
+abbrev pub octal_constant : List Cell → Option Constant
+octal_constant text =
+    if not (is_octal (byte_at 2 text)) then if_byte (digit_at 1 text) 2 text else
+    if not (is_octal (byte_at 3 text)) then if_byte (8 * digit_at 1 text + digit_at 2 text) 3 text
+    else if_byte (64 * digit_at 1 text + 8 * digit_at 2 text + digit_at 3 text) 4 text
+
+-- a backslash at the front
+abbrev pub escaped_constant : List Cell → Option Constant
+escaped_constant text =
+    if is_octal (byte_at 1 text) then octal_constant text else if_closed (escape_value (byte_at 1 text)) 2 text
+
+-- @@, a backslash with what it escapes, or any other byte but an apostrophe
+abbrev pub constant_by : Option ℕ → List Cell → Option Constant
+constant_by None text = None
+constant_by (Some b) text =
+    if b == at_sign then if_closed (if holds at_sign (byte_at 1 text) then Some at_sign else None) 2 text else
+    if b == backslash then escaped_constant text else
+    if b == apostrophe then None else if_closed (Some b) 1 text
+
+-- the constant behind @'
+abbrev pub constant_at : List Cell → Option Constant
+constant_at text = constant_by (byte_at 0 text) text
+
+-- What is no constant is white space up to and with the first apostrophe of the line, or up to its end.
+abbrev pub bad_constant : ScanState → List Cell → Lexeme
+bad_constant s text =
+    let inside : ℕ = count_before region.BadConstant 0 (drop 2 text) in
+    white_lexeme [] (token.Fault fault.AsciiBad (line_at s.last text) ∷ [])
+    (1 + inside + one_if (holds apostrophe (byte_at 0 (drop inside (drop 2 text))))) s
+
+abbrev pub constant_lexeme : Option Constant → ScanState → List Cell → Lexeme
+constant_lexeme None s text = bad_constant s text
+constant_lexeme (Some constant) s text =
+    lexeme_of (token.Constant constant.value (line_at s.last text) ∷ []) (2 + constant.count) (elsewhere s)
+
+-- @'
+abbrev pub ascii_constant : ScanState → List Cell → Lexeme
+ascii_constant s text = constant_lexeme (constant_at (drop 2 text)) s text

@@ -1,0 +1,26 @@
+-- Heads among tokens.
+use Rattle.std.specs.Prelude.{◌≡◌, ◌⊎◌, Bool, true, false, List, [], ◌∷◌, ◌++◌, Option, None, Some}
+use Rattle.std.specs.List.{list_any}
+use Rattle.tangle_lexer.specs.declared.tokens.Token.{Token}
+use Rattle.tangle_lexer.specs.declared.tokens.Token.TheVariants as token
+
+-- what begins a section, a macro or a C part, and so ends what came before
+abbrev pub is_head : Token → Bool
+is_head token.Section = true
+is_head (token.MacroStart line) = true
+is_head (token.UnnamedPart line) = true
+is_head (token.NamedPart name line) = true
+is_head _ = false
+
+-- no head stands among these tokens
+abbrev pub HasNoHead : List Token → Type 0
+HasNoHead es = list_any is_head es ≡ false
+
+-- a head stands alone
+abbrev pub IsHeadAlone : List Token → Type 0
+IsHeadAlone es = HasNoHead es ⊎ ((head : Token) × (es ≡ head ∷ []) × (is_head head ≡ true))
+
+-- the last token was taken off if it was a head, and nothing else
+abbrev pub PopsHead : List Token → List Token → Option Token → Type 0
+PopsHead old new None = (new ≡ old) × ((es : List Token) (head : Token) → old ≡ es ++ head ∷ [] → is_head head ≡ false)
+PopsHead old new (Some head) = (old ≡ new ++ head ∷ []) × (is_head head ≡ true)

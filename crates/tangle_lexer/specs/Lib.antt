@@ -1,0 +1,13 @@
+pub mod Bytes
+pub mod Text
+pub mod Ahead
+pub mod Regions
+pub mod Lexemes
+pub mod Comments
+pub mod Quoted
+pub mod Constants
+pub mod Names
+pub mod Occurrences
+pub mod Steps
+pub mod Heads
+pub mod Simple

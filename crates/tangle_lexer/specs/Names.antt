@@ -1,0 +1,158 @@
+-- Section names: @< or @( up to @>, also over lines.
+use Rattle.std.specs.Prelude.{ℕ, ◌+◌, ◌-◌, Bool, false, true, not, ◌&&◌, ◌||◌, List, [], ◌∷◌, ◌++◌, length, nat_lt, drop, if◌then◌else◌, Option, Some, None, unwrap_or, codes}
+use Rattle.std.specs.Str.{bytes_eq}
+use Rattle.tangle_lines.specs.Bytes.{is_white}
+use Rattle.tangle_lines.specs.declared.faults.FaultKind.TheVariants as fault
+use Rattle.tangle_lexer.specs.declared.occurrences.OccurrenceRole.{OccurrenceRole}
+use Rattle.tangle_lexer.specs.declared.occurrences.OccurrenceRole.TheVariants as role
+use Rattle.tangle_lexer.specs.declared.names.Equals.{Equals}
+use Rattle.tangle_lexer.specs.declared.names.Equals.TheVariants as equals
+use Rattle.tangle_lexer.specs.declared.regions.Region.TheVariants as region
+use Rattle.tangle_lexer.specs.declared.regions.Unit.{Unit as Unit-of}
+use Rattle.tangle_lexer.specs.declared.regions.Unit.TheVariants as unit
+use Rattle.tangle_lexer.specs.declared.modes.Mode.TheVariants as mode
+use Rattle.tangle_lexer.specs.declared.modes.ScanState.{ScanState}
+use Rattle.tangle_lexer.specs.declared.tokens.Token.{Token}
+use Rattle.tangle_lexer.specs.declared.tokens.Token.TheVariants as token
+use Rattle.tangle_lexer.specs.Bytes.{at_sign, left_parenthesis, plus_sign, equals_sign, holds}
+use Rattle.tangle_lexer.specs.Text.{Cell, byte_at, line_at}
+use Rattle.tangle_lexer.specs.Regions.{count_before, from_units}
+use Rattle.tangle_lexer.specs.Lexemes.{NameRead, Lexeme, fault_if, in_mode, elsewhere}
+use Rattle.tangle_lexer.specs.Comments.{has_end_code, two_if}
+
+-- the text of a name
+
+-- a line end in a name is a space
+abbrev pub name_byte : Option ℕ → ℕ
+name_byte b = unwrap_or b 32
+
+-- @@ is @, and other codes are kept as two bytes
+abbrev pub unit_name_bytes : Unit-of → Option ℕ → Option ℕ → List ℕ
+unit_name_bytes unit.Two b next = if holds at_sign next then at_sign ∷ [] else at_sign ∷ name_byte next ∷ []
+unit_name_bytes _ b next = name_byte b ∷ []
+
+abbrev pub name_bytes : Unit-of → Cell → Option ℕ → List ℕ
+name_bytes u c next = unit_name_bytes u c.byte next
+
+-- A byte that isn't white space is put out, behind a space where white space stands between it and a byte before. The flags say whether
+-- such a byte stands before, and whether white space stands directly before.
+abbrev pub with_single_spaces : Bool → Bool → List ℕ → List ℕ
+with_single_spaces begun white [] = []
+with_single_spaces begun white (b ∷ bs) =
+    (if is_white b then [] else if begun && white then 32 ∷ b ∷ [] else b ∷ []) ++ with_single_spaces (begun || not (is_white b)) (is_white b) bs
+
+-- something was put out already
+abbrev pub has_begun : List ℕ → Bool
+has_begun name = nat_lt 0 (length name)
+
+-- White space at both ends is dropped, and inner runs become one space.
+abbrev pub normal_form : List ℕ → List ℕ
+normal_form bytes = with_single_spaces false false bytes
+
+-- the text of the name that is read from here on
+abbrev pub name_text : List Cell → List ℕ
+name_text text = normal_form (from_units name_bytes region.Name 0 text)
+
+abbrev pub dots : List ℕ
+dots = codes "..."
+
+-- a name that ends in three dots is an abbreviation
+abbrev pub is_abbreviation : List ℕ → Bool
+is_abbreviation text = bytes_eq (drop (length text - 3) text) dots
+
+-- where a name ends
+
+-- how many cells stand between the opening of the name at the front and its end
+abbrev pub name_count : List Cell → ℕ
+name_count text = count_before region.Name 0 (drop 2 text)
+
+-- the text from the end of the name on: @> stands there, or what cuts the name off
+abbrev pub name_end : List Cell → List Cell
+name_end text = drop (name_count text) (drop 2 text)
+
+abbrev pub is_ended : List Cell → Bool
+is_ended text = has_end_code (name_end text)
+
+-- how many cells the name at the front has after its first, @> with them
+abbrev pub name_more : List Cell → ℕ
+name_more text = 1 + name_count text + two_if (is_ended text)
+
+-- the text behind the name
+abbrev pub behind_name : List Cell → List Cell
+behind_name text = drop (name_more text) (drop 1 text)
+
+abbrev pub name_faults : ℕ → List Cell → List Token
+name_faults last text = fault_if (not (is_ended text)) fault.NameEnd (line_at last (name_end text))
+
+-- what makes a name the head of a definition
+
+-- how many cells stand before the equals sign: white space, + and white space
+abbrev pub count_before_equals : List Cell → ℕ
+count_before_equals text =
+    let first : ℕ = count_before region.White 0 text in
+    if holds plus_sign (byte_at first text) then first + 1 + count_before region.White 0 (drop (first + 1) text) else first
+
+-- no equals sign, one = alone, or ==, by two cells
+abbrev pub equals_by : Option ℕ → Option ℕ → Equals
+equals_by b next = if holds equals_sign b then (if holds equals_sign next then equals.Double else equals.Single) else equals.Absent
+
+abbrev pub equals_in : List Cell → Equals
+equals_in text = equals_by (byte_at (count_before_equals text) text) (byte_at (count_before_equals text + 1) text)
+
+-- how many cells there are up to the end of the equals sign, if there is one
+abbrev pub count_through : Equals → ℕ → Option ℕ
+count_through equals.Absent before = None
+count_through equals.Single before = Some (before + 1)
+count_through equals.Double before = Some (before + 2)
+
+abbrev pub equals_count : List Cell → Option ℕ
+equals_count text = count_through (equals_in text) (count_before_equals text)
+
+abbrev pub is_single : Equals → Bool
+is_single equals.Single = true
+is_single _ = false
+
+-- one = alone
+abbrev pub has_single_equals : List Cell → Bool
+has_single_equals text = is_single (equals_in text)
+
+-- only behind @> is a name a head
+abbrev pub head_count : List Cell → Option ℕ
+head_count text = if is_ended text then equals_count (behind_name text) else None
+
+-- the lexemes of names
+
+abbrev pub name_read : OccurrenceRole → ℕ → List Cell → NameRead
+name_read role last text = record {
+  text = name_text (drop 2 text);
+  is_file = holds left_parenthesis (byte_at 1 text);
+  role = role;
+  line = line_at last text;
+}
+
+-- the next name
+abbrev pub name_lexeme : OccurrenceRole → List Token → ℕ → ScanState → List Cell → Lexeme
+name_lexeme role tokens more after text = record {
+  tokens = tokens;
+  name = Some (name_read role after.last text);
+  more = more;
+  after = record after { names = after.names + 1 };
+}
+
+-- In C text a name is a use, also where it looks like the head of a definition, which is a fault. The use ends on the line of the name's end.
+abbrev pub use_of_name : ScanState → List Cell → Lexeme
+use_of_name s text =
+    name_lexeme role.Use
+    (token.UseOf s.names (line_at s.last (name_end text))
+    ∷ name_faults s.last text ++ fault_if (has_single_equals (behind_name text)) fault.NameEquals (line_at s.last text))
+    (name_more text) (elsewhere s) text
+
+-- In documentation a name is a mention, or with a head, which has so many cells more, a definition: a C part of that name begins.
+abbrev pub head_or_mention : Option ℕ → ScanState → List Cell → Lexeme
+head_or_mention None s text = name_lexeme role.Mention (name_faults s.last text) (name_more text) s text
+head_or_mention (Some count) s text =
+    name_lexeme role.Definition (token.NamedPart s.names (line_at s.last (drop (name_more text + count) text)) ∷ [])
+    (name_more text + count) (in_mode mode.Code s) text
+
+abbrev pub name_in_documentation : ScanState → List Cell → Lexeme
+name_in_documentation s text = head_or_mention (head_count text) s text

@@ -1,0 +1,29 @@
+-- The occurrences of section names.
+use Rattle.std.specs.Prelude.{ℕ, Bool, List, get_or}
+use Rattle.tangle_lines.specs.declared.faults.Origin.{Origin}
+use Rattle.tangle_lines.specs.Reading.{Line, no_line}
+use Rattle.tangle_lexer.specs.declared.occurrences.OccurrenceRole.{OccurrenceRole}
+use Rattle.tangle_lexer.specs.Lexemes.{NameRead}
+use Rattle.tangle_lexer.specs.Names.{is_abbreviation}
+
+-- an occurrence of a section name: its text, an abbreviation's with its dots; whether it is abbreviated; whether it is opened by @(
+pub record OccurrenceRead : Type 0 where
+  pub text : List ℕ
+  pub is_abbreviation : Bool
+  pub is_file : Bool
+  pub role : OccurrenceRole
+  pub place : Origin
+
+-- the place of a source line
+abbrev pub place_at : List Line → ℕ → Origin
+place_at lines number = (get_or lines number no_line).place
+
+-- the occurrence that a name is which was read
+abbrev pub occurrence_of : List Line → NameRead → OccurrenceRead
+occurrence_of lines n = record {
+  text = n.text;
+  is_abbreviation = is_abbreviation n.text;
+  is_file = n.is_file;
+  role = n.role;
+  place = place_at lines n.line;
+}

@@ -1,0 +1,225 @@
+-- The four modes: what begins at a place, and what is read there.
+use Rattle.std.specs.Prelude.{ℕ, zero, suc, ◌+◌, ◌-◌, Bool, ◌==◌, ◌&&◌, ◌||◌, List, [], ◌∷◌, length, flat_map, take, drop, if◌then◌else◌, Option, Some, None, option_to_list, codes}
+use Rattle.std.specs.Str.{bytes_eq}
+use Rattle.tangle_lines.specs.Bytes.{is_white}
+use Rattle.tangle_lines.specs.Reading.{Line}
+use Rattle.tangle_lines.specs.declared.faults.FaultKind.TheVariants as fault
+use Rattle.tangle_lexer.specs.declared.regions.Region.TheVariants as region
+use Rattle.tangle_lexer.specs.declared.modes.Mode.{Mode}
+use Rattle.tangle_lexer.specs.declared.modes.Mode.TheVariants as mode
+use Rattle.tangle_lexer.specs.declared.modes.IncludeState.{IncludeState}
+use Rattle.tangle_lexer.specs.declared.modes.IncludeState.TheVariants as include
+use Rattle.tangle_lexer.specs.declared.modes.ScanState.{ScanState}
+use Rattle.tangle_lexer.specs.declared.token_kinds.ControlCode.{ControlCode}
+use Rattle.tangle_lexer.specs.declared.token_kinds.ControlCode.TheVariants as code
+use Rattle.tangle_lexer.specs.declared.token_kinds.TokenKind.{TokenKind}
+use Rattle.tangle_lexer.specs.declared.token_kinds.TokenKind.TheVariants as token_kind
+use Rattle.tangle_lexer.specs.declared.tokens.Token.{Token}
+use Rattle.tangle_lexer.specs.declared.tokens.TextKind.TheVariants as text_kind
+use Rattle.tangle_lexer.specs.declared.tokens.Token.TheVariants as token
+use Rattle.tangle_lexer.specs.Bytes.{at_sign, asterisk, slash, less_sign, left_parenthesis, equals_sign, greater_sign, number_sign, double_quote, apostrophe, holds, is_word_byte, lower}
+use Rattle.tangle_lexer.specs.Text.{Cell, byte_at, bytes_of, line_at, span_at, text_from}
+use Rattle.tangle_lexer.specs.Regions.{count_before}
+use Rattle.tangle_lexer.specs.Lexemes.{NameRead, Lexeme, lexeme_of, in_mode, with_include, elsewhere, white_lexeme}
+use Rattle.tangle_lexer.specs.Comments.{block_comment, line_comment, control_text, starts_section}
+use Rattle.tangle_lexer.specs.Quoted.{quoted_text, verbatim_text}
+use Rattle.tangle_lexer.specs.Constants.{ascii_constant}
+use Rattle.tangle_lexer.specs.Names.{use_of_name, name_in_documentation}
+
+-- what begins at a place
+
+-- which code @ and this byte are
+abbrev pub code_of : ℕ → ControlCode
+code_of b =
+    if is_white b || b == asterisk then code.SectionStart else
+    if b == at_sign then code.DoubleAt else
+    if b == 100 then code.Macro else  -- @d
+    if b == 102 || b == 115 then code.Format else  -- @f @s
+    if b == 99 || b == 112 then code.UnnamedPart else  -- @c @p
+    if b == less_sign || b == left_parenthesis then code.Name else  -- @< @(
+    if b == 94 || b == 46 || b == 58 || b == 116 || b == 113 then code.ControlText else  -- @^ @. @: @t @q
+    if b == equals_sign then code.Verbatim else  -- @=
+    if b == 38 then code.Join else  -- @&
+    if b == 104 then code.Defs else  -- @h
+    if b == apostrophe then code.Constant else code.Other  -- @'
+
+-- a capital letter counts as the small one
+abbrev pub code_at : Option ℕ → ControlCode
+code_at None = code.SectionStart
+code_at (Some b) = code_of (lower b)
+
+-- < opens a quoted text only behind #include
+abbrev pub less_kind : IncludeState → TokenKind
+less_kind include.AfterInclude = token_kind.IncludeName
+less_kind _ = token_kind.Other
+
+-- what begins with this byte, which is no @, where that cell comes next
+abbrev pub byte_kind : IncludeState → ℕ → Option ℕ → TokenKind
+byte_kind inc b next =
+    if b == slash && holds asterisk next then token_kind.BlockComment else
+    if b == slash && holds slash next then token_kind.LineComment else
+    if b == double_quote then token_kind.DoubleQuote else
+    if b == apostrophe then token_kind.Apostrophe else
+    if b == less_sign then less_kind inc else
+    if is_white b then token_kind.White else
+    if is_word_byte b then token_kind.Word else token_kind.Other
+
+-- what begins where these two cells stand in C text
+abbrev pub kind_by : IncludeState → Option ℕ → Option ℕ → TokenKind
+kind_by inc None next = token_kind.LineEnd
+kind_by inc (Some b) next = if b == at_sign then token_kind.Control (code_at next) else byte_kind inc b next
+
+abbrev pub kind_of : IncludeState → List Cell → TokenKind
+kind_of inc text = kind_by inc (byte_at 0 text) (byte_at 1 text)
+
+-- words and signs
+
+-- a # that is the first thing on its line or in its part
+abbrev pub include_after_sign : Option ℕ → IncludeState → IncludeState
+include_after_sign b include.AtStart = if holds number_sign b then include.AfterSign else include.Elsewhere
+include_after_sign b _ = include.Elsewhere
+
+abbrev pub is_include_word : List ℕ → Bool
+is_include_word bytes = bytes_eq bytes (codes "include")
+
+-- the word include behind it
+abbrev pub include_after_word : Bool → IncludeState → IncludeState
+include_after_word is_include include.AfterSign = if is_include then include.AfterInclude else include.Elsewhere
+include_after_word is_include _ = include.Elsewhere
+
+-- how many cells a word has after its first
+abbrev pub word_more : List Cell → ℕ
+word_more text = count_before region.Word 0 (drop 1 text)
+
+-- word bytes, as many as there are
+abbrev pub word : ScanState → List Cell → Lexeme
+word s text =
+    lexeme_of (token.Text text_kind.Word (span_at (1 + word_more text) text) ∷ []) (word_more text)
+    (with_include (include_after_word (is_include_word (bytes_of (take (1 + word_more text) text))) s.include) s)
+
+-- white space, as much as there is
+abbrev pub white_space : ScanState → List Cell → Lexeme
+white_space s text = lexeme_of (token.White ∷ []) (count_before region.White 0 (drop 1 text)) s
+
+-- @d, @f, @s, @c and @p in C text: a fault and white space
+abbrev pub misplaced_code : ScanState → List Cell → Lexeme
+misplaced_code s text = white_lexeme [] (token.Fault fault.CodeInC (line_at s.last text) ∷ []) 1 s
+
+-- a section start: its @ is read; the byte behind it is passed over by the documentation, which begins there
+abbrev pub section_start : ScanState → Lexeme
+section_start s = lexeme_of (token.Section ∷ []) 0 (in_mode mode.Documentation s)
+
+-- text up to the next @ is passed over
+abbrev pub prose : ScanState → List Cell → Lexeme
+prose s text = lexeme_of [] (count_before region.Prose 0 (drop 1 text)) s
+
+-- Limbo. All is passed over up to the first section start, a code with its two bytes.
+abbrev pub limbo_lexeme : ScanState → List Cell → Lexeme
+limbo_lexeme s text =
+    if starts_section text then section_start s else
+    if holds at_sign (byte_at 0 text) then lexeme_of [] 1 s else prose s text
+
+-- Documentation, by the code that stands there.
+abbrev pub documentation_code : ControlCode → ScanState → List Cell → Lexeme
+documentation_code code.SectionStart s text = section_start s
+-- @d begins a macro
+documentation_code code.Macro s text = lexeme_of (token.MacroStart (line_at s.last text) ∷ []) 1 (in_mode mode.Macro s)
+-- @c and @p begin an unnamed C part
+documentation_code code.UnnamedPart s text = lexeme_of (token.UnnamedPart (line_at s.last text) ∷ []) 1 (in_mode mode.Code s)
+-- @< and @( begin a C part of that name where a head's = or == follows, and else mention it
+documentation_code code.Name s text = name_in_documentation s text
+-- all other codes are passed over
+documentation_code _ s text = lexeme_of [] 1 s
+
+abbrev pub documentation_lexeme : ScanState → List Cell → Lexeme
+documentation_lexeme s text =
+    if holds at_sign (byte_at 0 text) then documentation_code (code_at (byte_at 1 text)) s text else prose s text
+
+-- C text, by the code that stands there.
+abbrev pub c_code : ControlCode → ScanState → List Cell → Lexeme
+c_code code.SectionStart s text = section_start s
+-- @@ is the sign @
+c_code code.DoubleAt s text = lexeme_of (token.Text text_kind.Sign (span_at 1 text) ∷ []) 1 (elsewhere s)
+-- @d @f @s @c @p
+c_code code.Macro s text = misplaced_code s text
+c_code code.Format s text = misplaced_code s text
+c_code code.UnnamedPart s text = misplaced_code s text
+-- @< @(
+c_code code.Name s text = use_of_name s text
+-- @^ @. @: @t @q
+c_code code.ControlText s text = control_text s text
+-- @=
+c_code code.Verbatim s text = verbatim_text s text
+-- @&
+c_code code.Join s text = lexeme_of (token.Join ∷ []) 1 (elsewhere s)
+-- @h
+c_code code.Defs s text = lexeme_of (token.Defs (line_at s.last text) ∷ []) 1 (elsewhere s)
+-- @'
+c_code code.Constant s text = ascii_constant s text
+-- other codes are white space
+c_code code.Other s text = lexeme_of (token.White ∷ []) 1 s
+
+-- C text, by what begins there.
+abbrev pub c_lexeme : TokenKind → ScanState → List Cell → Lexeme
+c_lexeme (token_kind.Control code) s text = c_code code s text
+c_lexeme token_kind.BlockComment s text = block_comment s text
+c_lexeme token_kind.LineComment s text = line_comment s text
+c_lexeme token_kind.DoubleQuote s text = quoted_text region.DoubleQuote double_quote s text
+c_lexeme token_kind.Apostrophe s text = quoted_text region.Apostrophe apostrophe s text
+c_lexeme token_kind.IncludeName s text = quoted_text region.IncludeName greater_sign s text
+c_lexeme token_kind.LineEnd s text = lexeme_of (token.LineEnd (line_at s.last text) ∷ []) 0 (with_include include.AtStart s)
+c_lexeme token_kind.White s text = white_space s text
+c_lexeme token_kind.Word s text = word s text
+-- any other byte is a sign
+c_lexeme token_kind.Other s text =
+    lexeme_of (token.Text text_kind.Sign (span_at 1 text) ∷ []) 0 (with_include (include_after_sign (byte_at 0 text) s.include) s)
+
+-- A macro is read as C text, but for codes that end it and then act as in documentation.
+abbrev pub macro_code : ControlCode → ScanState → List Cell → Lexeme
+macro_code code.Macro s text = documentation_code code.Macro s text
+macro_code code.UnnamedPart s text = documentation_code code.UnnamedPart s text
+macro_code code.Name s text = documentation_code code.Name (in_mode mode.Documentation s) text
+-- @f and @s lead back to documentation
+macro_code code.Format s text = lexeme_of [] 1 (in_mode mode.Documentation s)
+-- @h is a fault and white space
+macro_code code.Defs s text = white_lexeme [] (token.Fault fault.MisplacedH (line_at s.last text) ∷ []) 1 s
+macro_code other s text = c_code other s text
+
+abbrev pub macro_lexeme : TokenKind → ScanState → List Cell → Lexeme
+macro_lexeme (token_kind.Control code) s text = macro_code code s text
+macro_lexeme other s text = c_lexeme other s text
+
+-- what stands at the front of the text in a mode
+abbrev pub lexeme_in : Mode → ScanState → List Cell → Lexeme
+lexeme_in mode.Limbo s text = limbo_lexeme s text
+lexeme_in mode.Documentation s text = documentation_lexeme s text
+lexeme_in mode.Code s text = c_lexeme (kind_of s.include text) s text
+lexeme_in mode.Macro s text = macro_lexeme (kind_of s.include text) s text
+
+unfoldable pub lexeme : ScanState → List Cell → Lexeme
+lexeme s text = lexeme_in s.mode s text
+
+-- All lexemes of a text: each begins where the one before ended. The number handed in is how many cells are still to be passed over.
+abbrev pub lexemes : ℕ → ScanState → List Cell → List Lexeme
+lexemes k s [] = []
+lexemes (suc k) s (c ∷ cs) = lexemes k s cs
+lexemes zero s (c ∷ cs) = let here : Lexeme = lexeme s (c ∷ cs) in here ∷ lexemes here.more here.after cs
+
+-- the tokens from a place on, where this is known
+unfoldable pub tokens_from : ScanState → List Cell → List Token
+tokens_from s text = flat_map (λ l. l.tokens) (lexemes 0 s text)
+
+-- the occurrences of names from a place on
+unfoldable pub names_from : ScanState → List Cell → List NameRead
+names_from s text = flat_map (λ l. option_to_list l.name) (lexemes 0 s text)
+
+-- what is known before the first line of a source with so many lines
+abbrev pub at_first : ℕ → ScanState
+at_first count = record { mode = mode.Limbo; include = include.AtStart; names = 0; last = count - 1 }
+
+-- the tokens and the occurrences of a whole source
+abbrev pub all_tokens : List Line → List Token
+all_tokens lines = tokens_from (at_first (length lines)) (text_from 0 lines)
+
+abbrev pub all_names : List Line → List NameRead
+all_names lines = names_from (at_first (length lines)) (text_from 0 lines)

@@ -1,0 +1,161 @@
+//! Comments and control texts, which are white space.
+ghost use Rattle.std.specs.Prelude.{◌≡◌, ◌++◌, true, drop, IfOk, OnOk, Option};
+ghost use Rattle.tangle_lexer.specs.Ahead.{IsRead};
+ghost use Rattle.tangle_lexer.specs.Text.{byte_at};
+ghost use Rattle.tangle_lexer.specs.Regions.{is_text, region_end};
+ghost use Rattle.tangle_lexer.specs.Lexemes.{line_end_by, include_over};
+ghost use Rattle.tangle_lexer.specs.Comments as spec;
+
+use crate::ahead::Reader;
+use crate::bytes::{holds, is_end_code, is_section_start};
+use crate::modes::{IncludeState, ScanState};
+use crate::regions::{Region, Unit, unit_of};
+use crate::tokens::Token;
+use std::alloc::AllocError;
+use tangle_lines::FaultKind;
+
+/// Puts out the line end that stands here, if one does. Behind it `#include` may begin.
+fn push_line_end(
+    tokens: &mut Vec<Token>,
+    include: IncludeState,
+    byte: Option<u8>,
+    line: u32,
+) -> Result<IncludeState, AllocError>
+    ensures tokens { OnOk result (tokens.new.items ≡ tokens.old.items ++ line_end_by byte line) }
+    ensures include { IfOk result (λ after. after ≡ include_over (line_end_by byte line) include) }
+{
+    if byte.is_some() {
+        return Ok(include);
+    }
+    tokens.push(Token::LineEnd(line))?;
+    Ok(IncludeState::AtStart)
+}
+
+/// Goes on to the end of a comment or a control text, and puts out its line ends.
+///
+/// Its line ends are line ends of the part: so the C has as many lines as the web there, and what stands behind the comment is on the
+/// line that the compiler counts, without a line mark.
+fn pass_line_ends(
+    tokens: &mut Vec<Token>,
+    ahead: &mut Reader,
+    region: Region,
+    state: ScanState,
+) -> Result<IncludeState, AllocError>
+    requires { is_text region ≡ true }
+    ensures ahead { OnOk result (ahead.new ≡ region_end region ahead.old) }
+    ensures tokens { OnOk result (tokens.new.items ≡ tokens.old.items ++ spec.line_ends region ahead.old) }
+    ensures include { IfOk result (λ after. after
+        ≡ include_over (spec.line_ends region ahead.old) state.include) }
+{
+    let mut include = state.include;
+    while let Some(front) = ahead.front() {
+        let unit = unit_of(region, front.byte, front.next);
+        if let Unit::Stop = unit {
+            return Ok(include);
+        }
+        include = push_line_end(tokens, include, front.byte, ahead.line(state.last))?;
+        ahead.pass(unit);
+        ahead.skip_ordinary();
+    }
+    Ok(include)
+}
+
+/// `*/` stands here.
+fn ends_comment(ahead: &Reader) -> bool
+    ensures { result ≡ spec.ends_comment ahead.now }
+{
+    match ahead.front() {
+        Some(front) => holds(b'*', front.byte) && holds(b'/', front.next),
+        None => false,
+    }
+}
+
+/// `@>` stands here.
+pub fn has_end_code(ahead: &Reader) -> bool
+    ensures { result ≡ spec.has_end_code ahead.now }
+{
+    match ahead.front() {
+        Some(front) => is_end_code(front.byte, front.next),
+        None => false,
+    }
+}
+
+/// Goes on behind `@>`, if it stands here, and answers whether it does.
+pub fn pass_end_code(ahead: &mut Reader) -> bool
+    ensures is_there { result ≡ spec.has_end_code ahead.old }
+    ensures ahead { ahead.new ≡ drop (spec.two_if (spec.has_end_code ahead.old)) ahead.old }
+{
+    if has_end_code(ahead) {
+        ahead.pass(Unit::Two);
+        return true;
+    }
+    false
+}
+
+/// A section start stands here.
+pub fn starts_section(ahead: &Reader) -> bool
+    ensures { result ≡ spec.starts_section ahead.now }
+{
+    match ahead.front() {
+        Some(front) => is_section_start(front.byte, front.next),
+        None => false,
+    }
+}
+
+/// Reads `/*` and the comment up to its end.
+pub fn block_comment(
+    tokens: &mut Vec<Token>,
+    ahead: &mut Reader,
+    state: ScanState,
+) -> Result<ScanState, AllocError>
+    ensures { IfOk result (λ after. IsRead tokens.old.items tokens.new.items ahead.old ahead.new after
+        (spec.block_comment state ahead.old)) }
+{
+    tokens.push(Token::White)?;
+    ahead.pass(Unit::Two);
+    let include = pass_line_ends(tokens, ahead, Region::Comment, state)?;
+    if ends_comment(ahead) {
+        ahead.pass(Unit::Two);
+    } else {
+        tokens.push(Token::Fault(FaultKind::CommentEnd, ahead.line(state.last)))?;
+    }
+    Ok(ScanState { include, ..state })
+}
+
+/// Reads `//` and the comment up to the line end.
+pub fn line_comment(
+    tokens: &mut Vec<Token>,
+    ahead: &mut Reader,
+    state: ScanState,
+) -> Result<ScanState, AllocError>
+    ensures { IfOk result (λ after. IsRead tokens.old.items tokens.new.items ahead.old ahead.new after
+        (spec.line_comment state ahead.old)) }
+{
+    tokens.push(Token::White)?;
+    ahead.pass(Unit::Two);
+    ahead.skip_to_end(Region::LineComment);
+    if starts_section(ahead) {
+        tokens.push(Token::Fault(FaultKind::CommentEnd, ahead.line(state.last)))?;
+    }
+    Ok(state)
+}
+
+/// Reads the code of a control text, and the text up to `@>`.
+pub fn control_text(
+    tokens: &mut Vec<Token>,
+    ahead: &mut Reader,
+    state: ScanState,
+) -> Result<ScanState, AllocError>
+    ensures { IfOk result (λ after. IsRead tokens.old.items tokens.new.items ahead.old ahead.new after
+        (spec.control_text state ahead.old)) }
+{
+    tokens.push(Token::White)?;
+    ahead.pass(Unit::Two);
+    let include = pass_line_ends(tokens, ahead, Region::ControlText, state)?;
+    if has_end_code(ahead) {
+        ahead.pass(Unit::Two);
+    } else {
+        tokens.push(Token::Fault(FaultKind::ControlText, ahead.line(state.last)))?;
+    }
+    Ok(ScanState { include, ..state })
+}

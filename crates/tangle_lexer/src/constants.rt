@@ -1,0 +1,171 @@
+//! ASCII constants.
+ghost use Rattle.std.specs.Prelude.{◌≡◌, ◌≤◌, ◌<◌, ◌+◌, ◌++◌, IfOk, OnOk, Option, drop, List};
+ghost use Rattle.tangle_lexer.specs.Ahead.{IsRead};
+ghost use Rattle.tangle_lexer.specs.Text.{Cell, byte_at};
+ghost use Rattle.tangle_lexer.specs.Constants as spec;
+
+use crate::ahead::Reader;
+use crate::bytes::{holds, is_octal};
+use crate::modes::ScanState;
+use crate::regions::{Region, Unit};
+use crate::tokens::Token;
+use std::alloc::AllocError;
+use tangle_lines::FaultKind;
+
+/// A constant: its value, and how many bytes its character has.
+#[derive(Clone, Copy)]
+pub struct Constant {
+    value: u8,
+    count: usize,
+}
+
+/// A backslash and this byte.
+fn escape_of(byte: u8) -> Option<u8>
+    ensures { result ≡ spec.escape_of byte }
+{
+    match byte {
+        b'a' => Some(7),
+        b'b' => Some(8),
+        b't' => Some(9),
+        b'n' => Some(10),
+        b'v' => Some(11),
+        b'f' => Some(12),
+        b'r' => Some(13),
+        b'"' | b'\'' | b'?' | b'\\' => Some(byte),
+        _ => None,
+    }
+}
+
+/// What a backslash and this byte are.
+fn escape_value(byte: Option<u8>) -> Option<u8>
+    ensures { result ≡ spec.escape_value byte }
+{
+    match byte {
+        Some(byte) => escape_of(byte),
+        None => None,
+    }
+}
+
+/// A character of so many bytes with this value is a constant where an apostrophe follows it.
+fn if_closed(ahead: &Reader, value: Option<u8>, count: usize) -> Option<Constant>
+    ensures { result ≡ spec.if_closed value count ahead.now }
+{
+    match value {
+        Some(value) => {
+            if holds(b'\'', ahead.peek(count)) {
+                Some(Constant { value, count })
+            } else {
+                None
+            }
+        }
+        None => None,
+    }
+}
+
+/// The same for a value that may be too large.
+fn if_byte(ahead: &Reader, value: usize, count: usize) -> Option<Constant>
+    ensures { result ≡ spec.if_byte value count ahead.now }
+{
+    if value <= 255 {
+        if_closed(ahead, Some(value as u8), count)
+    } else {
+        None
+    }
+}
+
+/// The octal digit at a distance.
+fn digit_at(ahead: &Reader, distance: usize) -> usize
+    ensures digit { result ≡ spec.digit_at distance ahead.now }
+    ensures small { result < 256 }
+{
+    match ahead.peek(distance) {
+        Some(byte) => usize::from(byte).saturating_sub(48),
+        None => 0,
+    }
+}
+
+/// A backslash stands here, and an octal digit behind it.
+fn octal_constant(ahead: &Reader) -> Option<Constant>
+    ensures { result ≡ spec.octal_constant ahead.now }
+{
+    let first = digit_at(ahead, 1);
+    if !is_octal(ahead.peek(2)) {
+        return if_byte(ahead, first, 2);
+    }
+    let second = digit_at(ahead, 2);
+    if !is_octal(ahead.peek(3)) {
+        return if_byte(ahead, 8 * first + second, 3);
+    }
+    let third = digit_at(ahead, 3);
+    if_byte(ahead, 64 * first + 8 * second + third, 4)
+}
+
+/// A backslash stands here.
+fn escaped_constant(ahead: &Reader) -> Option<Constant>
+    ensures { result ≡ spec.escaped_constant ahead.now }
+{
+    let next = ahead.peek(1);
+    if is_octal(next) {
+        return octal_constant(ahead);
+    }
+    if_closed(ahead, escape_value(next), 2)
+}
+
+/// The constant whose character stands here.
+fn constant_at(ahead: &Reader) -> Option<Constant>
+    ensures { result ≡ spec.constant_at ahead.now }
+{
+    match ahead.byte() {
+        None => None,
+        Some(b'@') => {
+            let value = if holds(b'@', ahead.peek(1)) {
+                Some(b'@')
+            } else {
+                None
+            };
+            if_closed(ahead, value, 2)
+        }
+        Some(b'\\') => escaped_constant(ahead),
+        Some(b'\'') => None,
+        Some(byte) => if_closed(ahead, Some(byte), 1),
+    }
+}
+
+/// Reads what is no constant, up to and with the first apostrophe of the line.
+fn bad_constant(
+    tokens: &mut Vec<Token>,
+    ahead: &mut Reader,
+    state: ScanState,
+) -> Result<ScanState, AllocError>
+    ensures { IfOk result (λ after. IsRead tokens.old.items tokens.new.items ahead.old ahead.new after
+        (spec.bad_constant state ahead.old)) }
+{
+    tokens.push(Token::White)?;
+    tokens.push(Token::Fault(FaultKind::AsciiBad, ahead.line(state.last)))?;
+    ahead.pass(Unit::Two);
+    ahead.skip_to_end(Region::BadConstant);
+    if holds(b'\'', ahead.byte()) {
+        ahead.advance();
+    }
+    Ok(state)
+}
+
+/// Reads an ASCII constant.
+pub fn ascii_constant(
+    tokens: &mut Vec<Token>,
+    ahead: &mut Reader,
+    state: ScanState,
+) -> Result<ScanState, AllocError>
+    ensures { IfOk result (λ after. IsRead tokens.old.items tokens.new.items ahead.old ahead.new after
+        (spec.ascii_constant state ahead.old)) }
+{
+    let mut character = ahead.copy();
+    character.pass(Unit::Two);
+    let Some(constant) = constant_at(&character) else {
+        return bad_constant(tokens, ahead, state);
+    };
+    tokens.push(Token::Constant(constant.value, ahead.line(state.last)))?;
+    ahead.advance();
+    ahead.skip(2 + constant.count);
+    Ok(state.elsewhere())
+}

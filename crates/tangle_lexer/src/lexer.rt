@@ -1,0 +1,81 @@
+//! The scanner: from the text to its tokens, one C part or macro at a time.
+ghost use Rattle.std.specs.Prelude.{◌≡◌, ◌<◌, ◌++◌, [], false, true, length, map, IfOk, IfSome, IfNone, OnOk, option_to_list};
+ghost use Rattle.std.specs.List.{list_any};
+ghost use Rattle.tangle_lexer.specs.Steps.{at_first, tokens_from, names_from};
+ghost use Rattle.tangle_lexer.specs.Occurrences.{occurrence_of};
+ghost use Rattle.tangle_lexer.specs.Heads.{is_head as is_head_token};
+ghost use Rattle.tangle_lexer.specs.Heads.{PopsHead};
+
+use crate::ahead::Reader;
+use crate::modes::{IncludeState, Mode, ScanState};
+use crate::names::LexerOutput;
+use crate::simple::read_simple;
+use crate::steps::step;
+use crate::tokens::Token;
+use std::alloc::{AllocError, Global};
+use tangle_lines::Source;
+
+/// A section, a macro or a C part begins.
+fn is_head(token: Token) -> bool
+    ensures { result ≡ is_head_token token }
+{
+    matches!(
+        token,
+        Token::Section | Token::MacroStart(_) | Token::UnnamedPart(_) | Token::NamedPart(_, _)
+    )
+}
+
+/// What is known before the first line.
+pub fn first_state(source: &Source) -> ScanState
+    ensures { result ≡ at_first (length source.now.lines) }
+{
+    ScanState {
+        mode: Mode::Limbo,
+        include: IncludeState::AtStart,
+        names: 0,
+        last: source.count().saturating_sub(1) as u32,
+    }
+}
+
+/// Takes the last token off, if it is a head.
+fn pop_head(tokens: &mut Vec<Token>) -> Option<Token>
+    ensures { PopsHead tokens.old.items tokens.new.items result }
+{
+    match tokens.last() {
+        Some(token) if is_head(*token) => tokens.pop(),
+        _ => None,
+    }
+}
+
+/// Reads the tokens before the next head, and answers that head and what is known behind it; or those before the end of the text.
+/// The tokens read before are dropped.
+pub fn next_block(
+    alloc: Global,
+    source: &Source,
+    output: &mut LexerOutput,
+    ahead: &mut Reader,
+    from: ScanState,
+) -> Result<(ScanState, Option<Token>), AllocError>
+    requires { from.names ≡ length output.old.occurrences.items }
+    ensures tokens { IfOk result (λ next. tokens_from from ahead.old
+        ≡ output.new.tokens.items ++ option_to_list next.1 ++ tokens_from next.0 ahead.new) }
+    ensures no_head { OnOk result (list_any is_head_token output.new.tokens.items ≡ false) }
+    ensures head { IfOk result (λ next. IfSome next.1 (λ head. is_head_token head ≡ true)) }
+    ensures end { IfOk result (λ next. IfNone next.1 (ahead.new ≡ [])) }
+    ensures shorter { IfOk result (λ next. IfSome next.1 (λ head. length ahead.new < length ahead.old)) }
+    ensures names { IfOk result (λ next. output.new.occurrences.items
+        ++ map (occurrence_of source.now.lines) (names_from next.0 ahead.new)
+        ≡ output.old.occurrences.items ++ map (occurrence_of source.now.lines) (names_from from ahead.old)) }
+    ensures count { IfOk result (λ next. next.0.names ≡ length output.new.occurrences.items) }
+{
+    output.tokens.clear();
+    let mut state = from;
+    while let Some(front) = ahead.front() {
+        state = step(alloc, source, output, ahead, state, front)?;
+        if let Some(head) = pop_head(&mut output.tokens) {
+            return Ok((state, Some(head)));
+        }
+        state = read_simple(&mut output.tokens, ahead, state)?;
+    }
+    Ok((state, None))
+}

@@ -1,0 +1,26 @@
+//! The lexer: from the bytes of source lines to tokens, and to the occurrences of section names.
+#![tactic(auto)]
+
+mod ahead;
+mod bytes;
+mod comments;
+mod constants;
+mod lexer;
+mod modes;
+mod names;
+mod occurrences;
+mod quoted;
+mod regions;
+mod simple;
+mod spans;
+mod steps;
+mod token_kinds;
+mod tokens;
+
+pub use ahead::Reader;
+pub use lexer::{first_state, next_block};
+pub use modes::{IncludeState, Mode, ScanState};
+pub use names::{LexerOutput, place_at};
+pub use occurrences::{Occurrence, OccurrenceRole};
+pub use spans::Span;
+pub use tokens::{TextKind, Token};

@@ -1,0 +1,89 @@
+//! What is known at a place of the text.
+ghost use Rattle.std.specs.Prelude.{◌≡◌, Option};
+ghost use Rattle.tangle_lexer.specs.Lexemes as lexemes;
+ghost use Rattle.tangle_lexer.specs.Steps as steps;
+
+use crate::bytes::holds;
+
+/// Which kind of text is read.
+#[derive(Clone, Copy)]
+pub enum Mode {
+    /// The text before the first section.
+    Limbo,
+    Documentation,
+    Code,
+    Macro,
+}
+
+/// How much of `#include` was read on the line.
+#[derive(Clone, Copy)]
+pub enum IncludeState {
+    /// Nothing but white space on the line, or in its part.
+    AtStart,
+    /// `#`.
+    AfterSign,
+    /// `#include`.
+    AfterInclude,
+    /// Something else.
+    Elsewhere,
+}
+
+/// What is known at a place of the text.
+#[derive(Clone, Copy)]
+pub struct ScanState {
+    pub mode: Mode,
+    pub include: IncludeState,
+    /// How many names were read before.
+    pub names: usize,
+    /// The number of the last source line.
+    pub last: u32,
+}
+
+impl ScanState {
+    /// A part in this mode begins.
+    pub fn in_mode(self, mode: Mode) -> Self
+        ensures { result ≡ lexemes.in_mode mode self }
+    {
+        ScanState {
+            mode,
+            include: IncludeState::AtStart,
+            ..self
+        }
+    }
+
+    /// So much of `#include` was read.
+    pub fn with_include(self, include: IncludeState) -> Self
+        ensures { result ≡ lexemes.with_include include self }
+    {
+        ScanState { include, ..self }
+    }
+
+    /// Something was read that is no white space, and no part of `#include`.
+    pub fn elsewhere(self) -> Self
+        ensures { result ≡ lexemes.elsewhere self }
+    {
+        self.with_include(IncludeState::Elsewhere)
+    }
+
+    /// A sign was read.
+    pub fn after_sign(self, byte: Option<u8>) -> Self
+        ensures { result ≡ lexemes.with_include (steps.include_after_sign byte self.include) self }
+    {
+        match self.include {
+            IncludeState::AtStart if holds(b'#', byte) => {
+                self.with_include(IncludeState::AfterSign)
+            }
+            _ => self.elsewhere(),
+        }
+    }
+
+    /// A word was read.
+    pub fn after_word(self, is_include: bool) -> Self
+        ensures { result ≡ lexemes.with_include (steps.include_after_word is_include self.include) self }
+    {
+        match self.include {
+            IncludeState::AfterSign if is_include => self.with_include(IncludeState::AfterInclude),
+            _ => self.elsewhere(),
+        }
+    }
+}

@@ -1,0 +1,395 @@
+//! Section names.
+ghost use Rattle.std.specs.Prelude.{◌≡◌, ◌+◌, ◌++◌, [], ◌∷◌, ℕ, List, length, drop, IfOk, OnOk, not, Option, Some, None};
+ghost use Rattle.tangle_lexer.specs.Ahead.{IsFront, IsRead};
+ghost use Rattle.tangle_lexer.specs.Bytes as byte;
+ghost use Rattle.tangle_lexer.specs.Text.{byte_at, line_at, front_cell};
+ghost use Rattle.tangle_lexer.specs.Regions.{region_end};
+ghost use Rattle.tangle_lexer.specs.Occurrences.{place_at as place_of};
+ghost use Rattle.tangle_lexer.specs.Occurrences.{occurrence_of};
+ghost use Rattle.tangle_lexer.specs.declared.regions.Region.TheVariants as region;
+ghost use Rattle.tangle_lines.specs.declared.faults.FaultKind.TheVariants as fault;
+ghost use Rattle.tangle_lexer.specs.declared.tokens.Token.TheVariants as token;
+ghost use Rattle.tangle_lexer.specs.Lexemes.{fault_if, in_mode};
+ghost use Rattle.tangle_lexer.specs.declared.modes.Mode.TheVariants as mode;
+ghost use Rattle.tangle_lexer.specs.declared.occurrences.OccurrenceRole.TheVariants as role;
+ghost use Rattle.tangle_lexer.specs.Ahead.{PassesHead, AddsName};
+ghost use Rattle.tangle_lexer.specs.Names as spec;
+
+use crate::ahead::{Front, Reader};
+use crate::bytes::{holds, is_white};
+use crate::comments::pass_end_code;
+use crate::modes::{Mode, ScanState};
+use crate::occurrences::{Occurrence, OccurrenceRole};
+use crate::regions::{Region, Unit, unit_of};
+use crate::tokens::Token;
+use std::alloc::{AllocError, Global};
+use tangle_lines::{FaultKind, Origin, Source};
+
+/// What was read: the tokens, and the occurrences of names.
+#[derive(Drop)]
+pub struct LexerOutput {
+    pub tokens: Vec<Token>,
+    pub occurrences: Vec<Occurrence>,
+}
+
+/// What stands where the head of a definition may end.
+#[derive(Clone, Copy)]
+pub enum Equals {
+    Absent,
+    /// `=` alone.
+    Single,
+    /// `==`.
+    Double,
+}
+
+/// A name that was read.
+#[derive(Drop)]
+struct Name {
+    text: Vec<u8>,
+    is_file: bool,
+    /// The line of its first byte.
+    line: u32,
+    /// The line on which it ends.
+    end: u32,
+    /// `@>` ends it.
+    is_ended: bool,
+}
+
+/// The place of a source line, or none's where there is no such line.
+pub fn place_at(source: &Source, line: u32) -> Origin
+    ensures { result ≡ place_of source.now.lines line }
+{
+    let number = line as usize;
+    if number < source.count() {
+        source.origin(number)
+    } else {
+        Origin { file: 0, line: 0 }
+    }
+}
+
+/// Adds a byte to a name in normal form, and answers whether white space stands at its end.
+fn push_byte(name: &mut Vec<u8>, white: bool, byte: u8) -> Result<bool, AllocError>
+    ensures { IfOk result (λ after. (bytes : List ℕ) →
+        name.new.items ++ spec.with_single_spaces (spec.has_begun name.new.items) after bytes
+        ≡ name.old.items ++ spec.with_single_spaces (spec.has_begun name.old.items) white (byte ∷ bytes)) }
+{
+    if is_white(byte) {
+        return Ok(true);
+    }
+    if !name.is_empty() && white {
+        name.push(b' ')?;
+    }
+    name.push(byte)?;
+    Ok(false)
+}
+
+/// A line end in a name is a space.
+fn name_byte(byte: Option<u8>) -> u8
+    ensures { result ≡ spec.name_byte byte }
+{
+    match byte {
+        Some(byte) => byte,
+        None => b' ',
+    }
+}
+
+/// Adds a unit to a name.
+fn push_unit(name: &mut Vec<u8>, white: bool, unit: Unit, front: Front) -> Result<bool, AllocError>
+    ensures { IfOk result (λ after. (bytes : List ℕ) →
+        name.new.items ++ spec.with_single_spaces (spec.has_begun name.new.items) after bytes
+        ≡ name.old.items ++ spec.with_single_spaces (spec.has_begun name.old.items) white
+        (spec.unit_name_bytes unit front.byte front.next ++ bytes)) }
+{
+    match unit {
+        Unit::Two => {
+            let white = push_byte(name, white, b'@')?;
+            if holds(b'@', front.next) {
+                return Ok(white);
+            }
+            let white = push_byte(name, white, name_byte(front.next))?;
+            Ok(white)
+        }
+        _ => push_byte(name, white, name_byte(front.byte)),
+    }
+}
+
+/// Reads the text of a name up to its end.
+fn read_text(alloc: Global, ahead: &mut Reader) -> Result<Vec<u8>, AllocError>
+    ensures text { IfOk result (λ name. name.items ≡ spec.name_text ahead.old) }
+    ensures ahead { OnOk result (ahead.new ≡ region_end region.Name ahead.old) }
+{
+    let mut name = Vec::new(alloc);
+    let mut white = false;
+    while let Some(front) = ahead.front() {
+        let unit = unit_of(Region::Name, front.byte, front.next);
+        if let Unit::Stop = unit {
+            return Ok(name);
+        }
+        white = push_unit(&mut name, white, unit, front)?;
+        ahead.pass(unit);
+    }
+    Ok(name)
+}
+
+/// Reads a name from its opening on, and goes on behind it.
+fn read_name(alloc: Global, ahead: &mut Reader, last: u32) -> Result<Name, AllocError>
+    ensures text { IfOk result (λ name. name.text.items ≡ spec.name_text (drop 2 ahead.old)) }
+    ensures is_file { IfOk result (λ name. name.is_file ≡ byte.holds byte.left_parenthesis (byte_at 1 ahead.old)) }
+    ensures line { IfOk result (λ name. name.line ≡ line_at last ahead.old) }
+    ensures end { IfOk result (λ name. name.end ≡ line_at last (spec.name_end ahead.old)) }
+    ensures is_ended { IfOk result (λ name. name.is_ended ≡ spec.is_ended ahead.old) }
+    ensures ahead { OnOk result (ahead.new ≡ spec.behind_name ahead.old) }
+{
+    let line = ahead.line(last);
+    let is_file = opens_file(ahead);
+    ahead.pass(Unit::Two);
+    let text = read_text(alloc, ahead)?;
+    let end = ahead.line(last);
+    let is_ended = pass_end_code(ahead);
+    Ok(Name {
+        text,
+        is_file,
+        line,
+        end,
+        is_ended,
+    })
+}
+
+/// The name that opens here is opened by `@(`.
+fn opens_file(ahead: &Reader) -> bool
+    ensures { result ≡ byte.holds byte.left_parenthesis (byte_at 1 ahead.now) }
+{
+    match ahead.front() {
+        Some(front) => holds(b'(', front.next),
+        None => false,
+    }
+}
+
+/// A name that ends in three dots is an abbreviation.
+fn is_abbreviation(text: &[u8]) -> bool
+    ensures { result ≡ spec.is_abbreviation text.now }
+{
+    &text[text.len().saturating_sub(3)..] == b"...".as_slice()
+}
+
+/// Puts out the occurrence of a name.
+fn push_name(
+    source: &Source,
+    occurrences: &mut Vec<Occurrence>,
+    name: Name,
+    role: OccurrenceRole,
+) -> Result<(), AllocError>
+    ensures { OnOk result (occurrences.new.items ≡ occurrences.old.items
+        ++ occurrence_of source.now.lines (record {
+          text = name.text.items;
+          is_file = name.is_file;
+          role = role;
+          line = name.line;
+        }) ∷ []) }
+{
+    let is_abbreviation = is_abbreviation(&name.text);
+    let place = place_at(source, name.line);
+    occurrences.push(Occurrence::new(name.text, is_abbreviation, name.is_file, role, place))?;
+    Ok(())
+}
+
+/// Goes on to where the equals sign of a head may stand: over white space, `+` and white space.
+fn skip_to_equals(ahead: &mut Reader)
+    ensures { ahead.new ≡ drop (spec.count_before_equals ahead.old) ahead.old }
+{
+    ahead.skip_to_end(Region::White);
+    if holds(b'+', ahead.byte()) {
+        ahead.advance();
+        ahead.skip_to_end(Region::White);
+    }
+}
+
+/// What stands here of an equals sign.
+fn equals_at(ahead: &Reader) -> Equals
+    ensures { result ≡ spec.equals_by (byte_at 0 ahead.now) (byte_at 1 ahead.now) }
+{
+    match ahead.front() {
+        Some(front) if holds(b'=', front.byte) => {
+            if holds(b'=', front.next) {
+                Equals::Double
+            } else {
+                Equals::Single
+            }
+        }
+        _ => Equals::Absent,
+    }
+}
+
+/// Whether `=` alone stands where the head of a definition would end.
+fn has_single_equals(ahead: &Reader) -> bool
+    ensures { result ≡ spec.has_single_equals ahead.now }
+{
+    let mut further = ahead.copy();
+    skip_to_equals(&mut further);
+    matches!(equals_at(&further), Equals::Single)
+}
+
+/// Puts out a use of this name, and its faults.
+fn push_use(
+    tokens: &mut Vec<Token>,
+    name: &Name,
+    number: usize,
+    has_single_equals: bool,
+) -> Result<(), AllocError>
+    ensures { OnOk result (tokens.new.items ≡ tokens.old.items ++ token.UseOf number name.now.end
+        ∷ fault_if (not name.now.is_ended) fault.NameEnd name.now.end
+        ++ fault_if has_single_equals fault.NameEquals name.now.line) }
+{
+    tokens.push(Token::UseOf(number, name.end))?;
+    if !name.is_ended {
+        tokens.push(Token::Fault(FaultKind::NameEnd, name.end))?;
+    }
+    if has_single_equals {
+        tokens.push(Token::Fault(FaultKind::NameEquals, name.line))?;
+    }
+    Ok(())
+}
+
+/// Reads a use.
+pub fn use_of_name(
+    alloc: Global,
+    source: &Source,
+    output: &mut LexerOutput,
+    ahead: &mut Reader,
+    state: ScanState,
+) -> Result<ScanState, AllocError>
+    requires { state.names ≡ length output.old.occurrences.items }
+    ensures read { IfOk result (λ after. IsRead output.old.tokens.items output.new.tokens.items ahead.old ahead.new after
+        (spec.use_of_name state ahead.old)) }
+    ensures names { OnOk result (AddsName source.now.lines output.old.occurrences.items output.new.occurrences.items
+        (spec.use_of_name state ahead.old).name) }
+{
+    let name = read_name(alloc, ahead, state.last)?;
+    let equals = has_single_equals(ahead);
+    push_use(&mut output.tokens, &name, state.names, equals)?;
+    push_name(source, &mut output.occurrences, name, OccurrenceRole::Use)?;
+    Ok(ScanState {
+        names: output.occurrences.len(),
+        ..state.elsewhere()
+    })
+}
+
+/// Goes on behind the head of a definition, if one stands here, and answers the line on which it ends.
+fn pass_head(ahead: &mut Reader, last: u32) -> Option<u32>
+    ensures { PassesHead (spec.equals_in ahead.old) (spec.count_before_equals ahead.old) last ahead.old ahead.new result }
+{
+    let mut further = ahead.copy();
+    skip_to_equals(&mut further);
+    match equals_at(&further) {
+        Equals::Absent => None,
+        Equals::Single => {
+            let line = further.line(last);
+            further.advance();
+            *ahead = further;
+            Some(line)
+        }
+        Equals::Double => {
+            further.advance();
+            let line = further.line(last);
+            further.advance();
+            *ahead = further;
+            Some(line)
+        }
+    }
+}
+
+/// Puts out a mention, and its fault.
+fn mention(
+    source: &Source,
+    output: &mut LexerOutput,
+    name: Name,
+    state: ScanState,
+) -> Result<ScanState, AllocError>
+    requires { state.names ≡ length output.old.occurrences.items }
+    ensures tokens { OnOk result (output.new.tokens.items
+        ≡ output.old.tokens.items ++ fault_if (not name.is_ended) fault.NameEnd name.end) }
+    ensures names { OnOk result (output.new.occurrences.items ≡ output.old.occurrences.items
+        ++ occurrence_of source.now.lines (record {
+          text = name.text.items;
+          is_file = name.is_file;
+          role = role.Mention;
+          line = name.line;
+        }) ∷ []) }
+    ensures state { IfOk result (λ after. after ≡ record state { names = state.names + 1 }) }
+{
+    if !name.is_ended {
+        output
+            .tokens
+            .push(Token::Fault(FaultKind::NameEnd, name.end))?;
+    }
+    push_name(
+        source,
+        &mut output.occurrences,
+        name,
+        OccurrenceRole::Mention,
+    )?;
+    Ok(ScanState {
+        names: output.occurrences.len(),
+        ..state
+    })
+}
+
+/// Puts out the head of a definition, which ends on this line.
+fn definition(
+    source: &Source,
+    output: &mut LexerOutput,
+    name: Name,
+    line: u32,
+    state: ScanState,
+) -> Result<ScanState, AllocError>
+    requires { state.names ≡ length output.old.occurrences.items }
+    ensures tokens { OnOk result (output.new.tokens.items
+        ≡ output.old.tokens.items ++ token.NamedPart state.names line ∷ []) }
+    ensures names { OnOk result (output.new.occurrences.items ≡ output.old.occurrences.items
+        ++ occurrence_of source.now.lines (record {
+          text = name.text.items;
+          is_file = name.is_file;
+          role = role.Definition;
+          line = name.line;
+        }) ∷ []) }
+    ensures state { IfOk result (λ after. after ≡ record (in_mode mode.Code state) { names = state.names + 1 }) }
+{
+    output.tokens.push(Token::NamedPart(state.names, line))?;
+    push_name(
+        source,
+        &mut output.occurrences,
+        name,
+        OccurrenceRole::Definition,
+    )?;
+    Ok(ScanState {
+        names: output.occurrences.len(),
+        ..state.in_mode(Mode::Code)
+    })
+}
+
+/// Reads a mention, or the head of a definition.
+pub fn name_in_documentation(
+    alloc: Global,
+    source: &Source,
+    output: &mut LexerOutput,
+    ahead: &mut Reader,
+    state: ScanState,
+) -> Result<ScanState, AllocError>
+    requires { state.names ≡ length output.old.occurrences.items }
+    ensures read { IfOk result (λ after. IsRead output.old.tokens.items output.new.tokens.items ahead.old ahead.new after
+        (spec.name_in_documentation state ahead.old)) }
+    ensures names { OnOk result (AddsName source.now.lines output.old.occurrences.items output.new.occurrences.items
+        (spec.name_in_documentation state ahead.old).name) }
+{
+    let name = read_name(alloc, ahead, state.last)?;
+    if !name.is_ended {
+        let after = mention(source, output, name, state)?;
+        return Ok(after);
+    }
+    let Some(line) = pass_head(ahead, state.last) else {
+        let after = mention(source, output, name, state)?;
+        return Ok(after);
+    };
+    let after = definition(source, output, name, line, state)?;
+    Ok(after)
+}

@@ -1,0 +1,248 @@
+//! Quoted and verbatim texts.
+ghost use Rattle.std.specs.Prelude.{true, ◌≡◌, ◌≤◌, ◌++◌, ℕ, List, IfOk, OnOk, IsSome, ◌∷◌, drop};
+ghost use Rattle.tangle_lexer.specs.Ahead.{IsFront, IsRead};
+ghost use Rattle.tangle_lexer.specs.Text.{Cell, byte_at, line_at, front_cell, span_at};
+ghost use Rattle.tangle_lexer.specs.Regions.{is_text, region_end, count_before};
+ghost use Rattle.tangle_lexer.specs.declared.tokens.Token.{Token as TokenRead};
+ghost use Rattle.tangle_lexer.specs.declared.regions.Region.TheVariants as region;
+ghost use Rattle.tangle_lexer.specs.declared.tokens.TextKind.TheVariants as text_kind;
+ghost use Rattle.tangle_lexer.specs.declared.tokens.Token.TheVariants as token;
+ghost use Rattle.tangle_lexer.specs.Bytes as byte;
+ghost use Rattle.tangle_lexer.specs.Quoted as spec;
+
+use crate::ahead::{Front, Reader};
+use crate::bytes::holds;
+use crate::comments::has_end_code;
+use crate::modes::{IncludeState, ScanState};
+use crate::regions::{Region, Unit, unit_of};
+use crate::spans::Span;
+use crate::tokens::{TextKind, Token};
+use std::alloc::AllocError;
+use tangle_lines::FaultKind;
+
+/// What kind of text a region is.
+fn kind_in(region: Region) -> TextKind
+    ensures { result ≡ spec.kind_in region }
+{
+    match region {
+        Region::Verbatim => TextKind::Verbatim,
+        _ => TextKind::Quoted,
+    }
+}
+
+/// Puts out a range of a line, unless it is empty.
+fn push_range(
+    tokens: &mut Vec<Token>,
+    region: Region,
+    line: u32,
+    start: usize,
+    end: usize,
+) -> Result<(), AllocError>
+    requires { end ≤ 65535 }
+    ensures { OnOk result (tokens.new.items ≡ tokens.old.items ++ spec.cut_range region line start end) }
+{
+    if start < end {
+        let span = Span {
+            line,
+            start: start as u16,
+            end: end as u16,
+        };
+        tokens.push(Token::Text(kind_in(region), span))?;
+    }
+    Ok(())
+}
+
+/// Puts out what a unit gives that is not the end of its region, and answers where the next range starts.
+fn push_unit(
+    tokens: &mut Vec<Token>,
+    ahead: &Reader,
+    region: Region,
+    unit: Unit,
+    start: usize,
+    front: Front,
+    line: u32,
+) -> Result<usize, AllocError>
+    requires { IsFront ahead.now front }
+    ensures tokens { (last : ℕ) → line ≡ line_at last ahead.now → OnOk result (tokens.new.items ≡ tokens.old.items
+        ++ spec.unit_tokens region unit start (front_cell last ahead.now) (byte_at 1 ahead.now)) }
+    ensures start { (last : ℕ) → IfOk result (λ next. next
+        ≡ spec.next_start unit start (front_cell last ahead.now) (byte_at 1 ahead.now)) }
+{
+    let is_two = matches!(unit, Unit::Two);
+    if is_two && holds(b'@', front.byte) {
+        let end = ahead.column_behind();
+        push_range(tokens, region, line, start, end)?;
+        return Ok(end + 1);
+    }
+    if is_two && holds(b'\\', front.byte) && front.next.is_none() {
+        push_range(tokens, region, line, start, ahead.column_behind())?;
+        tokens.push(Token::QuoteBreak)?;
+        return Ok(0);
+    }
+    if !is_two && holds(b'@', front.byte) {
+        tokens.push(Token::Fault(FaultKind::StringAt, line))?;
+    }
+    Ok(start)
+}
+
+/// Cuts a text up to the end of its region, and answers where its last range starts.
+fn cut(
+    tokens: &mut Vec<Token>,
+    ahead: &mut Reader,
+    region: Region,
+    first: usize,
+    last: u32,
+) -> Result<usize, AllocError>
+    requires { is_text region ≡ true }
+    ensures ahead { OnOk result (ahead.new ≡ region_end region ahead.old) }
+    ensures tokens { IfOk result (λ start. (ends : ℕ → List Cell → List TokenRead) →
+        tokens.new.items ++ ends start ahead.new
+        ≡ tokens.old.items ++ spec.cut_tokens ends region 0 first ahead.old) }
+{
+    let mut start = first;
+    while let Some(front) = ahead.front() {
+        let unit = unit_of(region, front.byte, front.next);
+        if let Unit::Stop = unit {
+            return Ok(start);
+        }
+        start = push_unit(tokens, ahead, region, unit, start, front, ahead.line(last))?;
+        ahead.pass(unit);
+        ahead.skip_ordinary();
+    }
+    Ok(start)
+}
+
+/// Ends a quoted text whose last range starts at this column.
+fn end_quote(
+    tokens: &mut Vec<Token>,
+    ahead: &mut Reader,
+    region: Region,
+    close: u8,
+    start: usize,
+    last: u32,
+) -> Result<(), AllocError>
+    ensures tokens { OnOk result (tokens.new.items ≡ tokens.old.items
+        ++ spec.quote_end region close last start ahead.old) }
+    ensures ahead { OnOk result (ahead.new ≡ drop (spec.one_if (byte.holds close (byte_at 0 ahead.old))) ahead.old) }
+{
+    let Some(front) = ahead.front() else {
+        tokens.push(Token::Fault(FaultKind::StringEnd, last))?;
+        return Ok(());
+    };
+    let line = ahead.line(last);
+    if holds(close, front.byte) {
+        push_range(tokens, region, line, start, ahead.column_behind())?;
+        ahead.advance();
+        return Ok(());
+    }
+    push_range(tokens, region, line, start, ahead.column())?;
+    tokens.push(Token::Fault(FaultKind::StringEnd, line))?;
+    Ok(())
+}
+
+/// Reads a quoted text from its opening byte on.
+pub fn quoted_text(
+    tokens: &mut Vec<Token>,
+    ahead: &mut Reader,
+    region: Region,
+    close: u8,
+    state: ScanState,
+) -> Result<ScanState, AllocError>
+    requires { is_text region ≡ true }
+    ensures { IfOk result (λ after. IsRead tokens.old.items tokens.new.items ahead.old ahead.new after
+        (spec.quoted_text region close state ahead.old)) }
+{
+    let opening = ahead.column();
+    ahead.advance();
+    let start = cut(tokens, ahead, region, opening, state.last)?;
+    end_quote(tokens, ahead, region, close, start, state.last)?;
+    Ok(ScanState {
+        include: IncludeState::Elsewhere,
+        ..state
+    })
+}
+
+/// Ends a verbatim text whose last range starts at this column.
+fn end_verbatim(
+    tokens: &mut Vec<Token>,
+    ahead: &Reader,
+    start: usize,
+    last: u32,
+) -> Result<(), AllocError>
+    ensures { OnOk result (tokens.new.items ≡ tokens.old.items ++ spec.verbatim_end start ahead.now) }
+{
+    let Some(front) = ahead.front() else {
+        return Ok(());
+    };
+    let line = ahead.line(last);
+    push_range(tokens, Region::Verbatim, line, start, ahead.column())?;
+    if front.byte.is_none() {
+        tokens.push(Token::Fault(FaultKind::VerbatimEnd, line))?;
+    }
+    Ok(())
+}
+
+/// Whether a region ends here.
+fn ends_at_once(ahead: &Reader, region: Region) -> bool
+    ensures { result ≡ spec.ends_at_once region ahead.now }
+{
+    match ahead.front() {
+        Some(front) => matches!(unit_of(region, front.byte, front.next), Unit::Stop),
+        None => true,
+    }
+}
+
+/// Puts out an empty verbatim text.
+fn push_empty(tokens: &mut Vec<Token>, ahead: &Reader) -> Result<(), AllocError>
+    ensures { OnOk result (tokens.new.items
+        ≡ tokens.old.items ++ token.Text text_kind.Verbatim (span_at 0 ahead.now) ∷ spec.empty_end ahead.now) }
+{
+    let line = ahead.line(0);
+    let column = ahead.column() as u16;
+    let span = Span {
+        line,
+        start: column,
+        end: column,
+    };
+    tokens.push(Token::Text(TextKind::Verbatim, span))?;
+    if let Some(front) = ahead.front() {
+        if front.byte.is_none() {
+            tokens.push(Token::Fault(FaultKind::VerbatimEnd, line))?;
+        }
+    }
+    Ok(())
+}
+
+/// Puts out a verbatim text, from behind its code on.
+fn push_verbatim(tokens: &mut Vec<Token>, ahead: &mut Reader, last: u32) -> Result<(), AllocError>
+    ensures tokens { OnOk result (tokens.new.items ≡ tokens.old.items ++ spec.verbatim_tokens ahead.old) }
+    ensures ahead { OnOk result (ahead.new ≡ region_end region.Verbatim ahead.old) }
+{
+    if ends_at_once(ahead, Region::Verbatim) {
+        push_empty(tokens, ahead)?;
+        return Ok(());
+    }
+    let first = ahead.column();
+    let start = cut(tokens, ahead, Region::Verbatim, first, last)?;
+    end_verbatim(tokens, ahead, start, last)
+}
+
+/// Reads `@=` and the verbatim text up to `@>`, or up to the line end.
+pub fn verbatim_text(
+    tokens: &mut Vec<Token>,
+    ahead: &mut Reader,
+    state: ScanState,
+) -> Result<ScanState, AllocError>
+    ensures { IfOk result (λ after. IsRead tokens.old.items tokens.new.items ahead.old ahead.new after
+        (spec.verbatim_text state ahead.old)) }
+{
+    ahead.pass(Unit::Two);
+    push_verbatim(tokens, ahead, state.last)?;
+    if has_end_code(ahead) {
+        ahead.pass(Unit::Two);
+    }
+    Ok(ScanState {
+        include: IncludeState::Elsewhere,
+        ..state
+    })
+}

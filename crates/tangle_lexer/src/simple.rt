@@ -1,0 +1,100 @@
+//! Runs of words, white space, signs and line ends, which are most of C text.
+ghost use Rattle.std.specs.Prelude.{◌≡◌, ◌≤◌, ◌++◌, false, length, IfOk, IfSome, OnOk};
+ghost use Rattle.std.specs.List.{list_any};
+ghost use Rattle.tangle_lexer.specs.Ahead.{IsRead};
+ghost use Rattle.tangle_lexer.specs.Simple.{IsSimple, simple_kind};
+ghost use Rattle.tangle_lexer.specs.Simple as spec;
+ghost use Rattle.tangle_lexer.specs.Steps.{c_lexeme, tokens_from, names_from};
+ghost use Rattle.tangle_lexer.specs.Heads.{is_head};
+
+use crate::ahead::Reader;
+use crate::modes::{Mode, ScanState};
+use crate::regions::Unit;
+use crate::steps::{line_end, sign, white_space, word};
+use crate::tokens::Token;
+use std::alloc::AllocError;
+
+/// What stands in most places of C text.
+#[derive(Clone, Copy)]
+pub enum Simple {
+    Word,
+    White,
+    Sign,
+    LineEnd,
+}
+
+/// What this byte is, if it opens nothing longer: one look in a table, as there is a case for each byte.
+fn simple_of(byte: u8) -> Option<Simple>
+    ensures { result ≡ spec.simple_of byte }
+{
+    match byte {
+        b'@' | b'/' | b'"' | b'\'' | b'<' => None,
+        b' ' | b'\t' | b'\r' | 11 | 12 => Some(Simple::White),
+        b'a'..=b'z' | b'A'..=b'Z' | b'0'..=b'9' | b'_' | b'$' | 128..=255 => Some(Simple::Word),
+        _ => Some(Simple::Sign),
+    }
+}
+
+/// What stands here, if it opens nothing longer.
+fn simple_at(ahead: &Reader) -> Option<Simple>
+    ensures { IfSome result (λ simple. IsSimple ahead.now simple) }
+{
+    match ahead.byte() {
+        Some(byte) => simple_of(byte),
+        None if ahead.is_at_end() => None,
+        None => Some(Simple::LineEnd),
+    }
+}
+
+/// Reads what stands here.
+fn simple_step(
+    tokens: &mut Vec<Token>,
+    ahead: &mut Reader,
+    state: ScanState,
+    simple: Simple,
+) -> Result<ScanState, AllocError>
+    requires { IsSimple ahead.old simple }
+    ensures { IfOk result (λ after. IsRead tokens.old.items tokens.new.items ahead.old ahead.new after
+        (c_lexeme (simple_kind simple) state ahead.old)) }
+{
+    match simple {
+        Simple::Word => word(tokens, ahead, state),
+        Simple::White => white_space(tokens, ahead, state),
+        Simple::LineEnd => line_end(tokens, ahead, state),
+        Simple::Sign => {
+            let after = state.after_sign(ahead.byte());
+            sign(tokens, ahead, Unit::One, after)
+        }
+    }
+}
+
+/// C text, also of a macro.
+fn is_c_text(mode: Mode) -> bool
+    ensures { result ≡ spec.is_c_text mode }
+{
+    matches!(mode, Mode::Code | Mode::Macro)
+}
+
+/// In C text, reads on up to what may be longer; in other text, reads nothing.
+pub fn read_simple(
+    tokens: &mut Vec<Token>,
+    ahead: &mut Reader,
+    from: ScanState,
+) -> Result<ScanState, AllocError>
+    ensures tokens { IfOk result (λ after. tokens.new.items ++ tokens_from after ahead.new
+        ≡ tokens.old.items ++ tokens_from from ahead.old) }
+    ensures no_head { list_any is_head tokens.old.items ≡ false →
+        OnOk result (list_any is_head tokens.new.items ≡ false) }
+    ensures names { IfOk result (λ after. names_from after ahead.new ≡ names_from from ahead.old) }
+    ensures count { IfOk result (λ after. after.names ≡ from.names) }
+    ensures shorter { OnOk result (length ahead.new ≤ length ahead.old) }
+{
+    let mut state = from;
+    if !is_c_text(from.mode) {
+        return Ok(state);
+    }
+    while let Some(simple) = simple_at(ahead) {
+        state = simple_step(tokens, ahead, state, simple)?;
+    }
+    Ok(state)
+}

@@ -1,0 +1,41 @@
+//! What the text has, one after another.
+use crate::spans::Span;
+use tangle_lines::FaultKind;
+
+/// What kind of text a range of a line is.
+#[derive(Clone, Copy)]
+pub enum TextKind {
+    Word,
+    Sign,
+    /// A quoted text, or a range of one.
+    Quoted,
+    /// A verbatim text, or a range of one.
+    Verbatim,
+}
+
+/// What stands in the text. Each `u32` is the number of a source line, from 0.
+#[derive(Clone, Copy)]
+pub enum Token {
+    /// A section begins.
+    Section,
+    /// A macro begins; the line of its `@d`.
+    MacroStart(u32),
+    /// An unnamed C part begins; the line on which its head ends.
+    UnnamedPart(u32),
+    /// A C part begins whose name is the occurrence of this number; the line on which its head ends.
+    NamedPart(usize, u32),
+    /// A text of this kind, in this range.
+    Text(TextKind, Span),
+    /// The line end at which a quoted text is cut.
+    QuoteBreak,
+    /// An ASCII constant, by its value.
+    Constant(u8, u32),
+    Join,
+    White,
+    LineEnd(u32),
+    /// A use of a name, by the number of its occurrence; the line on which it ends.
+    UseOf(usize, u32),
+    /// All macros.
+    Defs(u32),
+    Fault(FaultKind, u32),
+}

@@ -1,0 +1,54 @@
+//! Which names begin another one.
+ghost use Rattle.std.specs.Prelude.{◌≡◌, ◌<◌, ℕ, [], IfOk, length, slice_index_or, true, false};
+ghost use Rattle.tangle_names.specs.declared.Resolved.TheVariants.{Name};
+ghost use Rattle.tangle_names.specs.Faults.{begins_another};
+ghost use Rattle.tangle_names.specs.Names.{One};
+ghost use Rattle.tangle_names.specs.Numbers.{begins_another_by_number, key_texts, Flags};
+ghost use Rattle.tangle_names.specs.Resolving.{resolution};
+ghost use Rattle.tangle_names.specs.Sorted.{IsInOrder, texts_of};
+
+use crate::numbers::number;
+use crate::sorted::begins_at;
+use indexmap::IndexSet;
+use std::alloc::{AllocError, Global};
+
+/// Which names begin another one. In the order of their bytes such a name begins the next one.
+pub(crate) fn beginnings(
+    alloc: Global,
+    sorted: &[&[u8]],
+    names: &IndexSet<Vec<u8>>,
+) -> Result<Vec<bool>, AllocError>
+    requires { IsInOrder (texts_of sorted.now) }
+    ensures size { IfOk result (λ v. length v.items ≡ length names.now.keys) }
+    ensures begins { IfOk result (λ v. (id : ℕ) → id < length names.now.keys
+        → slice_index_or v.items id false
+        ≡ begins_another_by_number (key_texts names.now.keys) (texts_of sorted.now) id) }
+{
+    let mut begins = vec![in alloc; false; names.len()]?;
+    for place in 0..sorted.len() {
+        flag_beginning(&mut begins, sorted, names, place);
+    }
+    Ok(begins)
+}
+
+/// Flags the name at this place, if it begins the next one.
+fn flag_beginning(flags: &mut Vec<bool>, sorted: &[&[u8]], names: &IndexSet<Vec<u8>>, place: usize)
+    requires order { IsInOrder (texts_of sorted.now) }
+    requires inside { place < length sorted.now }
+    ensures { let text = slice_index_or (texts_of sorted.now) place [] in
+        Flags flags.old.items flags.new.items (begins_another (texts_of sorted.now) text)
+        (resolution (key_texts names.now.keys) (One text)) }
+{
+    if begins_at(sorted, place + 1, sorted[place]) {
+        flag(flags, number(names, sorted[place]));
+    }
+}
+
+/// Flags the name of this number, if there is one.
+fn flag(flags: &mut Vec<bool>, id: usize)
+    ensures { Flags flags.old.items flags.new.items true (Name id) }
+{
+    if id < flags.len() {
+        flags[id] = true;
+    }
+}

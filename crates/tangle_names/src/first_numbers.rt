@@ -1,0 +1,53 @@
+//! Of each name the number of its first occurrence, and of its first one as a file.
+ghost use Rattle.std.specs.Prelude.{◌≡◌, ◌<◌, ◌||◌, ℕ, not, IfOk, length, map, slice_index_or};
+ghost use Rattle.tangle_lexer.specs.Occurrences.{OccurrenceRead};
+ghost use Rattle.tangle_names.specs.declared.Resolved.{Resolved};
+ghost use Rattle.tangle_names.specs.Numbers.{NotesNumber, first_by_number};
+
+use crate::Resolved;
+use std::alloc::{AllocError, Global};
+use tangle_scan::Occurrence;
+
+/// Of each name the number of the first occurrence that resolves to it, of those with `@(` alone where only files are
+/// wanted. It is the count of occurrences where there is none.
+// From the last occurrence to the first, so that an earlier number takes the place of a later one.
+pub(crate) fn first_numbers(
+    alloc: Global,
+    occurrences: &[Occurrence],
+    resolved: &[Resolved],
+    count: usize,
+    only_files: bool,
+) -> Result<Vec<usize>, AllocError>
+    requires { length resolved.now ≡ length occurrences.now }
+    ensures size { IfOk result (λ v. length v.items ≡ count) }
+    ensures numbers { IfOk result (λ v. (f : OccurrenceRead → Resolved)
+        → resolved.now ≡ map f occurrences.now → (id : ℕ) → id < count
+        → slice_index_or v.items id 0 ≡ first_by_number f only_files occurrences.now id) }
+{
+    let mut numbers = vec![in alloc; occurrences.len(); count]?;
+    let mut i = occurrences.len();
+    while i > 0 {
+        i -= 1;
+        let wanted = is_wanted(&occurrences[i], only_files);
+        note(&mut numbers, wanted, i, resolved[i]);
+    }
+    Ok(numbers)
+}
+
+/// Whether the occurrence is one of those that are wanted.
+fn is_wanted(occurrence: &Occurrence, only_files: bool) -> bool
+    ensures { result ≡ (not only_files || occurrence.now.is_file) }
+{
+    !only_files || occurrence.is_file()
+}
+
+/// Gives the name that is resolved to this number, if the occurrence is wanted.
+fn note(numbers: &mut Vec<usize>, is_wanted: bool, number: usize, resolved: Resolved)
+    ensures { NotesNumber numbers.old.items numbers.new.items is_wanted number resolved }
+{
+    if let Resolved::Name(id) = resolved {
+        if is_wanted && id < numbers.len() {
+            numbers[id] = number;
+        }
+    }
+}

@@ -1,0 +1,6 @@
+pub mod BlockFlows
+pub mod ItemSpans
+pub mod LineTruthLemmas
+pub mod NameRange
+pub mod SpanOrder
+pub mod WebLaws

@@ -1,0 +1,148 @@
+-- The rules for items keep the spans of a part, in their order.
+use Rattle.std.proofs.Common.{◌≡◌, ℕ, ◌+◌, Bool, true, false, List, [], ◌∷◌, ◌++◌, cond, refl, ap, sym, ◌∙◌, if◌then◌else◌, ◌&&◌}
+use Rattle.tangle_lines.specs.declared.faults.Origin.{Origin}
+use Rattle.tangle_lexer.specs.declared.spans.Span.{Span}
+use Rattle.tangle_lexer.specs.declared.tokens.Token.{Token}
+use Rattle.tangle_lexer.specs.declared.tokens.TextKind.TheVariants as text_kind
+use Rattle.tangle_lexer.specs.declared.tokens.Token.TheVariants as token
+use Rattle.tangle_scan.specs.declared.items.Item.{Item}
+use Rattle.tangle_scan.specs.declared.items.Item.TheVariants as item
+use Rattle.tangle_lines.specs.Reading.{Line}
+use Rattle.tangle_scan.specs.Rules.{without_faults, would_merge, with_spaces, may_follow_name, with_space_behind, with_name_space, has_join, left_of_run, without_joins, blanks, goes_on, line_item, count_behind, items_by_place, unmarked_items, part_items, without_front_gaps, macro_items}
+use Rattle.tangle_lexer.specs.Occurrences.{place_at}
+use Rattle.tangle_scan.specs.SourceOrder.{item_spans}
+use Rattle.tangle_scan.proofs.lemmas.Gaps.{AreGaps, gaps-append}
+
+abbrev pub token_spans : List Token → List Span
+token_spans [] = []
+token_spans (token.Text kind s ∷ es) = s ∷ token_spans es
+token_spans (_ ∷ es) = token_spans es
+
+pub spans-append : (es fs : List Token) → token_spans (es ++ fs) ≡ token_spans es ++ token_spans fs
+spans-append [] fs = refl
+spans-append (token.Text kind s ∷ es) fs = ap (λ ss. s ∷ ss) (spans-append es fs)
+spans-append (_ ∷ es) fs = spans-append es fs
+
+-- the spans of a token before others
+spans-first : (e : Token) (es fs : List Token) → token_spans es ≡ token_spans fs → token_spans (e ∷ es) ≡ token_spans (e ∷ fs)
+spans-first e es fs h = spans-append (e ∷ []) es ∙ ap (λ ss. token_spans (e ∷ []) ++ ss) h ∙ sym (spans-append (e ∷ []) fs)
+
+without_faults-spans : (es : List Token) → token_spans (without_faults es) ≡ token_spans es
+without_faults-spans [] = refl
+without_faults-spans (token.Fault kind line ∷ es) = without_faults-spans es
+without_faults-spans (e ∷ es) = spans-first e (without_faults es) es (without_faults-spans es)
+
+-- white space has no span
+white-spans : (b : Bool) (es : List Token) → token_spans ((if b then token.White ∷ [] else []) ++ es) ≡ token_spans es
+white-spans true es = refl
+white-spans false es = refl
+
+with_spaces-spans : (es : List Token) → token_spans (with_spaces es) ≡ token_spans es
+with_spaces-spans [] = refl
+with_spaces-spans (e ∷ []) = refl
+with_spaces-spans (e ∷ f ∷ es) =
+    spans-first e ((if would_merge e f then token.White ∷ [] else []) ++ with_spaces (f ∷ es)) (f ∷ es)
+    (white-spans (would_merge e f) (with_spaces (f ∷ es)) ∙ with_spaces-spans (f ∷ es))
+
+with_space_behind-spans : (texts : List (List ℕ)) (e : Token) (es : List Token) → token_spans (with_space_behind texts e es) ≡ token_spans (e ∷ es)
+with_space_behind-spans texts e [] = refl
+with_space_behind-spans texts e (f ∷ es) = spans-first e ((if may_follow_name texts f then [] else token.White ∷ []) ++ f ∷ es) (f ∷ es) (by (may_follow_name texts f))
+  where
+    by : (b : Bool) → token_spans (cond b [] (token.White ∷ []) ++ f ∷ es) ≡ token_spans (f ∷ es)
+    by true = refl
+    by false = refl
+
+with_name_space-spans : (texts : List (List ℕ)) (es : List Token) → token_spans (with_name_space texts es) ≡ token_spans es
+with_name_space-spans texts [] = refl
+with_name_space-spans texts (token.White ∷ es) = with_name_space-spans texts es
+with_name_space-spans texts (token.LineEnd line ∷ es) = with_name_space-spans texts es
+with_name_space-spans texts (token.Join ∷ es) = with_name_space-spans texts es
+with_name_space-spans texts (e ∷ es) = with_space_behind-spans texts e es
+
+gap-spans : (run : List Token) → AreGaps run → token_spans run ≡ []
+gap-spans [] g = refl
+gap-spans (token.Join ∷ run) g = gap-spans run g
+gap-spans (token.White ∷ run) g = gap-spans run g
+gap-spans (token.LineEnd line ∷ run) g = gap-spans run g
+gap-spans (_ ∷ run) g = absurd g
+
+left-spans : (run : List Token) → AreGaps run → token_spans (left_of_run run) ≡ []
+left-spans run g = by (has_join run)
+  where
+    by : (b : Bool) → token_spans (cond b [] run) ≡ []
+    by true = refl
+    by false = gap-spans run g
+
+without_joins-spans : (run es : List Token) → AreGaps run → token_spans (without_joins run es) ≡ token_spans es
+without_joins-spans run [] g = left-spans run g
+without_joins-spans run (token.Join ∷ es) g = without_joins-spans (run ++ token.Join ∷ []) es (gaps-append run token.Join g tt)
+without_joins-spans run (token.White ∷ es) g = without_joins-spans (run ++ token.White ∷ []) es (gaps-append run token.White g tt)
+without_joins-spans run (token.LineEnd line ∷ es) g = without_joins-spans (run ++ token.LineEnd line ∷ []) es (gaps-append run (token.LineEnd line) g tt)
+without_joins-spans run (e ∷ es) g =
+    spans-append (left_of_run run) (e ∷ without_joins [] es)
+    ∙ ap (λ ss. ss ++ token_spans (e ∷ without_joins [] es)) (left-spans run g)
+    ∙ spans-first e (without_joins [] es) es (without_joins-spans [] es tt)
+
+blanks-spans : (before white : Bool) (es : List Token) → token_spans (blanks before white es) ≡ token_spans es
+blanks-spans before white [] = refl
+blanks-spans before white (token.White ∷ es) = blanks-spans before true es
+blanks-spans before white (token.LineEnd line ∷ es) = blanks-spans false false es
+blanks-spans before white (e ∷ es) =
+    white-spans (before && white) (e ∷ blanks true false es) ∙ spans-first e (blanks true false es) es (blanks-spans true false es)
+
+line_item-spans : (lines : List Line) (count : Origin) (line : ℕ) (ss : List Span) (items : List Item) → item_spans items ≡ ss → item_spans (line_item lines count line ∷ items) ≡ ss
+line_item-spans lines count line ss items h = by (goes_on lines count line)
+  where
+    by : (b : Bool) → item_spans (cond b item.LineEnd (item.LineMark (place_at lines (line + 1))) ∷ items) ≡ ss
+    by true = h
+    by false = h
+
+items_by_place-spans : (lines : List Line) (count : Origin) (es : List Token) → item_spans (items_by_place lines count es) ≡ token_spans es
+items_by_place-spans lines count [] = refl
+items_by_place-spans lines count (token.LineEnd line ∷ es) =
+    line_item-spans lines count line _ _ (items_by_place-spans lines (count_behind lines count line) es)
+items_by_place-spans lines count (token.UseOf name line ∷ es) = items_by_place-spans lines _ es
+items_by_place-spans lines count (token.Defs line ∷ es) = items_by_place-spans lines _ es
+items_by_place-spans lines count (token.QuoteBreak ∷ es) = items_by_place-spans lines _ es
+items_by_place-spans lines count (token.Text text_kind.Word s ∷ es) = ap (λ ss. s ∷ ss) (items_by_place-spans lines count es)
+items_by_place-spans lines count (token.Text text_kind.Sign s ∷ es) = ap (λ ss. s ∷ ss) (items_by_place-spans lines count es)
+items_by_place-spans lines count (token.Text text_kind.Quoted s ∷ es) = ap (λ ss. s ∷ ss) (items_by_place-spans lines count es)
+items_by_place-spans lines count (token.Text text_kind.Verbatim s ∷ es) = ap (λ ss. s ∷ ss) (items_by_place-spans lines count es)
+items_by_place-spans lines count (_ ∷ es) = items_by_place-spans lines count es
+
+unmarked_items-spans : (es : List Token) → item_spans (unmarked_items es) ≡ token_spans es
+unmarked_items-spans [] = refl
+unmarked_items-spans (token.Text text_kind.Word s ∷ es) = ap (λ ss. s ∷ ss) (unmarked_items-spans es)
+unmarked_items-spans (token.Text text_kind.Sign s ∷ es) = ap (λ ss. s ∷ ss) (unmarked_items-spans es)
+unmarked_items-spans (token.Text text_kind.Quoted s ∷ es) = ap (λ ss. s ∷ ss) (unmarked_items-spans es)
+unmarked_items-spans (token.Text text_kind.Verbatim s ∷ es) = ap (λ ss. s ∷ ss) (unmarked_items-spans es)
+unmarked_items-spans (_ ∷ es) = unmarked_items-spans es
+
+without_front-spans : (es : List Token) → token_spans (without_front_gaps es) ≡ token_spans es
+without_front-spans [] = refl
+without_front-spans (token.White ∷ es) = without_front-spans es
+without_front-spans (token.LineEnd line ∷ es) = without_front-spans es
+without_front-spans (_ ∷ es) = refl
+
+-- the items of a C part have the spans of its tokens
+pub part-spans : (lines : List Line) (line : ℕ) (es : List Token) → item_spans (part_items lines line es) ≡ token_spans es
+part-spans lines line es =
+    let with_white_space : List Token = with_spaces (without_faults es) in
+    items_by_place-spans lines (place_at lines line) (blanks false false (without_joins [] with_white_space))
+    ∙ blanks-spans false false (without_joins [] with_white_space)
+    ∙ without_joins-spans [] with_white_space tt
+    ∙ with_spaces-spans (without_faults es)
+    ∙ without_faults-spans es
+
+-- those of a macro too
+pub macro-spans : (texts : List (List ℕ)) (es : List Token) → item_spans (macro_items texts es) ≡ token_spans es
+macro-spans texts es =
+    let front : List Token = without_front_gaps (without_faults es) in
+    let with_white_space : List Token = with_name_space texts (with_spaces front) in
+    unmarked_items-spans (blanks false false (without_joins [] with_white_space))
+    ∙ blanks-spans false false (without_joins [] with_white_space)
+    ∙ without_joins-spans [] with_white_space tt
+    ∙ with_name_space-spans texts (with_spaces front)
+    ∙ with_spaces-spans front
+    ∙ without_front-spans (without_faults es)
+    ∙ without_faults-spans es

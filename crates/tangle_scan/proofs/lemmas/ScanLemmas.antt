@@ -1,0 +1,56 @@
+-- Part by part.
+use Rattle.std.proofs.Common.{◌≡◌, ◌≤◌, ◌<◌, ℕ, ◌+◌, true, List, [], ◌∷◌, ◌++◌, length, map, refl, ap, sym, ◌∙◌, arith, Option, None, Some, option_to_list}
+use Rattle.std.specs.Option.{IfSome, IfNone}
+use Rattle.tangle_lines.specs.Reading.{SourceRead}
+use Rattle.tangle_lexer.specs.declared.tokens.Token.{Token}
+use Rattle.tangle_lexer.specs.declared.modes.ScanState.{ScanState}
+use Rattle.tangle_lexer.specs.Text.{Cell}
+use Rattle.tangle_lexer.specs.Steps.{tokens_from, names_from, all_tokens, all_names}
+use Rattle.tangle_scan.specs.Web.{body, web_of}
+use Rattle.tangle_lexer.specs.Occurrences.{OccurrenceRead, occurrence_of}
+use Rattle.tangle_lexer.specs.Heads.{is_head}
+use Rattle.tangle_scan.specs.Gathering.{GatheringRead, nothing, gathering_with, web_from}
+use Rattle.tangle_scan.proofs.lemmas.GatheringLemmas.{gathering-cut}
+
+pub tokens-end : (s : ScanState) → tokens_from s [] ≡ []
+unfolding tokens_from
+tokens-end s = refl
+
+pub names-end : (s : ScanState) → names_from s [] ≡ []
+unfolding names_from
+names-end s = refl
+
+-- what is ahead of a part begins with a head, or there is nothing
+ends-body : (s : ScanState) (front : Option Token) (rest : List Cell) → IfSome front (λ head. is_head head ≡ true) → IfNone front (rest ≡ []) →
+    body (option_to_list front ++ tokens_from s rest) ≡ []
+ends-body s None rest head end = ap body (ap (tokens_from s) end ∙ tokens-end s)
+ends-body s (Some e) rest head end = rw head refl
+
+-- a part behind a head is gathered, and then what is ahead
+pub block-gathering : (source : SourceRead) (before : GatheringRead) (head : Token) (s after : ScanState) (text rest : List Cell) (block : List Token) (front : Option Token) →
+    tokens_from s text ≡ block ++ (option_to_list front ++ tokens_from after rest) → IfSome front (λ head. is_head head ≡ true) → IfNone front (rest ≡ []) →
+    gathering_with source (gathering_with source before (head ∷ block)) (option_to_list front ++ tokens_from after rest) ≡ gathering_with source before (head ∷ tokens_from s text)
+block-gathering source before head s after text rest block front all some end =
+    gathering-cut source before (head ∷ block) (option_to_list front ++ tokens_from after rest) (ends-body after front rest some end)
+    ∙ ap (λ es. gathering_with source before (head ∷ es)) (sym all)
+
+-- so are the tokens before the first head
+pub front-gathering : (source : SourceRead) (before : GatheringRead) (s after : ScanState) (text rest : List Cell) (block : List Token) (front : Option Token) →
+    tokens_from s text ≡ block ++ (option_to_list front ++ tokens_from after rest) → IfSome front (λ head. is_head head ≡ true) → IfNone front (rest ≡ []) →
+    gathering_with source (gathering_with source before block) (option_to_list front ++ tokens_from after rest) ≡ gathering_with source before (tokens_from s text)
+front-gathering source before s after text rest block front all some end =
+    gathering-cut source before block (option_to_list front ++ tokens_from after rest) (ends-body after front rest some end)
+    ∙ ap (gathering_with source before) (sym all)
+
+-- each head takes a cell
+pub block-shorter : (text rest : List Cell) (front : Option Token) → IfSome front (λ head. length rest < length text) → IfNone front (rest ≡ []) →
+    length (option_to_list front) + length rest ≤ length text
+block-shorter text rest None some end = omega (arith, ap length end)
+block-shorter text rest (Some head) some end = omega (arith, some)
+
+-- the web of what was gathered
+pub web-whole : (source : SourceRead) (all : GatheringRead) (names : List OccurrenceRead) → all ≡ gathering_with source nothing (all_tokens source.lines) →
+    names ≡ map (occurrence_of source.lines) (all_names source.lines) →
+    web_from source all names ≡ web_of source
+unfolding gathering_with
+web-whole source all names a b = rw (a, b) refl

@@ -1,0 +1,145 @@
+use Rattle.std.proofs.Common.{◌≡◌, ℕ, Bool, true, false, ◌||◌, not, List, [], ◌∷◌, ◌++◌, take, drop, refl, ap, sym, ◌∙◌, if◌then◌else◌, append_assoc, append-nil}
+use Rattle.std.specs.List.{list_any}
+use Rattle.tangle_lexer.specs.declared.tokens.Token.{Token}
+use Rattle.tangle_lexer.specs.declared.tokens.TextKind.TheVariants as text_kind
+use Rattle.tangle_lexer.specs.declared.tokens.Token.TheVariants as token
+use Rattle.tangle_scan.specs.declared.spacing.Stage.{Stage}
+use Rattle.tangle_scan.specs.declared.spacing.Spacing.{Spacing}
+use Rattle.tangle_scan.specs.declared.spacing.Stage.TheVariants as stage
+use Rattle.tangle_scan.specs.Rules.{without_joins, has_join, without_faults, with_spaces, with_name_space, with_space_behind, may_follow_name, would_merge}
+use Rattle.tangle_scan.proofs.lemmas.RuleLemmas.{run-end, has_join-push}
+use Rattle.tangle_scan.specs.Passes.{without_joins_from, spacing_from, with_white_space, may_change, is_skipped, without_skipped, stage_behind, needs_space}
+
+-- rule 1, token by token
+
+inside-spaced : (texts : List (List ℕ)) (e : Token) (es : List Token) → with_spaces (e ∷ es) ≡ e ∷ with_white_space texts stage.Inside e es
+inside-spaced texts e [] = refl
+inside-spaced texts e (f ∷ es) = ap (λ t. e ∷ (if would_merge e f then token.White ∷ [] else []) ++ t) (inside-spaced texts f es)
+
+pub spaced-inside : (texts : List (List ℕ)) (es : List Token) → with_white_space texts stage.Inside token.White es ≡ with_spaces es
+spaced-inside texts [] = refl
+spaced-inside texts (e ∷ es) = sym (inside-spaced texts e es)
+
+-- a token that is taken out leaves nothing
+pub without_skipped-gone : (at : Stage) (e : Token) (es : List Token) → is_skipped at e ≡ true → without_skipped at (e ∷ es) ≡ without_skipped at es
+without_skipped-gone stage.Front (token.Fault kind line) es h = refl
+without_skipped-gone _ (token.Fault kind line) es h = refl
+without_skipped-gone stage.Front token.White es h = refl
+without_skipped-gone stage.Front (token.LineEnd line) es h = refl
+without_skipped-gone stage.Front _ es h = cc
+without_skipped-gone _ _ es h = cc
+
+-- another stays
+pub without_skipped-stays : (at : Stage) (e : Token) (es : List Token) → is_skipped at e ≡ false → without_skipped at (e ∷ es) ≡ e ∷ without_skipped (stage_behind at e) es
+without_skipped-stays at (token.Fault kind line) es h = cc
+without_skipped-stays stage.Front token.White es h = cc
+without_skipped-stays stage.Front (token.LineEnd line) es h = cc
+without_skipped-stays stage.Front _ es h = refl
+without_skipped-stays stage.BeforeName _ es h = refl
+without_skipped-stays stage.BehindName _ es h = refl
+without_skipped-stays stage.Inside _ es h = refl
+
+-- a line end or a join before puts no more white space than white space does
+
+space-line : (texts : List (List ℕ)) (at : Stage) (line : ℕ) (e : Token) → needs_space texts at (token.LineEnd line) e ≡ needs_space texts at token.White e
+space-line texts stage.BehindName line e = refl
+space-line texts _ line e = refl
+
+space-join : (texts : List (List ℕ)) (at : Stage) (e : Token) → needs_space texts at token.Join e ≡ needs_space texts at token.White e
+space-join texts stage.BehindName e = refl
+space-join texts _ e = refl
+
+behind-line : (texts : List (List ℕ)) (at : Stage) (line : ℕ) (es : List Token) → with_white_space texts at (token.LineEnd line) es ≡ with_white_space texts at token.White es
+behind-line texts at line [] = refl
+behind-line texts at line (e ∷ es) =
+    ap (λ b. (if b then token.White ∷ [] else []) ++ e ∷ with_white_space texts (stage_behind at e) e es) (space-line texts at line e)
+
+behind-join : (texts : List (List ℕ)) (at : Stage) (es : List Token) → with_white_space texts at token.Join es ≡ with_white_space texts at token.White es
+behind-join texts at [] = refl
+behind-join texts at (e ∷ es) =
+    ap (λ b. (if b then token.White ∷ [] else []) ++ e ∷ with_white_space texts (stage_behind at e) e es) (space-join texts at e)
+
+-- behind the name of a macro
+behind-name : (texts : List (List ℕ)) (e f : Token) (es : List Token) (touching following : Bool) → may_follow_name texts f ≡ following →
+    with_space_behind texts e ((if touching then token.White ∷ [] else []) ++ f ∷ es) ≡ e ∷ (if touching || not following then token.White ∷ [] else []) ++ f ∷ es
+behind-name texts e f es true following is = refl
+behind-name texts e f es false true is = rw is refl
+behind-name texts e f es false false is = rw is refl
+
+name-behind : (texts : List (List ℕ)) (e : Token) (es : List Token) →
+    with_space_behind texts e (with_white_space texts stage.Inside e es) ≡ e ∷ with_white_space texts stage.BehindName e es
+name-behind texts e [] = refl
+name-behind texts e (f ∷ es) = behind-name texts e f (with_white_space texts stage.Inside f es) (would_merge e f) (may_follow_name texts f) refl
+
+name-spaced : (texts : List (List ℕ)) (es : List Token) →
+    with_name_space texts (with_white_space texts stage.Inside token.White es) ≡ with_white_space texts stage.BeforeName token.White es
+name-spaced texts [] = refl
+name-spaced texts (token.White ∷ es) = ap (λ t. token.White ∷ t) (name-spaced texts es)
+name-spaced texts (token.LineEnd line ∷ es) =
+    rw (behind-line texts stage.Inside line es, behind-line texts stage.BeforeName line es) (ap (λ t. token.LineEnd line ∷ t) (name-spaced texts es))
+name-spaced texts (token.Join ∷ es) =
+    rw (behind-join texts stage.Inside es, behind-join texts stage.BeforeName es) (ap (λ t. token.Join ∷ t) (name-spaced texts es))
+name-spaced texts (e ∷ es) = name-behind texts e es
+
+front-spaced : (texts : List (List ℕ)) (es : List Token) → with_white_space texts stage.Front token.White es ≡ with_white_space texts stage.BeforeName token.White es
+front-spaced texts [] = refl
+front-spaced texts (e ∷ es) = refl
+
+pub spaced-front : (texts : List (List ℕ)) (es : List Token) → with_white_space texts stage.Front token.White es ≡ with_name_space texts (with_spaces es)
+spaced-front texts es = front-spaced texts es ∙ (sym (name-spaced texts es) ∙ ap (with_name_space texts) (spaced-inside texts es))
+
+-- nothing is left to come
+pub spaced-end : (texts : List (List ℕ)) (out : List Token) (at : Spacing) → spacing_from texts out at [] ≡ (if has_join (drop at.run.start out) then take at.run.start out else out)
+unfolding spacing_from
+spaced-end texts out at = rw nothing (run-end at.run.start out)
+  where
+    gone : (stages : Stage) → without_skipped stages [] ≡ []
+    gone stage.Front = refl
+    gone _ = refl
+
+    nothing : with_white_space texts at.stage at.before (without_skipped at.stage []) ≡ []
+    nothing = ap (with_white_space texts at.stage at.before) (gone at.stage)
+
+-- all is still to come
+pub spaced-begin : (texts : List (List ℕ)) (out : List Token) (at : Stage) (es : List Token) → out ≡ [] →
+    spacing_from texts out (record { run = record { start = 0; has_join = false }; stage = at; before = token.White }) es
+    ≡ without_joins [] (with_white_space texts at token.White (without_skipped at es))
+unfolding spacing_from without_joins_from
+spaced-begin texts out at es is = rw is refl
+
+-- where nothing is spaced, all stays
+
+or-false : (a b : Bool) → (a || b) ≡ false → (a ≡ false) × (b ≡ false)
+or-false true b h = cc
+or-false false b h = (refl, h)
+
+unchanged-faults : (es : List Token) → list_any may_change es ≡ false → without_faults es ≡ es
+unchanged-faults [] h = refl
+unchanged-faults (token.Fault kind line ∷ es) h = cc
+unchanged-faults (e ∷ es) h = ap (λ t. e ∷ t) (unchanged-faults es (or-false (may_change e) (list_any may_change es) h).1)
+
+unchanged-merge : (e f : Token) → may_change e ≡ false → may_change f ≡ false → would_merge e f ≡ false
+unchanged-merge (token.Constant value line) f h k = cc
+unchanged-merge (token.Text text_kind.Word s) (token.Constant value line) h k = cc
+unchanged-merge (token.Text text_kind.Word s) _ h k = refl
+unchanged-merge _ f h k = refl
+
+unchanged-spaces : (es : List Token) → list_any may_change es ≡ false → with_spaces es ≡ es
+unchanged-spaces [] h = refl
+unchanged-spaces (e ∷ []) h = refl
+unchanged-spaces (e ∷ f ∷ es) h =
+    let first = or-false (may_change e) (list_any may_change (f ∷ es)) h in
+    let second = or-false (may_change f) (list_any may_change es) first.1 in
+    rw (unchanged-merge e f first.0 second.0) (ap (λ t. e ∷ t) (unchanged-spaces (f ∷ es) first.1))
+
+unchanged-without_joins : (run es : List Token) → has_join run ≡ false → list_any may_change es ≡ false → without_joins run es ≡ run ++ es
+unchanged-without_joins run [] h k = rw h (sym (append-nil run))
+unchanged-without_joins run (token.Join ∷ es) h k = cc
+unchanged-without_joins run (token.White ∷ es) h k =
+    unchanged-without_joins (run ++ token.White ∷ []) es (has_join-push run token.White ∙ rw h refl) k ∙ append_assoc run (token.White ∷ []) es
+unchanged-without_joins run (token.LineEnd line ∷ es) h k =
+    unchanged-without_joins (run ++ token.LineEnd line ∷ []) es (has_join-push run (token.LineEnd line) ∙ rw h refl) k ∙ append_assoc run (token.LineEnd line ∷ []) es
+unchanged-without_joins run (e ∷ es) h k = rw h (ap (λ t. run ++ e ∷ t) (unchanged-without_joins [] es refl (or-false (may_change e) (list_any may_change es) k).1))
+
+pub unchanged-stays : (es : List Token) → list_any may_change es ≡ false → es ≡ without_joins [] (with_spaces (without_faults es))
+unchanged-stays es h = sym (ap (λ t. without_joins [] (with_spaces t)) (unchanged-faults es h) ∙ (ap (without_joins []) (unchanged-spaces es h) ∙ unchanged-without_joins [] es refl h))

@@ -1,8 +1,0 @@
-use Rattle.std.proofs.Common.{sym, ◌∙◌}
-use Rattle.tangle_scan.specs.declared.regions.Region.TheVariants as region
-use Rattle.tangle_scan.proofs.CutLemmas.{at_once-end}
-use Rattle.tangle_scan.proofs.quoted.push_verbatim.Goals as goal
-
-pub returns-then-ends_at_once-clause-ahead : goal.returns-then-ends_at_once-clause-ahead
-returns-then-ends_at_once-clause-ahead c =
-    at_once-end region.Verbatim c.args.ahead.now (sym c.ends_at_once.ensures ∙ c.if-ends_at_once.true)

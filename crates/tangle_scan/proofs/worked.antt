@@ -1,0 +1,2 @@
+pub mod LineTruthRows
+pub mod Rows

@@ -1,0 +1,60 @@
+-- What is gathered of a web, part by part.
+use Rattle.std.specs.Prelude.{ℕ, Bool, false, ◌||◌, List, [], ◌∷◌, ◌++◌, flat_map, map}
+use Rattle.std.specs.List.{list_any}
+use Rattle.tangle_lines.specs.Faults.{Finding}
+use Rattle.tangle_lines.specs.Lines.{FileTable}
+use Rattle.tangle_lines.specs.Reading.{Line, SourceRead}
+use Rattle.tangle_scan.specs.declared.items.Item.{Item}
+use Rattle.tangle_lexer.specs.declared.tokens.Token.{Token}
+use Rattle.tangle_lexer.specs.declared.tokens.Token.TheVariants as token
+use Rattle.tangle_scan.specs.Web.{PieceRead, WebRead, texts_of, blocks, block_at, section_behind, section_count, piece_of, macro_of, has_defs, scan_faults, faults_at, fault_on}
+use Rattle.tangle_lexer.specs.Occurrences.{OccurrenceRead}
+
+-- what was gathered so far
+pub record GatheringRead : Type 0 where
+  pub sections : ℕ
+  pub pieces : List PieceRead
+  pub macros : List (List Item)
+  pub has_defs_code : Bool
+  pub faults : List Finding
+
+abbrev pub nothing : GatheringRead
+nothing = record { sections = 0; pieces = []; macros = []; has_defs_code = false; faults = [] }
+
+-- the same with what these tokens add
+unfoldable pub gathering_with : SourceRead → GatheringRead → List Token → GatheringRead
+gathering_with source before tokens = record {
+  sections = section_count before.sections tokens;
+  pieces = before.pieces ++ flat_map (piece_of source.lines) (blocks before.sections tokens);
+  macros = before.macros ++ flat_map (macro_of source.lines) (blocks before.sections tokens);
+  has_defs_code = before.has_defs_code || list_any has_defs (blocks before.sections tokens);
+  faults = before.faults ++ scan_faults source.files source.lines tokens;
+}
+
+-- the fault that a token is by itself
+abbrev pub own_fault : FileTable → List Line → Token → List Finding
+own_fault files lines (token.Fault kind line) = fault_on files lines kind line ∷ []
+own_fault files lines _ = []
+
+-- the same with a head before these tokens, but not yet with theirs
+abbrev pub with_head : SourceRead → GatheringRead → Token → List Token → GatheringRead
+with_head source before head tokens = record {
+  sections = section_behind before.sections head;
+  pieces = before.pieces ++ flat_map (piece_of source.lines) (block_at before.sections head tokens);
+  macros = before.macros ++ flat_map (macro_of source.lines) (block_at before.sections head tokens);
+  has_defs_code = before.has_defs_code || list_any has_defs (block_at before.sections head tokens);
+  faults = before.faults ++ faults_at source.files source.lines head tokens;
+}
+
+-- the web of a source, of what was gathered, and of these occurrences
+abbrev pub web_from : SourceRead → GatheringRead → List OccurrenceRead → WebRead
+web_from source gathering occurrences = record {
+  texts = texts_of source.lines;
+  file_names = map (λ f. f.0) source.files;
+  sections = gathering.sections;
+  pieces = gathering.pieces;
+  macros = gathering.macros;
+  occurrences = occurrences;
+  has_defs_code = gathering.has_defs_code;
+  faults = gathering.faults;
+}

@@ -1,0 +1,44 @@
+//! What the reasons of this project say where a program prints them.
+use std::test::Fail;
+use tangle_lines::{NoMemory, Refusal, WriteFault};
+
+#[test]
+fn want_of_memory_in_words(rt: HostRuntime) -> Result<(), Fail> {
+    let text = format!(in rt.alloc(); "{}", NoMemory)?;
+    assert!(rt; text.as_str() == "no memory");
+    Ok(())
+}
+
+#[test]
+fn a_failed_write_in_words(rt: HostRuntime) -> Result<(), Fail> {
+    let text = format!(in rt.alloc(); "{}", WriteFault(7))?;
+    assert!(rt; text.as_str() == "the writer failed after 7 bytes");
+    Ok(())
+}
+
+// Each refusal, and what it says.
+const REFUSALS: [(Refusal, &str); 14] = [
+    (Refusal::BadName, "a bad file name"),
+    (Refusal::FileExists, "the file exists"),
+    (Refusal::TooManyFiles, "too many files"),
+    (Refusal::LineTooLong, "a line is too long"),
+    (Refusal::TooManyLines, "too many lines"),
+    (Refusal::NoMemory, "no memory"),
+    (Refusal::UnknownFile, "no such file"),
+    (Refusal::NoSuchLine, "no such line"),
+    (Refusal::BadLine, "a line feed in a line"),
+    (Refusal::NoWeb, "no web file"),
+    (Refusal::NoChange, "no change file"),
+    (Refusal::RoleFile, "the file has a role"),
+    (Refusal::NoOutput, "no such output"),
+    (Refusal::WriteFault(12), "the writer failed after 12 bytes"),
+];
+
+#[test]
+fn each_refusal_in_words(rt: HostRuntime) -> Result<(), Fail> {
+    for (refusal, words) in &REFUSALS {
+        let text = format!(in rt.alloc(); "{}", refusal)?;
+        assert!(rt; text.as_str() == *words);
+    }
+    Ok(())
+}

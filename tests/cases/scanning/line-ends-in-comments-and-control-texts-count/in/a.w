@@ -1,0 +1,8 @@
+@ A.
+@c
+a /* x
+y */ b
+@^in
+dex@> c
+#include /*
+*/ <p@@q>

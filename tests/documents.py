@@ -1,0 +1,239 @@
+"""The documents name what is there, and wrong bodies are tried for what is public.
+
+usage: documents.py [FOLDER]      the folder of the repository
+
+- docs/definitions.md: each definition stands in the file of specs/ beside it, each file of code is there, each promise
+  is a function of the crate with that clause; each file of specs/ and each crate with one is in the map.
+- docs/promises.md: each public call of a crate that has a table there is in it.
+- docs/sessions.md, where it is: the reference answers its conversation so. README.md names each page of docs/.
+- crates/*/must-fail: each public function that is no law has an edit of its own, or of a private function that it calls,
+  unless docs/wrong-bodies.md has it in a row '| `CRATE` | without an edit: `TYPE::NAME`, `NAME` | why |'. Each text that
+  an edit replaces stands once in its file.
+The last line is 'N passed, M failed'.
+"""
+import os
+import re
+import sys
+
+sys.path.insert(0, os.path.join(os.path.dirname(os.path.abspath(__file__)), 'reference'))
+from files import Roles, add
+from scripts import Script
+from sessions import Session
+
+DEFINITION = r'^ *(?:(?:abbrev|unfoldable) )?pub (?:record |data )?%s(?: |$)'
+FUNCTION = re.compile(r'^\s*(pub |pub\(crate\) )?(?:const )?fn (\w+)', re.M)
+CODED = re.compile(r'`([^`]+)`')
+
+counts = {True: 0, False: 0}
+
+
+def check(holds, name, problem):
+    counts[bool(holds)] += 1
+    if not holds:
+        print('FAIL %s: %s' % (name, problem))
+
+
+def texts_in(folder, ending):
+    found = {}
+    if os.path.isdir(folder):
+        for name in sorted(os.listdir(folder)):
+            if name.endswith(ending):
+                with open(os.path.join(folder, name), encoding='utf-8') as source:
+                    found[name] = source.read()
+    return found
+
+
+class Crate:
+    def __init__(self, folder):
+        self.specs = texts_in(os.path.join(folder, 'specs'), '.antt')
+        self.code = texts_in(os.path.join(folder, 'src'), '.rt')
+        self.edits = texts_in(os.path.join(folder, 'must-fail'), '.edit')
+        self.whole = '\n'.join(self.code.values())
+
+
+# ------------------------------------------------------------------ the map
+
+def check_row(crates, crate, cells):
+    here = crates[crate]
+    name = 'docs/definitions.md, %s' % crate
+    definitions, spec, code, promises = cells
+    for file in CODED.findall(spec):
+        for word in CODED.findall(definitions):
+            text = here.specs.get(file, '')
+            check(re.search(DEFINITION % re.escape(word), text, re.M), name, '%s is not in specs/%s' % (word, file))
+    for file in CODED.findall(code):
+        check(file in here.code, name, 'no file src/%s' % file)
+    for promise in CODED.findall(promises):
+        check_promise(crates, here, name, promise)
+
+
+def check_promise(crates, here, name, promise):
+    """A promise is CALL, CALL: CLAUSE, or either behind CRATE and ::."""
+    where, _, call = promise.rpartition('::')
+    call, _, clause = call.partition(': ')
+    text = crates[where].whole if where in crates else here.whole
+    check(re.search(r'\bfn %s\b' % re.escape(call.split('.')[-1]), text), name, 'no call %s' % call)
+    if clause:
+        check(re.search(r'ensures %s\b' % re.escape(clause), text), name, 'no clause %s of %s' % (clause, call))
+
+
+def check_map(crates, text):
+    parts = re.split(r'^## `(\w+)`.*$', text, flags=re.M)
+    told = dict(zip(parts[1::2], parts[2::2]))
+    for crate, part in told.items():
+        if crate not in crates:
+            check(False, 'docs/definitions.md', 'no crate %s' % crate)
+            continue
+        for file in re.findall(r'`(\w+\.antt)`', part):
+            check(file in crates[crate].specs, 'docs/definitions.md', 'no file specs/%s of %s' % (file, crate))
+        for line in part.splitlines():
+            cells = [cell.strip() for cell in line.strip('|').split('|')]
+            if len(cells) == 5 and '`' in cells[1]:
+                check_row(crates, crate, cells[1:])
+    for crate, here in crates.items():
+        files = [file for file in here.specs if file != 'Lib.antt']
+        missing = [file for file in files if '`%s`' % file not in told.get(crate, '')]
+        check(not missing, 'docs/definitions.md', '%s of %s is not in the map' % (', '.join(missing), crate))
+
+
+# ------------------------------------------------------------------ the conversation
+
+def check_conversation(top):
+    """What stands behind '$ programs.py retangle . a': lines that begin with > are typed, over the file shown before."""
+    path = os.path.join(top, 'docs', 'sessions.md')
+    if not os.path.exists(path):
+        return
+    with open(path, encoding='utf-8') as source:
+        blocks = re.findall(r'(?:^(?:    .*)?\n)*^    .*\n', source.read(), re.M)
+    at = next(number for number, block in enumerate(blocks) if '$ programs.py retangle . a\n' in block)
+    web, talk = (re.sub('^    ', '', block, flags=re.M).strip('\n') + '\n' for block in blocks[at - 1:at + 1])
+    lines = talk.splitlines(True)[1:]
+    typed = ''.join(line[2:] for line in lines if line.startswith('> '))
+    answered = ''.join(line for line in lines if not line.startswith('> '))
+    session = Session(add([], b'a.w', web.encode()), Roles(b'a.w', None, b'a.c'))
+    check(Script(session, typed.encode()).written == answered.encode(), 'docs/sessions.md', 'another conversation')
+
+
+def check_readme(top):
+    with open(os.path.join(top, 'README.md'), encoding='utf-8') as source:
+        told = set(CODED.findall(source.read()))
+    for page in sorted(os.listdir(os.path.join(top, 'docs'))):
+        check('docs/%s' % page in told, 'README.md', 'docs/%s is not in it' % page)
+
+
+# ------------------------------------------------------------------ wrong bodies
+
+def functions_in(text):
+    """The functions of a file: (start, type of the impl or '', name, whether public, text)."""
+    starts = [(found.start(), found) for found in FUNCTION.finditer(text)]
+    impls = [(found.start(), found.group(1)) for found in
+             re.finditer(r'^(?:impl(?:<[^>{]*>)? (?:\w+(?:<[^{]*?>)? for )?|pub trait |trait )(\w+)', text, re.M)]
+    for number, (start, found) in enumerate(starts):
+        end = starts[number + 1][0] if number + 1 < len(starts) else len(text)
+        before = [name for at, name in impls if at < start]
+        is_method = text[found.start():found.end()].lstrip('\n').startswith(' ')
+        yield start, before[-1] if is_method and before else '', found.group(2), found.group(1) == 'pub ', text[start:end]
+
+
+def functions_of(here):
+    return [(file,) + one for file, text in here.code.items() for one in functions_in(text)]
+
+
+def surface_of(here, functions):
+    """The public functions that the crate hands on, and the methods of the types that it hands on."""
+    handed_on = set(re.findall(r'\w+', ' '.join(re.findall(r'^pub use ([^;]*);', here.code['lib.rt'], re.M))))
+    handed_on |= set(re.findall(r'^pub (?:struct|enum|trait|fn) (\w+)', here.code['lib.rt'], re.M))
+    return [one for one in functions if one[4] and (one[2] or one[3]) in handed_on]
+
+
+def check_promises(crate, here, part):
+    """Each public call stands in the tables of docs/promises.md, as NAME or TYPE::NAME."""
+    told = {word.split('::')[-1] for word in CODED.findall(part)}
+    missing = sorted({one[3] for one in surface_of(here, functions_of(here))} - told)
+    check(not missing, 'docs/promises.md', '%s of %s' % (', '.join(missing), crate))
+
+
+def check_edits(crate, here, excused):
+    if not here.edits:
+        return
+    functions = functions_of(here)
+    edited = set().union(*(edited_functions(here, text) for text in here.edits.values()))
+    surface = surface_of(here, functions)
+    private = {one[3]: one for one in functions if one not in surface}
+    for one in surface:
+        file, _, kind, name, _, text = one
+        if not is_law(text) and not {kind, name, '%s::%s' % (kind, name)} & excused:
+            check(edited & reached(one, private), '%s/must-fail' % crate, '%s of %s has no edit' % (name, kind or file))
+
+
+def check_edits_apply(crate, here):
+    """Each text that an edit replaces stands once in its file, when its turn comes."""
+    for name, edit in here.edits.items():
+        texts, file = dict(here.code), None
+        turns = re.findall(r'^(?:file: src/(\S+)\n)?old: ?(.*)\nnew: ?(.*)', edit, re.M)
+        check(turns, '%s/must-fail/%s' % (crate, name), 'nothing is replaced')
+        for named, old, new in turns:
+            file = named or file
+            times = texts.get(file, '').count(old)
+            check(times == 1, '%s/must-fail/%s' % (crate, name), '%d times %s' % (times, old))
+            texts[file] = texts.get(file, '').replace(old, new, 1)
+
+
+def is_law(text):
+    """A function without a body states a law."""
+    return re.search(r'\)\s*(ensures.*)?\{\s*\}\s*\Z', re.sub(r'^\s*(//|#\[).*$', '', text, flags=re.M).rstrip(), re.S)
+
+
+def edited_functions(here, edit):
+    """The functions that an edit changes; its replacements are made one after the other."""
+    file = re.search(r'^file: src/(\S+)', edit, re.M).group(1)
+    text, found = here.code.get(file, ''), set()
+    for old, new in re.findall(r'^old: ?(.*)\nnew: ?(.*)', edit, re.M):
+        at = text.find(old)
+        inside = [(file, one[1:4]) for one in functions_in(text) if one[0] <= at]
+        found |= set(inside[-1:])
+        text = text.replace(old, new, 1)
+    return found
+
+
+def identity(one):
+    """A function by its file, type, name and whether it is public; places move while an edit is made."""
+    return one[0], one[2:5]
+
+
+def reached(one, private):
+    """The function, and the private ones that it calls, and those that they call."""
+    found, ahead = {identity(one)}, [one]
+    while ahead:
+        for word in re.findall(r'\b(\w+)\(', ahead.pop()[5]):
+            called = private.get(word)
+            if called and identity(called) not in found:
+                found.add(identity(called))
+                ahead.append(called)
+    return found
+
+
+def main():
+    top = sys.argv[1] if len(sys.argv) > 1 else os.path.join(os.path.dirname(os.path.abspath(__file__)), '..')
+    folder = os.path.join(top, 'crates')
+    crates = {name: Crate(os.path.join(folder, name)) for name in sorted(os.listdir(folder))}
+    with open(os.path.join(top, 'docs', 'definitions.md'), encoding='utf-8') as source:
+        check_map(crates, source.read())
+    check_conversation(top)
+    check_readme(top)
+    with open(os.path.join(top, 'docs', 'promises.md'), encoding='utf-8') as source:
+        parts = re.split(r'^## `(\w+)`.*$', source.read(), flags=re.M)
+    for crate, part in zip(parts[1::2], parts[2::2]):
+        if crate in crates and '| Call |' in part:
+            check_promises(crate, crates[crate], part)
+    with open(os.path.join(top, 'docs', 'wrong-bodies.md'), encoding='utf-8') as source:
+        rows = re.findall(r'^\| `(\w+)` \| without an edit: ([^|]*)', source.read(), re.M)
+    for crate, here in crates.items():
+        check_edits(crate, here, {name for row in rows if row[0] == crate for name in CODED.findall(row[1])})
+        check_edits_apply(crate, here)
+    print('%d passed, %d failed' % (counts[True], counts[False]))
+    return 1 if counts[False] else 0
+
+
+if __name__ == '__main__':
+    sys.exit(main())

@@ -1,0 +1,286 @@
+"""Random projects and scripts: webs, included files, change files and edits that meet every code, fault and rule of
+spacing often, and of which some are almost right.
+
+usage: generator.py SEED
+"""
+import random
+import sys
+
+from files import Roles, add
+from reading import Reading
+from tangling import Tangling
+
+# What is larger is left out: the reference holds all of it at once, and a web can be small and its C not. A file that
+# includes itself twice has a thousand times its lines; an @h stands for all macros, and a part that is used often may
+# hold many.
+MOST_LINES = 50000
+MOST_BYTES = 1 << 24
+
+NAMES = [b'v', b'A', b'B', b'C', b'Initialize', b'Init table', b'In', b'In it', b'u', b'a b',
+         b'h.h', b'a.c', b'x@@y', b'q"r', b'z\\w', b'n  m']
+ABBREVIATIONS = [b'Ini...', b'I...', b'...', b'A...', b'Zz...', b'In...', b'....', b'a...', b'In it...']
+WORDS = [b'int', b'x', b'y2', b'_z', b'$d', b'caf\xe9', b'return', b'N', b'F', b'10', b'0x1f', b'include', b'a', b'define']
+SIGNS = [b'=', b';', b'+', b'-', b'(', b')', b'{', b'}', b'#', b'<', b'>', b'.', b',', b'*', b'/', b'\\', b'"', b"'",
+         b'!', b'\x00', b'\x7f']
+SPACES = [b' ', b'  ', b'\t', b'\r', b'\x0b', b'\x0c', b' \t ']
+CODES = [b'@@', b'@d', b'@D', b'@f', b'@s', b'@c', b'@C', b'@p', b'@^', b'@.', b'@:', b'@t', b'@q', b'@=', b'@&', b'@h',
+         b'@H', b"@'", b'@>', b'@<', b'@(', b'@*', b'@ ', b'@\t', b'@', b'@,', b'@|', b'@/', b'@#', b'@+', b'@;', b'@i',
+         b'@I', b'@x', b'@y', b'@z', b'@l', b'@!', b'@2', b'@[', b'@]', b'@T']
+QUOTED = [b'"s"', b'"a@@b"', b'"a@b"', b'"a\\"b"', b"'c'", b"'\\''", b'"open', b"'", b'"', b'"x\\', b'"\\@@"', b'"\\@x"',
+          b'""']
+CONSTANTS = [b"@'a'", b"@'@@'", b"@'\\n'", b"@'\\\\'", b"@'\\''", b"@'\\101'", b"@'\\777'", b"@'\\8'", b"@'ab'", b"@'",
+             b"@''", b"@'''", b"@'\\?'", b"@'\\1'", b"@'\\12x'", b"@'@x'", b"@'\"'"]
+CONTROL_TEXTS = [b'@^idx@>', b'@.tt@>', b'@:a}{b@>', b'@t\\TeX@>', b'@q c@>', b'@^a@@b@>', b'@^open', b'@^a@>', b'@t@>',
+                 b'@=v@>', b'@=u@@v@>', b'@=u@v@>', b'@=open', b'@=@>', b'@= @>']
+COMMENTS = [b'/* c */', b'/*', b'*/', b'// c', b'//', b'/* @@ */', b'/* @< x @> */', b'/* a @c b */', b'//@^x', b'/**/',
+            b'/*/', b'/* "s */']
+INCLUDES = [b'#include <p.h>', b'#include <p@@q>', b'# include <p', b'#include<p@q>', b'include <x>', b' # include\t<a\\b>',
+            b'#include "p"', b'#include x <y>', b'/*c*/ #include <z>', b'#@& include <w>', b'#includes <w>']
+
+# What C text is made of, each with the chance that it or one before it is taken: one of a list, the text itself, or a name.
+WILD = [(.30, WORDS), (.45, SIGNS), (.62, SPACES), (.72, None), (.77, QUOTED), (.82, CONSTANTS), (.87, CONTROL_TEXTS),
+        (.91, COMMENTS), (.94, INCLUDES), (.955, b'@&'), (.965, b'@h'), (1, CODES)]
+
+DOCUMENTATION = [b'', b'A.', b'Text @<In it@> more', b'Doc @, @@ @^i@>', b'P.']
+MACROS = [b'N 10', b'F(x) x', b'M', b'3', b'N@&x', b'N"s"', b'N  ', b'N-1', b"N@'a'", b'', b'G(a)\\', b'N@^i@>5']
+
+
+def used_name(chance):
+    name = chance.choice([b'@<'] * 6 + [b'@('])
+    text = chance.choice(NAMES if chance.random() < .75 else ABBREVIATIONS)
+    if chance.random() < .1:
+        text = b' ' + text + b'  '
+    if chance.random() < .04:
+        return name + text
+    if chance.random() < .04:
+        text += chance.choice([b'@,', b'@d', b'@x', b' @ ', b'@@', b'@<', b'@('])
+    return name + text + b'@>'
+
+
+def wild_text(chance, most):
+    made = b''
+    for _ in range(chance.randint(0, most)):
+        drawn = chance.random()
+        parts = next(parts for bound, parts in WILD if drawn < bound)
+        if parts is None:
+            made += used_name(chance)
+        else:
+            made += chance.choice(parts) if isinstance(parts, list) else parts
+    return made
+
+
+def tame_text(chance, most):
+    """C text without a code that ends a part."""
+    made = b''
+    for _ in range(chance.randint(0, most)):
+        drawn = chance.random()
+        if drawn < .4:
+            made += chance.choice(WORDS)
+        elif drawn < .55:
+            made += chance.choice([b'=', b';', b'+', b'(', b')', b'{', b'}', b','])
+        elif drawn < .8:
+            made += b' '
+        else:
+            made += b'@<' + chance.choice(NAMES) + b'@>'
+    return made
+
+
+def head(chance, is_wild):
+    if chance.random() < .5:
+        code = chance.choice([b'@c', b'@c', b'@p', b'@C'])
+    else:
+        name = chance.choice(NAMES if chance.random() < .85 else ABBREVIATIONS)
+        opener = b'@(' if chance.random() < .15 else b'@<'
+        code = opener + name + b'@>' + chance.choice([b'=', b'=', b'=', b'+=', b'==', b' =', b' + =', b'+==', b'+'])
+    return code + (wild_text(chance, 4) if is_wild and chance.random() < .3 else b'')
+
+
+def macro(chance, is_wild):
+    lines = [chance.choice([b'@d ', b'@D ', b'@d\t']) + chance.choice(MACROS) + (wild_text(chance, 4) if is_wild else b'')]
+    for _ in range(chance.choice([0, 0, 1, 2])):
+        lines.append(chance.choice([b'  +1', b'', b'more', wild_text(chance, 4) if is_wild else b'x']))
+    return lines
+
+
+def section(chance, is_wild):
+    start = chance.choice([b'@ ', b'@ ', b'@*', b'@\t', b'@'])
+    lines = [start + chance.choice(DOCUMENTATION)]
+    if chance.random() < .25:
+        lines[0] += head(chance, is_wild)
+    else:
+        for _ in range(chance.randint(0, 2)):
+            if chance.random() < .4:
+                lines.append(chance.choice([b'doc line', b'', b'@f x int', b'@s y z', b'text @<B@> t']))
+        for _ in range(chance.choice([0, 0, 0, 1, 2])):
+            lines += macro(chance, is_wild)
+        if chance.random() < .85:
+            lines.append(head(chance, is_wild))
+    for _ in range(chance.randint(0, 5)):
+        lines.append(wild_text(chance, 7) if is_wild else tame_text(chance, 6))
+    return lines
+
+
+def clean(line):
+    return line.replace(b'\n', b'').rstrip(b' ')
+
+
+def inclusion(chance, included):
+    name = chance.choice(included + [b'none.w'])
+    return chance.choice([b'@i ' + name, b'@I ' + name + b' rest', b'@i "' + name + b'"', b'@i"' + name, b'@i', b'@i ""',
+                          b'@i\t' + name])
+
+
+def web_lines(chance, included):
+    lines = []
+    for _ in range(chance.choice([0, 0, 1, 2])):
+        lines.append(chance.choice([b'limbo', b'% top', b'@q x@>', b'@@', b'', b'@s a b', b'@<no@>', b'@i']))
+    is_wild = chance.random() < .6
+    for _ in range(chance.randint(1, 6)):
+        lines += section(chance, is_wild)
+        if included and chance.random() < .3:
+            lines.append(inclusion(chance, included))
+    return list(map(clean, lines))
+
+
+def one_change(chance, lines, start):
+    """A change of lines from there on, and where the next one may begin."""
+    start = chance.randint(start, len(lines) - 1)
+    end = min(len(lines), start + chance.choice([1, 1, 1, 2, 3]))
+    old = lines[start:end]
+    if chance.random() < .15 and len(old) > 1:
+        old[-1] += b'?'
+    if chance.random() < .08:
+        old = []
+    made = [chance.choice([b'@x', b'@x', b'@X note'])]
+    if chance.random() < .1:
+        made.append(chance.choice([b'', b' \t']))
+    made += old
+    if chance.random() < .94:
+        made.append(chance.choice([b'@y', b'@Y']))
+    for _ in range(chance.choice([0, 1, 1, 2])):
+        made.append(chance.choice([b'int z;', b'@i b.w', b'@ New.', b'@c', wild_text(chance, 4),
+                                   lines[chance.randrange(len(lines))]]))
+    if chance.random() < .94:
+        made.append(chance.choice([b'@z', b'@Z end']))
+    if chance.random() < .1:
+        made.append(chance.choice([b'@y', b'between', b'@z']))
+    return made, end
+
+
+def change_lines(chance, lines):
+    made, start = [], 0
+    if chance.random() < .15:
+        made.append(chance.choice([b'junk', b'@y', b'@z', b'']))
+    for _ in range(chance.randint(1, 3)):
+        if start >= len(lines):
+            break
+        change, start = one_change(chance, lines, start)
+        made += change
+    return list(map(clean, made))
+
+
+def one_edit(chance, names):
+    drawn, file, at = chance.random(), chance.choice(names), chance.randint(0, 14)
+    text = b'x\ny'
+    if chance.random() < .95:
+        text = clean(chance.choice(section(chance, chance.random() < .5)))
+    if chance.random() < .05:
+        text += b'  '
+    if drawn < .65:
+        return 'replace' if drawn < .38 else 'insert', file, at, text
+    if drawn < .85:
+        return 'remove', file, at
+    if drawn < .95:
+        return 'create' if drawn < .91 else 'discard', file
+    return 'marks', chance.choice(['full', 'bare'])
+
+
+class Project:
+    """Files as (name, lines), the roles, and so many edits."""
+
+    def __init__(self, seed, edits=0):
+        chance = random.Random(seed)
+        included = chance.choice([[], [], [b'b.w'], [b'b.w', b'd/c w.w']])
+        web = web_lines(chance, included)
+        self.files = [(b'a.w', web)]
+        for name in included:
+            if chance.random() < .6:
+                lines = web_lines(chance, included if chance.random() < .15 else [])
+            else:
+                lines = [clean(wild_text(chance, 6)) for _ in range(chance.randint(0, 3))]
+            self.files.append((name, lines))
+        self.web, self.change = b'a.w', None
+        if chance.random() < .4:
+            self.change = b'a.ch'
+            changed = web if chance.random() < .7 or not included else web + self.files[1][1]
+            self.files.append((self.change, change_lines(chance, changed)))
+        self.out = b'a.c' if chance.random() < .9 else b'h.h'
+        names = [name for name, _ in self.files] + [b'zz', b'b.w', b'none.w', b'']
+        self.edits = [one_edit(chance, names) for _ in range(edits)]
+
+    def loaded(self):
+        """The files as a table, and the roles."""
+        files = []
+        for name, lines in self.files:
+            files = add(files, name, b''.join(line + b'\n' for line in lines))
+        return files, Roles(self.web, self.change, self.out)
+
+    def is_small(self):
+        files, roles = self.loaded()
+        return len(Reading(files, roles).source) <= MOST_LINES and is_small(Tangling(files, roles))
+
+
+def is_small(tangling):
+    return len(tangling.source) <= MOST_LINES and tangling.size() <= MOST_BYTES
+
+
+NO_COMMANDS = [b'', b'insert', b'insert x y', b'remove 9', b'remove 0000000001 a.w', b'remove 007 a.w', b'quit ', b' work',
+               b'create', b'create ', b'marks', b'marks bare', b'work\r', b'replace 1', b'insert 1  a.w', b'show', b'show ',
+               b'nonsense', b'discard a.w']
+
+
+def edit_lines(edit):
+    kind = edit[0].encode()
+    if kind in (b'insert', b'replace'):
+        return [kind + b' %d ' % edit[2] + edit[1], edit[3].replace(b'\n', b'')]
+    if kind == b'remove':
+        return [b'remove %d ' % edit[2] + edit[1]]
+    if kind == b'marks':
+        return [b'marks full' if edit[1] == 'full' else b'marks none']
+    return [kind + b' ' + edit[1]]
+
+
+def script(seed, edits=12):
+    """A project and a script of retangle: edits, lists of edits, questions, lines that are no command."""
+    project, chance = Project(seed, edits), random.Random(seed * 7 + 1)
+    lines, names = [], [name for name, _ in project.files] + [b'h.h', b'a.c', b'x@y']
+    for edit in project.edits:
+        if chance.random() < .10:
+            lines.append(chance.choice([b'begin', b'begin', b'commit', b'cancel']))
+        lines += edit_lines(edit)
+        if chance.random() < .5:
+            lines.append(b'work')
+        if chance.random() < .3:
+            lines.append(b'faults')
+        if chance.random() < .4:
+            lines.append(b'show ' + chance.choice(names))
+        if chance.random() < .08:
+            lines.append(chance.choice(NO_COMMANDS))
+    lines += [b'commit'] if chance.random() < .3 else []
+    lines += [b'work', b'faults', b'show a.c', b'show h.h']
+    lines += [b'quit'] if chance.random() < .5 else []
+    lines += [b'insert 1 a.w'] if chance.random() < .2 else []
+    return project, b'\n'.join(lines) + (b'\n' if chance.random() < .8 else b'')
+
+
+def main():
+    shown, text = script(int(sys.argv[1]))
+    for name, lines in shown.files:
+        print(name)
+        for number, line in enumerate(lines, 1):
+            print('%4d %s' % (number, line))
+    print(shown.edits, text, sep='\n')
+
+
+if __name__ == '__main__':
+    main()

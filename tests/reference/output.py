@@ -1,0 +1,73 @@
+"""The C that is written for macros and nodes (docs/output.md)."""
+
+
+def item_text(item):
+    if item.kind == 'Code':
+        return b'%d' % item.value
+    if item.kind in ('Blank', 'UseOf'):
+        return b' '
+    return b'\n' if item.value is None else item.value
+
+
+def macro_text(items):
+    while items[-1].kind in ('Blank', 'LineEnd'):
+        items = items[:-1]
+    return b'#define ' + b''.join(b'\\\n' if item.kind == 'LineEnd' else item_text(item) for item in items) + b'\n'
+
+
+class Writer:
+    """Writes nodes that can be expanded; with `expands` off, each use as its space alone."""
+
+    def __init__(self, web, graph, marks='full', expands=True):
+        self.graph, self.marks, self.expands = graph, marks, expands
+        self.macros = b''.join(map(macro_text, web.macros))
+        self.texts, self.sizes = {}, {}
+
+    def mark(self, place):
+        if self.marks == 'bare':
+            return b'\n'
+        file, line = place
+        return b'\n#line %d "%s"\n' % (line, file.replace(b'\\', b'\\\\').replace(b'"', b'\\"'))
+
+    def own_text(self, node):
+        """What a node's own pieces say: bytes, and between them the nodes that they use."""
+        if node not in self.texts:
+            made = [[]]
+            for piece in self.graph.pieces[node]:
+                made[-1] += [b'/*%d:*/' % piece.section, self.mark(piece.place)]
+                for item in piece.items:
+                    self._add(made, item)
+                made[-1].append(b'/*:%d*/' % piece.section)
+            self.texts[node] = [b''.join(one) if isinstance(one, list) else one for one in made]
+        return self.texts[node]
+
+    def _add(self, made, item):
+        if item.kind == 'LineMark':
+            made[-1].append(self.mark(item.value))
+            return
+        made[-1].append(item_text(item))
+        if item.kind == 'Defs':
+            made[-1].append(self.macros)
+        used = self.graph.use(item) if item.kind == 'UseOf' and self.expands else None
+        if used is not None and self.graph.pieces[used]:
+            made += [(used,), []]
+
+    def size(self, node):
+        """The length of a node's text, found without making it."""
+        for one in self.graph.used_first:
+            if one not in self.sizes and one in self.graph.expandable:
+                self.sizes[one] = sum(self.sizes[part[0]] if isinstance(part, tuple) else len(part)
+                                      for part in self.own_text(one))
+        return self.sizes[node]
+
+    def text(self, node):
+        made, ahead = [], [iter(self.own_text(node))]
+        while ahead:
+            for part in ahead[-1]:
+                if isinstance(part, tuple):
+                    ahead.append(iter(self.own_text(part[0])))
+                    break
+                made.append(part)
+            else:
+                ahead.pop()
+        return b''.join(made)
