@@ -4,9 +4,17 @@
 #![tactic(auto)]
 
 #[cfg(test)]
+mod digraphs;
+#[cfg(test)]
+mod expansions;
+#[cfg(test)]
 mod fault_lines;
 #[cfg(test)]
 mod files;
+#[cfg(test)]
+mod graph_faults;
+#[cfg(test)]
+mod graphs;
 #[cfg(test)]
 mod growths;
 #[cfg(test)]

@@ -1,0 +1,12 @@
+pub mod GraphLemmas
+pub mod RowLemmas
+pub mod UserLemmas
+pub mod ReachLemmas
+pub mod RootLemmas
+pub mod FindingLemmas
+pub mod CycleLemmas
+pub mod TitleLemmas
+pub mod PlacingLemmas
+pub mod OrderLemmas
+pub mod PassLemmas
+pub mod PathLemmas

@@ -1,0 +1,15 @@
+use Rattle.std.proofs.Common.{arith}
+use Rattle.digraph.proofs.FindingLemmas.{passed_found, passed_settled}
+use Rattle.digraph.proofs.reach.find_each.Goals as goal
+use Rattle.digraph.proofs.reach.find_each.Goals.{then-find, else-find}
+
+pub loop-n-preserved : goal.loop-n-preserved
+loop-n-preserved c =
+    let told = c.find.ensures in
+    elim c.if-find.branch [
+      | then-find w ↦ rw w.any-is (passed_found _ _ _ _ _ _ _ c.loop-n.invariant told.finding (told.more w.if-find.true))
+      | else-find w ↦ rw w.any-is (passed_settled _ _ _ _ _ _ _ c.loop-n.invariant told.finding (told.same w.if-find.false) (told.settled w.if-find.false))
+    ]
+
+pub returns-clause-none : goal.returns-clause-none
+returns-clause-none c = λ e n h. c.loop-n.invariant.settled e n (omega (arith, h))

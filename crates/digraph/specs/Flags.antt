@@ -1,0 +1,15 @@
+-- A flag for each node.
+use Rattle.std.specs.Prelude.{◌≡◌, ◌<◌, ◌↔◌, ℕ, Bool, true, false, List, length, slice_index_or}
+use Rattle.digraph.specs.Graph.{Graph, HasUse}
+use Rattle.digraph.specs.Reach.{Reaches}
+
+abbrev pub IsFlagged : List Bool → ℕ → Type 0
+IsFlagged flags n = slice_index_or flags n false ≡ true
+
+-- just the nodes with the property are flagged
+abbrev pub FlagsJust : Graph → List Bool → (ℕ → Type 0) → Type 0
+FlagsJust graph flags HasIt = (n : ℕ) → n < length graph → (IsFlagged flags n ↔ HasIt n)
+
+-- the node reaches one that is flagged, in no step or more
+abbrev pub ReachesFlagged : Graph → List Bool → ℕ → Type 0
+ReachesFlagged graph flags n = (k : ℕ) × Reaches (HasUse graph) n k × IsFlagged flags k

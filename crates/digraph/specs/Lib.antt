@@ -1,0 +1,11 @@
+pub mod Graph
+pub mod Reach
+pub mod Flags
+pub mod Order
+pub mod Rows
+pub mod Users
+pub mod Titles
+pub mod Placing
+pub mod Finding
+pub mod Roots
+pub mod Evidence

@@ -1,0 +1,20 @@
+-- What is reached along the uses of any relation: of numbers, or of what they stand for.
+use Rattle.std.specs.Prelude.{ℕ, zero, suc}
+
+-- from a the other one is reached in no step, one step or more
+pub data Reaches {X : Type 0} (Uses : X → X → Type 0) : X → X → Type 0 where
+  here : {a : X} → Reaches Uses a a
+  on : {a b c : X} → Uses a b → Reaches Uses b c → Reaches Uses a c
+
+-- it reaches itself in one step or more
+abbrev pub ContainsItself : {X : Type 0} → (X → X → Type 0) → X → Type 0
+ContainsItself {X} Uses a = (b : X) × Uses a b × Reaches Uses b a
+
+-- it reaches one that contains itself
+abbrev pub ReachesCycle : {X : Type 0} → (X → X → Type 0) → X → Type 0
+ReachesCycle {X} Uses a = (b : X) × Reaches Uses a b × ContainsItself Uses b
+
+-- so many steps lead on from it, one after another
+abbrev pub HasPath : {X : Type 0} → (X → X → Type 0) → ℕ → X → Type 0
+HasPath Uses zero a = Unit {0}
+HasPath {X} Uses (suc steps) a = (b : X) × Uses a b × HasPath Uses steps b

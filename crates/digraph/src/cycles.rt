@@ -1,0 +1,93 @@
+//! Which nodes contain themselves, and which ones reach such a node.
+ghost use Rattle.std.specs.Prelude.{◌≡◌, ◌<◌, ◌↔◌, IfOk, true, length, vec_len};
+ghost use Rattle.digraph.specs.Graph.{InRange, HasUse};
+ghost use Rattle.digraph.specs.Reach.{ContainsItself, ReachesCycle};
+ghost use Rattle.digraph.specs.Flags.{FlagsJust};
+ghost use Rattle.digraph.specs.Evidence.{IsEvidence};
+
+use crate::evidence::Evidence;
+use crate::reach::{any_flagged, reaching};
+use std::alloc::{AllocError, Global};
+
+/// A flag for each node: whether it contains itself, that is, reaches itself in one step or more.
+///
+/// `users` has for each node those that use it; it only makes this fast.
+///
+/// # Errors
+///
+/// `AllocError` where memory is refused.
+pub fn self_containing(
+    alloc: Global,
+    uses: &[Vec<usize>],
+    users: &[Vec<usize>],
+) -> Result<Vec<bool>, AllocError>
+    requires { InRange uses.now }
+    ensures size { IfOk result (λ flags. vec_len flags ≡ length uses.now) }
+    ensures flags { IfOk result (λ flags. FlagsJust uses.now flags.items (ContainsItself (HasUse uses.now))) }
+{
+    let evidence = Evidence::gather(alloc, uses, users)?;
+    let mut flags = Vec::new(alloc);
+    for n in 0..uses.len() {
+        let flag = contains_itself(alloc, uses, users, &evidence, n)?;
+        flags.push(flag)?;
+    }
+    Ok(flags)
+}
+
+/// A flag for each node: whether it reaches one that contains itself, given flags of those that do.
+///
+/// `users` has for each node those that use it; it only makes this fast.
+///
+/// # Errors
+///
+/// `AllocError` where memory is refused.
+pub fn reaching_cycles(
+    alloc: Global,
+    uses: &[Vec<usize>],
+    users: &[Vec<usize>],
+    flags: &[bool],
+) -> Result<Vec<bool>, AllocError>
+    requires range { InRange uses.now }
+    requires size { length flags.now ≡ length uses.now }
+    requires flags { FlagsJust uses.now flags.now (ContainsItself (HasUse uses.now)) }
+    ensures size { IfOk result (λ found. vec_len found ≡ length uses.now) }
+    ensures flags { IfOk result (λ found. FlagsJust uses.now found.items (ReachesCycle (HasUse uses.now))) }
+{
+    reaching(alloc, uses, users, flags)
+}
+
+/// Whether the node contains itself: by the evidence, or else by a search.
+fn contains_itself(
+    alloc: Global,
+    uses: &[Vec<usize>],
+    users: &[Vec<usize>],
+    evidence: &Evidence,
+    n: usize,
+) -> Result<bool, AllocError>
+    requires range { InRange uses.now }
+    requires evidence { IsEvidence uses.now evidence.now }
+    requires node { n < length uses.now }
+    ensures { IfOk result (λ flag. (flag ≡ true) ↔ ContainsItself (HasUse uses.now) n) }
+{
+    match evidence.certified(uses, n) {
+        Some(flag) => Ok(flag),
+        None => search(alloc, uses, users, n),
+    }
+}
+
+/// Whether the node contains itself, by a search for it alone.
+fn search(
+    alloc: Global,
+    uses: &[Vec<usize>],
+    users: &[Vec<usize>],
+    n: usize,
+) -> Result<bool, AllocError>
+    requires range { InRange uses.now }
+    requires node { n < length uses.now }
+    ensures { IfOk result (λ flag. (flag ≡ true) ↔ ContainsItself (HasUse uses.now) n) }
+{
+    let mut flags = vec![in alloc; false; uses.len()]?;
+    flags[n] = true;
+    let found = reaching(alloc, uses, users, &flags)?;
+    Ok(any_flagged(&uses[n], &found))
+}

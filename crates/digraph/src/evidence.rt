@@ -1,0 +1,64 @@
+//! What certifies the answers: ranks that never fall, and flags of what roots reach and what reaches them.
+ghost use Rattle.std.specs.Prelude.{◌≡◌, ◌<◌, ◌↔◌, IfOk, IfSome, true, length};
+ghost use Rattle.digraph.specs.Graph.{InRange, HasUse};
+ghost use Rattle.digraph.specs.Reach.{ContainsItself};
+ghost use Rattle.digraph.specs.Evidence.{IsEvidence};
+
+use crate::proposals::{finishing, number};
+use crate::ranks::{lowest, never_falls};
+use crate::roots::{leads_to_root, reached_from_roots, reaching_roots};
+use std::alloc::{AllocError, Global};
+
+/// Ranks and roots that were proposed, and what was found of them.
+#[derive(Drop)]
+pub struct Evidence {
+    ranks: Vec<usize>,
+    rising: bool,
+    roots: Vec<usize>,
+    from_root: Vec<bool>,
+    to_root: Vec<bool>,
+}
+
+impl Evidence {
+    /// Proposes components, each with its rank and its root, and checks them.
+    pub fn gather(
+        alloc: Global,
+        uses: &[Vec<usize>],
+        users: &[Vec<usize>],
+    ) -> Result<Evidence, AllocError>
+        requires { InRange uses.now }
+        ensures { IfOk result (λ evidence. IsEvidence uses.now evidence) }
+    {
+        let finished = finishing(alloc, uses)?;
+        let mut ranks = vec![in alloc; 0usize; uses.len()]?;
+        let mut roots = vec![in alloc; 0usize; uses.len()]?;
+        let visits = number(alloc, users, &finished, &mut ranks, &mut roots)?;
+        let from_root = reached_from_roots(alloc, uses, &roots, &finished)?;
+        let to_root = reaching_roots(alloc, uses, &roots, &visits)?;
+        let rising = never_falls(uses, &ranks);
+        Ok(Evidence {
+            ranks,
+            rising,
+            roots,
+            from_root,
+            to_root,
+        })
+    }
+
+    /// Whether the node contains itself, where the evidence says so.
+    pub fn certified(&self, uses: &[Vec<usize>], n: usize) -> Option<bool>
+        requires range { InRange uses.now }
+        requires evidence { IsEvidence uses.now self.now }
+        requires node { n < length uses.now }
+        ensures { IfSome result (λ flag. (flag ≡ true) ↔ ContainsItself (HasUse uses.now) n) }
+    {
+        let row = &uses[n];
+        if self.from_root[n] && leads_to_root(row, self.roots[n], &self.roots, &self.to_root) {
+            return Some(true);
+        }
+        if self.rising && lowest(row, &self.ranks) > self.ranks[n] {
+            return Some(false);
+        }
+        None
+    }
+}

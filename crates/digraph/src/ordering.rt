@@ -1,0 +1,93 @@
+//! An order of a graph's nodes in which each comes after those that it uses.
+ghost use Rattle.std.specs.Prelude.{◌≡◌, ◌<◌, ℕ, IfOk, true, false, All, Contains, length};
+ghost use Rattle.digraph.specs.Graph.{InRange};
+ghost use Rattle.digraph.specs.Flags.{IsFlagged};
+ghost use Rattle.digraph.specs.Order.{IsOrder};
+ghost use Rattle.digraph.specs.Placing.{IsPlacing, IsStuck, unflagged};
+
+use crate::proposals::leaves_first;
+use std::alloc::{AllocError, Global};
+
+/// The nodes that reach no cycle, each after those that it uses.
+///
+/// `users` has for each node those that use it; it only makes this fast.
+///
+/// # Errors
+///
+/// `AllocError` where memory is refused.
+pub fn order(
+    alloc: Global,
+    uses: &[Vec<usize>],
+    users: &[Vec<usize>],
+) -> Result<Vec<usize>, AllocError>
+    requires { InRange uses.now }
+    ensures { IfOk result (λ order. IsOrder uses.now order.items) }
+{
+    let mut flags = vec![in alloc; false; uses.len()]?;
+    let mut order = Vec::new(alloc);
+    for n in &leaves_first(alloc, uses, users)? {
+        if *n < uses.len() {
+            place(uses, *n, &mut flags, &mut order)?;
+        }
+    }
+    while place_each(uses, &mut flags, &mut order)? {}
+    Ok(order)
+}
+
+/// Places each node that can be placed, and says whether there was one.
+fn place_each(
+    uses: &[Vec<usize>],
+    flags: &mut Vec<bool>,
+    order: &mut Vec<usize>,
+) -> Result<bool, AllocError>
+    requires range { InRange uses.now }
+    requires placing { IsPlacing uses.now flags.old.items order.old.items }
+    ensures placing { IfOk result (λ _. IsPlacing uses.now flags.new.items order.new.items) }
+    ensures more { IfOk result (λ any. any ≡ true → unflagged flags.new.items < unflagged flags.old.items) }
+    ensures none { IfOk result (λ any. any ≡ false → (n : ℕ) → n < length uses.now → IsStuck uses.now order.new.items n) }
+{
+    let mut any = false;
+    for n in 0..uses.len() {
+        if place(uses, n, flags, order)? {
+            any = true;
+        }
+    }
+    Ok(any)
+}
+
+/// Places the node if it isn't placed and all that it uses is, and says whether it was placed now.
+fn place(
+    uses: &[Vec<usize>],
+    n: usize,
+    flags: &mut Vec<bool>,
+    order: &mut Vec<usize>,
+) -> Result<bool, AllocError>
+    requires range { InRange uses.now }
+    requires node { n < length uses.now }
+    requires placing { IsPlacing uses.now flags.old.items order.old.items }
+    ensures placing { IfOk result (λ _. IsPlacing uses.now flags.new.items order.new.items) }
+    ensures more { IfOk result (λ now. now ≡ true → unflagged flags.new.items < unflagged flags.old.items) }
+    ensures same { IfOk result (λ now. now ≡ false → (flags.new.items ≡ flags.old.items) × (order.new.items ≡ order.old.items)) }
+    ensures stuck { IfOk result (λ now. now ≡ false → IsStuck uses.now order.old.items n) }
+{
+    if flags[n] || !all_flagged(&uses[n], flags) {
+        return Ok(false);
+    }
+    order.push(n)?;
+    flags[n] = true;
+    Ok(true)
+}
+
+/// Each node of the row is flagged.
+fn all_flagged(row: &[usize], flags: &[bool]) -> bool
+    requires { All (λ m. m < length flags.now) row.now }
+    ensures all { result ≡ true → All (λ m. IsFlagged flags.now m) row.now }
+    ensures one { result ≡ false → (m : ℕ) × Contains row.now m × (¬ (IsFlagged flags.now m)) }
+{
+    for m in row {
+        if !flags[*m] {
+            return false;
+        }
+    }
+    true
+}

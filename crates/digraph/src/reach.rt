@@ -1,0 +1,103 @@
+//! The nodes that reach a flagged one.
+ghost use Rattle.std.specs.Prelude.{◌≡◌, ◌<◌, ℕ, IfOk, true, false, All, Contains, length, vec_len};
+ghost use Rattle.digraph.specs.Graph.{InRange};
+ghost use Rattle.digraph.specs.Flags.{FlagsJust, IsFlagged, ReachesFlagged};
+ghost use Rattle.digraph.specs.Finding.{IsFinding, IsSettled};
+ghost use Rattle.digraph.specs.Placing.{unflagged};
+
+use crate::proposals::backward;
+use std::alloc::{AllocError, Global};
+
+/// A flag for each node: whether it reaches a node that is flagged, in no step or more.
+///
+/// `users` has for each node those that use it; it only makes this fast.
+///
+/// # Errors
+///
+/// `AllocError` where memory is refused.
+pub fn reaching(
+    alloc: Global,
+    uses: &[Vec<usize>],
+    users: &[Vec<usize>],
+    flags: &[bool],
+) -> Result<Vec<bool>, AllocError>
+    requires range { InRange uses.now }
+    requires size { length flags.now ≡ length uses.now }
+    ensures size { IfOk result (λ found. vec_len found ≡ length uses.now) }
+    ensures flags { IfOk result (λ found. FlagsJust uses.now found.items (ReachesFlagged uses.now flags.now)) }
+{
+    let order = backward(alloc, users, flags)?;
+    found_by_uses(alloc, uses, flags, &order)
+}
+
+/// The same, found first in the given order, and then until nothing changes.
+fn found_by_uses(
+    alloc: Global,
+    uses: &[Vec<usize>],
+    flags: &[bool],
+    order: &[usize],
+) -> Result<Vec<bool>, AllocError>
+    requires range { InRange uses.now }
+    requires size { length flags.now ≡ length uses.now }
+    ensures size { IfOk result (λ found. vec_len found ≡ length uses.now) }
+    ensures flags { IfOk result (λ found. FlagsJust uses.now found.items (ReachesFlagged uses.now flags.now)) }
+{
+    let mut found = vec![in alloc; false; uses.len()]?;
+    for n in order {
+        if *n < uses.len() {
+            find(uses, *n, flags, &mut found);
+        }
+    }
+    while find_each(uses, flags, &mut found) {}
+    Ok(found)
+}
+
+/// Tries each node once, and says whether one was found.
+fn find_each(uses: &[Vec<usize>], flags: &[bool], found: &mut [bool]) -> bool
+    requires range { InRange uses.now }
+    requires size { length flags.now ≡ length uses.now }
+    requires finding { IsFinding uses.now flags.now found.old }
+    ensures finding { IsFinding uses.now flags.now found.new }
+    ensures more { result ≡ true → unflagged found.new < unflagged found.old }
+    ensures none { result ≡ false → (n : ℕ) → n < length uses.now → IsSettled uses.now flags.now found.new n }
+{
+    let mut any = false;
+    for n in 0..uses.len() {
+        if find(uses, n, flags, found) {
+            any = true;
+        }
+    }
+    any
+}
+
+/// Finds the node if it is flagged or uses one that was found, and says whether it was found now.
+fn find(uses: &[Vec<usize>], n: usize, flags: &[bool], found: &mut [bool]) -> bool
+    requires range { InRange uses.now }
+    requires node { n < length uses.now }
+    requires size { length flags.now ≡ length uses.now }
+    requires finding { IsFinding uses.now flags.now found.old }
+    ensures finding { IsFinding uses.now flags.now found.new }
+    ensures more { result ≡ true → unflagged found.new < unflagged found.old }
+    ensures same { result ≡ false → found.new ≡ found.old }
+    ensures settled { result ≡ false → IsSettled uses.now flags.now found.old n }
+{
+    if found[n] || !(flags[n] || any_flagged(&uses[n], found)) {
+        return false;
+    }
+    found[n] = true;
+    true
+}
+
+/// Some node of the row is flagged.
+pub fn any_flagged(row: &[usize], flags: &[bool]) -> bool
+    requires { All (λ m. m < length flags.now) row.now }
+    ensures one { result ≡ true → (m : ℕ) × Contains row.now m × IsFlagged flags.now m }
+    ensures none { result ≡ false → (m : ℕ) → Contains row.now m → ¬ (IsFlagged flags.now m) }
+{
+    for m in row {
+        if flags[*m] {
+            return true;
+        }
+    }
+    false
+}

@@ -1,0 +1,105 @@
+//! Flags of nodes that their roots reach, and of nodes that reach their roots: each is right, whatever order the nodes are tried in.
+ghost use Rattle.std.specs.Prelude.{◌≡◌, ◌<◌, ◌⊎◌, ℕ, IfOk, true, All, Contains, length, slice_index};
+ghost use Rattle.digraph.specs.Graph.{InRange};
+ghost use Rattle.digraph.specs.Flags.{IsFlagged};
+ghost use Rattle.digraph.specs.Roots.{FromRoots, ToRoots};
+
+use std::alloc::{AllocError, Global};
+
+/// Flags nodes that their roots reach, where `backwards` is an order in which each of them comes after those it leads to.
+pub fn reached_from_roots(
+    alloc: Global,
+    uses: &[Vec<usize>],
+    roots: &[usize],
+    backwards: &[usize],
+) -> Result<Vec<bool>, AllocError>
+    requires range { InRange uses.now }
+    requires roots { length roots.now ≡ length uses.now }
+    ensures { IfOk result (λ flags. FromRoots uses.now roots.now flags.items) }
+{
+    let mut flags = vec![in alloc; false; uses.len()]?;
+    for n in backwards.iter().rev() {
+        if *n < uses.len() {
+            hand_on(uses, *n, roots, &mut flags);
+        }
+    }
+    Ok(flags)
+}
+
+/// Flags the node if it is a root, and where it is flagged, those of its root that it uses.
+fn hand_on(uses: &[Vec<usize>], n: usize, roots: &[usize], flags: &mut [bool])
+    requires range { InRange uses.now }
+    requires node { n < length uses.now }
+    requires roots { length roots.now ≡ length uses.now }
+    requires flags { FromRoots uses.now roots.now flags.old }
+    ensures { FromRoots uses.now roots.now flags.new }
+{
+    let root = roots[n];
+    if root == n {
+        flags[n] = true;
+    }
+    if flags[n] {
+        flag_row(&uses[n], root, roots, flags);
+    }
+}
+
+/// Flags those of the row that have this root.
+fn flag_row(row: &[usize], root: usize, roots: &[usize], flags: &mut [bool])
+    requires range { All (λ m. m < length roots.now) row.now }
+    requires flags { length flags.old ≡ length roots.now }
+    ensures { (m : ℕ) → IsFlagged flags.new m → IsFlagged flags.old m ⊎ (Contains row.now m × (slice_index roots.now m ≡ root)) }
+{
+    for m in row {
+        if roots[*m] == root {
+            flags[*m] = true;
+        }
+    }
+}
+
+/// Flags nodes that reach their roots, in an order in which each of them comes after one that it uses.
+pub fn reaching_roots(
+    alloc: Global,
+    uses: &[Vec<usize>],
+    roots: &[usize],
+    order: &[usize],
+) -> Result<Vec<bool>, AllocError>
+    requires range { InRange uses.now }
+    requires roots { length roots.now ≡ length uses.now }
+    ensures { IfOk result (λ flags. ToRoots uses.now roots.now flags.items) }
+{
+    let mut flags = vec![in alloc; false; uses.len()]?;
+    for n in order {
+        if *n < uses.len() {
+            take_up(uses, *n, roots, &mut flags);
+        }
+    }
+    Ok(flags)
+}
+
+/// Flags the node if it is a root or uses a flagged one of its root.
+fn take_up(uses: &[Vec<usize>], n: usize, roots: &[usize], flags: &mut [bool])
+    requires range { InRange uses.now }
+    requires node { n < length uses.now }
+    requires roots { length roots.now ≡ length uses.now }
+    requires flags { ToRoots uses.now roots.now flags.old }
+    ensures { ToRoots uses.now roots.now flags.new }
+{
+    let root = roots[n];
+    if root == n || leads_to_root(&uses[n], root, roots, flags) {
+        flags[n] = true;
+    }
+}
+
+/// Some node of the row has this root and is flagged.
+pub fn leads_to_root(row: &[usize], root: usize, roots: &[usize], flags: &[bool]) -> bool
+    requires range { All (λ m. m < length roots.now) row.now }
+    requires flags { length flags.now ≡ length roots.now }
+    ensures { result ≡ true → (m : ℕ) × Contains row.now m × (slice_index roots.now m ≡ root) × IsFlagged flags.now m }
+{
+    for m in row {
+        if roots[*m] == root && flags[*m] {
+            return true;
+        }
+    }
+    false
+}

@@ -1,0 +1,101 @@
+-- The texts of parts are short.
+use Rattle.std.proofs.Common.{◌≡◌, ℕ, ◌+◌, ◌^◌, ◌<◌, ◌≤◌, zero, suc, Bool, true, false, List, [], ◌∷◌, ◌++◌, map, length, arith, length-append, get_or, All, Some}
+use Rattle.std.specs.Global.{Global}
+use Rattle.std.specs.Prelude.{Vec, vec_len, codes, decimal, unwrap_or, if◌then◌else◌}
+use Rattle.std.specs.Map.{lookup}
+use Rattle.std.specs.Str.{bytes_eq}
+use Rattle.std.specs.List.{AllByRecursion}
+use Rattle.std.proofs.lemmas.Fmt.{length-decimal-le}
+use Rattle.std.proofs.Math.Nat.{mul-le-mul_right}
+use Rattle.tangle_expansion.specs.Shapes.{Title, Program, Named}
+use Rattle.tangle_expansion.specs.Flat.{Part, Byte, Opening, MarkOf, Closing, AllMacros}
+use Rattle.tangle_expansion.specs.Limits.{heaviest}
+use Rattle.tangle_expansion.specs.Numbers.{PieceNumbersRead, NumbersRead, no_numbers, no_place, node_numbers, numbers_at, place_of_mark, opening_text, closing_text, mark_text, part_text, text}
+use Rattle.tangle_expansion.specs.TextLimits.{longest_part, PartsAreShort, IsLow, IsShort, EntryIsShort, AreShort}
+use Rattle.tangle_expansion.proofs.TextLemmas.{text-short}
+
+decimal_short : (n : ℕ) → n < 2 ^ 64 → length (decimal n) ≤ 20
+decimal_short n h = length-decimal-le 20 n (omega arith) (omega (arith, h)) h
+
+opening_short : (section : ℕ) → section < 2 ^ 64 → length (opening_text section) ≤ longest_part
+unfolding longest_part
+opening_short section h =
+    omega (arith, decimal_short section h, length-append (codes "/*") (decimal section ++ codes ":*/"), length-append (decimal section) (codes ":*/"))
+
+closing_short : (section : ℕ) → section < 2 ^ 64 → length (closing_text section) ≤ longest_part
+unfolding longest_part
+closing_short section h =
+    omega (arith, decimal_short section h, length-append (codes "/*:") (decimal section ++ codes "*/"), length-append (decimal section) (codes "*/"))
+
+five_lengths : (a b c d e : List ℕ) → length (a ++ b ++ c ++ d ++ e) ≡ length a + (length b + (length c + (length d + length e)))
+five_lengths a b c d e =
+    omega (arith, length-append (a ++ b ++ c ++ d) e, length-append (a ++ b ++ c) d, length-append (a ++ b) c, length-append a b)
+
+mark_short : (file : List ℕ) (line : ℕ) → length file < 2 ^ 64 → line < 2 ^ 32 → length (mark_text file line) ≤ longest_part
+unfolding longest_part
+mark_short file line h low =
+    let whole = five_lengths (codes "\n#line ") (decimal line) (codes " \"") file (codes "\"\n") in
+    omega (arith, h, decimal_short line (omega (arith, low)), whole)
+
+-- what holds of all of a list and of the default holds wherever it is read
+all_or : {X : Type 0} (P : X → Type 0) (xs : List X) (d : X) → P d → All P xs → (i : ℕ) → P (get_or xs i d)
+all_or P [] d none h i = none
+all_or P (x ∷ xs) d none h zero = h zero d (omega arith)
+all_or P (x ∷ xs) d none h (suc i) = all_or P xs d none (λ j e low. h (suc j) e (omega (arith, low))) i
+
+none_short : IsShort no_numbers
+none_short = record { section = omega arith; marks = λ i d none. absurd (omega (arith, none)) }
+
+looked_short : (name : List ℕ) (names : List (List ℕ × List PieceNumbersRead)) → All EntryIsShort names → All IsShort (unwrap_or (lookup (bytes_eq name) names) [])
+looked_short name [] h = λ i d none. absurd (omega (arith, none))
+looked_short name (e ∷ names) h = by (bytes_eq name e.0) (looked_short name names (λ i d low. h (suc i) d (omega (arith, low))))
+  where
+    by : (t : Bool) → All IsShort (unwrap_or (lookup (bytes_eq name) names) []) → All IsShort (unwrap_or (if t then Some e.1 else lookup (bytes_eq name) names) [])
+    by true rest = h zero e (omega arith)
+    by false rest = rest
+
+module _ (numbers : NumbersRead) (h : AreShort numbers) where
+  node_short : (node : Title) → All IsShort (node_numbers numbers node)
+  node_short Program = h.program
+  node_short (Named name) = looked_short name numbers.names h.names
+
+  piece_short : (node : Title) (piece : ℕ) → IsShort (numbers_at numbers node piece)
+  piece_short node piece = all_or IsShort (node_numbers numbers node) no_numbers none_short (node_short node) piece
+
+  place_low : (node : Title) (piece mark : ℕ) → IsLow (place_of_mark numbers node piece mark)
+  place_low node piece mark = all_or IsLow (numbers_at numbers node piece).marks no_place (omega arith) (piece_short node piece).marks mark
+
+  file_short : (file : ℕ) → length (get_or numbers.file_names file []) < 2 ^ 64
+  file_short file = all_or (λ (name : List ℕ). length name < 2 ^ 64) numbers.file_names [] (omega arith) h.file_names file
+
+  pub parts_short : PartsAreShort numbers
+  unfolding longest_part
+  parts_short (Byte b) = omega arith
+  parts_short (Opening node piece) = opening_short (numbers_at numbers node piece).section (piece_short node piece).section
+  parts_short (MarkOf node piece mark) =
+      let place = place_of_mark numbers node piece mark in
+      mark_short (get_or numbers.file_names place.file []) place.line (file_short place.file) (place_low node piece mark)
+  parts_short (Closing node piece) = closing_short (numbers_at numbers node piece).section (piece_short node piece).section
+  parts_short AllMacros = omega (arith, h.macros)
+
+pub all_names_short : (names : List (Vec ℕ Global)) → All (λ n. vec_len n < 2 ^ 64) names → All (λ (name : List ℕ). length name < 2 ^ 64) (map (λ n. n.items) names)
+all_names_short [] h = λ i d none. absurd (omega (arith, none))
+all_names_short (n ∷ names) h = at (all_names_short names (λ i d low. h (suc i) d (omega (arith, low))))
+  where
+    at : All (λ (name : List ℕ). length name < 2 ^ 64) (map (λ n. n.items) names) → All (λ (name : List ℕ). length name < 2 ^ 64) (map (λ n. n.items) (n ∷ names))
+    at rest zero d within = omega (arith, h zero n (omega arith))
+    at rest (suc i) d within = rest i d (omega (arith, within))
+
+all_parts : (numbers : NumbersRead) → PartsAreShort numbers → (parts : List Part) → AllByRecursion (λ part. length (part_text numbers part) ≤ longest_part) parts
+all_parts numbers h [] = tt
+all_parts numbers h (part ∷ parts) = (h part, all_parts numbers h parts)
+
+-- the text of parts that are within the limit of weight has less than 2 ^ 91 bytes
+pub light_fits : (numbers : NumbersRead) → PartsAreShort numbers → (parts : List Part) → length parts ≤ heaviest → length (text numbers parts) ≤ 2 ^ 90
+unfolding longest_part heaviest
+light_fits numbers h parts light =
+    omega (arith, text-short numbers longest_part parts (all_parts numbers h parts), mul-le-mul_right longest_part light)
+
+pub macros_fit : (numbers : NumbersRead) → PartsAreShort numbers → length numbers.macros ≤ 2 ^ 66
+unfolding longest_part
+macros_fit numbers h = omega (arith, h AllMacros)

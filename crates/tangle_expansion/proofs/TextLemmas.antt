@@ -1,0 +1,37 @@
+-- The text of lists of parts.
+use Rattle.std.proofs.Common.{◌*◌, arith, length-append, ◌≡◌, ◌∙◌, ℕ, ◌≤◌, List, [], ◌∷◌, ◌++◌, map, length, get_or, refl, ap, sym, append_assoc, append-nil}
+use native.Mathlib.Nat.{suc-mul}
+use Rattle.std.specs.List.{AllByRecursion}
+use Rattle.tangle_expansion.specs.Shapes.{Title}
+use Rattle.tangle_lines.specs.declared.faults.Origin.{Origin}
+use Rattle.tangle_expansion.specs.Flat.{Part, Byte, MarkOf, Closing, AllMacros}
+use Rattle.tangle_expansion.specs.Numbers.{NumbersRead, PieceNumbersRead, no_numbers, no_place, node_numbers, numbers_at, place_of_mark, place_text, closing_text, part_text, text}
+
+pub text-append : (numbers : NumbersRead) (xs ys : List Part) → text numbers (xs ++ ys) ≡ text numbers xs ++ text numbers ys
+text-append numbers [] ys = refl
+text-append numbers (x ∷ xs) ys =
+    ap (λ t. part_text numbers x ++ t) (text-append numbers xs ys) ∙ sym (append_assoc (part_text numbers x) (text numbers xs) (text numbers ys))
+
+pub text-bytes : (numbers : NumbersRead) (bytes : List ℕ) → text numbers (map Byte bytes) ≡ bytes
+text-bytes numbers [] = refl
+text-bytes numbers (b ∷ bytes) = ap (λ t. b ∷ t) (text-bytes numbers bytes)
+
+-- what is put out for a part
+pub mark_written : (numbers : NumbersRead) (node : Title) (pieces : List PieceNumbersRead) (piece mark : ℕ) (place : Origin) → pieces ≡ node_numbers numbers node
+    → place ≡ get_or (get_or pieces piece no_numbers).marks mark no_place → place_text numbers place ≡ text numbers (MarkOf node piece mark ∷ [])
+mark_written numbers node pieces piece mark place ours is =
+    ap (place_text numbers) (is ∙ ap (λ ps. get_or (get_or ps piece no_numbers).marks mark no_place) ours) ∙ sym (append-nil (place_text numbers (place_of_mark numbers node piece mark)))
+
+pub closing_written : (numbers : NumbersRead) (node : Title) (pieces : List PieceNumbersRead) (piece section : ℕ) → pieces ≡ node_numbers numbers node
+    → section ≡ (get_or pieces piece no_numbers).section → closing_text section ≡ text numbers (Closing node piece ∷ [])
+closing_written numbers node pieces piece section ours is =
+    ap closing_text (is ∙ ap (λ ps. (get_or ps piece no_numbers).section) ours) ∙ sym (append-nil (closing_text (numbers_at numbers node piece).section))
+
+pub macros_written : (numbers : NumbersRead) (macros : List ℕ) → macros ≡ numbers.macros → (10 ∷ []) ++ macros ≡ text numbers (AllMacros ∷ [])
+macros_written numbers macros is = ap (λ m. 10 ∷ m) (is ∙ sym (append-nil numbers.macros))
+
+-- a text is no longer than so many bytes for each part
+pub text-short : (numbers : NumbersRead) (b : ℕ) (parts : List Part) → AllByRecursion (λ p. length (part_text numbers p) ≤ b) parts → length (text numbers parts) ≤ length parts * b
+text-short numbers b [] h = omega arith
+text-short numbers b (p ∷ parts) h =
+    omega (arith, h.0, text-short numbers b parts h.1, length-append (part_text numbers p) (text numbers parts), suc-mul (length parts) b)

@@ -1,0 +1,86 @@
+-- The uses of a plan, one after another, and the plan filled with their parts.
+use Rattle.std.proofs.Common.{◌≡◌, ◌∙◌, ℕ, ◌+◌, ◌<◌, ◌≤◌, zero, suc, List, [], ◌∷◌, ◌++◌, map, drop, length, get_or, refl, ap, sym, subst, append_assoc, append-nil, arith, take, add-one, inl, inr, ◌⊎◌}
+use Rattle.std.specs.Prelude.{Contains}
+use Rattle.std.proofs.lemmas.List.{map-append}
+use Rattle.std.proofs.lemmas.List.Elements.{Contains-append_left, Contains-append_right, Contains-append_cases}
+use Rattle.std.proofs.lemmas.Grind.{flat_map-append}
+use Rattle.std.proofs.Math.Seq.{take-suc}
+use Rattle.tangle_lines.specs.Bytes.{space}
+use Rattle.tangle_expansion.specs.Shapes.{Title}
+use Rattle.tangle_expansion.specs.Flat.{Part, Byte, Opening, MarkOf, Closing, AllMacros}
+use Rattle.tangle_expansion.specs.Meaning.{bytes_between, plan_flat}
+use Rattle.tangle_expansion.specs.Slots.{Own, slots, filled_slot, filled, step_uses, uses_of}
+use Rattle.tangle_expansion.specs.declared.expansion.Step.{Step}
+use Rattle.tangle_expansion.specs.declared.expansion.Step.TheVariants as step
+use Rattle.tangle_expansion.proofs.PlanLemmas.{drop_at, drop_all}
+
+pub used_in_plan : (plan seen : List Step) (i : ℕ) (d : Step) (id : ℕ) → seen ≡ plan → i < length seen → Contains (step_uses (get_or seen i d)) id → Contains (uses_of plan) id
+used_in_plan plan seen i d id same h c = subst (λ l. Contains (uses_of l) id) same (among seen i h c)
+  where
+    among : (xs : List Step) (i : ℕ) → i < length xs → Contains (step_uses (get_or xs i d)) id → Contains (uses_of xs) id
+    among [] i h c = absurd (omega (arith, h))
+    among (x ∷ xs) zero h c = Contains-append_left (step_uses x) (uses_of xs) id c
+    among (x ∷ xs) (suc i) h c =
+        let low : i < length xs = omega (arith, h) in
+        Contains-append_right (step_uses x) (uses_of xs) id (among xs i low c)
+
+pub uses_next : (parts : ℕ → List Part) (plan seen : List Step) (i : ℕ) (s : Step) (done : List (List Part)) → seen ≡ plan → i < length seen → s ≡ get_or seen i s
+    → done ++ map parts (uses_of (drop i plan)) ≡ map parts (uses_of plan)
+    → (done ++ map parts (step_uses s)) ++ map parts (uses_of (drop (i + 1) plan)) ≡ map parts (uses_of plan)
+uses_next parts plan seen i s done same h is e =
+    let next : drop i plan ≡ s ∷ drop (i + 1) plan = ap (drop i) (sym same) ∙ drop_at seen i s h is ∙ ap (λ l. s ∷ drop (i + 1) l) same in
+    append_assoc done (map parts (step_uses s)) (map parts (uses_of (drop (i + 1) plan)))
+    ∙ ap (λ l. done ++ l) (sym (map-append parts (step_uses s) (uses_of (drop (i + 1) plan))))
+    ∙ ap (λ l. done ++ map parts (uses_of l)) (sym next)
+    ∙ e
+
+pub uses_end : (parts : ℕ → List Part) (plan seen : List Step) (i : ℕ) (done : List (List Part)) → seen ≡ plan → length seen ≤ i
+    → done ++ map parts (uses_of (drop i plan)) ≡ map parts (uses_of plan) → done ≡ map parts (uses_of plan)
+uses_end parts plan seen i done same h e =
+    sym (append-nil done) ∙ ap (λ l. done ++ map parts (uses_of l)) (sym (drop_all plan i (omega (arith, h, ap length same)))) ∙ e
+
+pub bytes_filled : (parts : ℕ → List Part) (bytes : List ℕ) → filled parts (map (λ b. Own (Byte b)) bytes) ≡ map Byte bytes
+bytes_filled parts [] = refl
+bytes_filled parts (b ∷ bytes) = ap (λ l. Byte b ∷ l) (bytes_filled parts bytes)
+
+-- where each use has a share, in order, the plan means its slots filled
+pub plan_filled : (parts : ℕ → List Part) (node : Title) (text : List ℕ) (piece marks start : ℕ) (plan : List Step)
+    → plan_flat node text piece marks start plan (map parts (uses_of plan)) ≡ filled parts (slots node text piece marks start plan)
+plan_filled parts node text piece marks start [] = refl
+plan_filled parts node text piece marks start (step.Open ∷ plan) = ap (λ l. Opening node piece ∷ MarkOf node piece 0 ∷ l) (plan_filled parts node text piece 0 start plan)
+plan_filled parts node text piece marks start (step.Run end ∷ plan) =
+    ap (λ l. map Byte (bytes_between text start end) ++ l) (plan_filled parts node text piece marks end plan)
+    ∙ ap (λ l. l ++ filled parts (slots node text piece marks end plan)) (sym (bytes_filled parts (bytes_between text start end)))
+    ∙ sym (flat_map-append (filled_slot parts) (map (λ b. Own (Byte b)) (bytes_between text start end)) (slots node text piece marks end plan))
+plan_filled parts node text piece marks start (step.Mark ∷ plan) = ap (λ l. MarkOf node piece (marks + 1) ∷ l) (plan_filled parts node text piece (marks + 1) start plan)
+plan_filled parts node text piece marks start (step.Macros ∷ plan) = ap (λ l. AllMacros ∷ l) (plan_filled parts node text piece marks start plan)
+plan_filled parts node text piece marks start (step.Space ∷ plan) = ap (λ l. Byte space ∷ l) (plan_filled parts node text piece marks start plan)
+plan_filled parts node text piece marks start (step.Use id ∷ plan) = ap (λ l. Byte space ∷ parts id ++ l) (plan_filled parts node text piece marks start plan)
+plan_filled parts node text piece marks start (step.Close ∷ plan) = ap (λ l. Closing node piece ∷ l) (plan_filled parts node text (piece + 1) 0 start plan)
+
+uses_push : (xs : List Step) (s : Step) → uses_of (xs ++ s ∷ []) ≡ uses_of xs ++ step_uses s
+uses_push [] s = append-nil (step_uses s)
+uses_push (x ∷ xs) s = ap (λ l. step_uses x ++ l) (uses_push xs s) ∙ sym (append_assoc (step_uses x) (uses_of xs) (step_uses s))
+
+-- what holds of the uses so far and of those of the next step holds behind that
+pub uses_hold_next : (P : ℕ → Type 0) (plan seen : List Step) (i : ℕ) (d : Step) → seen ≡ plan → i < length seen
+    → ((id : ℕ) → Contains (uses_of (take i plan)) id → P id) → ((id : ℕ) → Contains (step_uses (get_or seen i d)) id → P id)
+    → (id : ℕ) → Contains (uses_of (take (i + 1) plan)) id → P id
+uses_hold_next P plan seen i d same h before here id c =
+    let split : uses_of (take (i + 1) plan) ≡ uses_of (take i plan) ++ step_uses (get_or seen i d)
+    = ap (λ l. uses_of (take (i + 1) l)) (sym same)
+    ∙ ap (λ j. uses_of (take j seen)) (add-one i)
+    ∙ ap uses_of (take-suc seen i d h)
+    ∙ uses_push (take i seen) (get_or seen i d)
+    ∙ ap (λ l. uses_of (take i l) ++ step_uses (get_or seen i d)) same in
+    by (Contains-append_cases (uses_of (take i plan)) (step_uses (get_or seen i d)) id (subst (λ l. Contains l id) split c))
+  where
+    by : Contains (uses_of (take i plan)) id ⊎ Contains (step_uses (get_or seen i d)) id → P id
+    by (inl u) = before id u
+    by (inr u) = here id u
+
+pub take_steps : (plan : List Step) (n : ℕ) → length plan ≤ n → take n plan ≡ plan
+take_steps [] zero h = refl
+take_steps [] (suc n) h = refl
+take_steps (s ∷ plan) zero h = absurd (omega (arith, h))
+take_steps (s ∷ plan) (suc n) h = ap (λ l. s ∷ l) (take_steps plan n (omega (arith, h)))

@@ -1,0 +1,20 @@
+use Rattle.std.proofs.Common.{ap, arith, length}
+use Rattle.tangle_expansion.specs.Shapes.{Named}
+use Rattle.tangle_expansion.specs.Flat.{flat, depth}
+use Rattle.tangle_expansion.proofs.UsedLemmas.{pieces_shorter, pieces_shallower}
+use Rattle.tangle_expansion.proofs.laws.used_names_are_expandable.Goals as goal
+
+pub returns : goal.returns
+returns c levels limit project node name e u has =
+    let shallow = pieces_shallower (λ m. depth levels project (Named m)) (project node) name u in
+    let deep = c.nodes_expand_by_uses.ensures.depths levels project node in
+    let parts = c.nodes_expand_by_uses.ensures.parts levels project node e.shallow in
+    let long = ap length parts in
+    let short = pieces_shorter (λ m. flat levels project (Named m)) node 0 (project node) name u in
+    let weighs = c.the_weight_is_the_length.ensures levels project node in
+    let weighs_less = c.the_weight_is_the_length.ensures levels project (Named name) in
+    record {
+      has_piece = has;
+      shallow = omega (arith, e.shallow, deep, shallow);
+      light = omega (arith, e.light, long, short, weighs, weighs_less);
+    }

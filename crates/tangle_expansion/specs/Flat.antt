@@ -1,0 +1,88 @@
+-- What a node expands to, how much that is, and how deep its uses go.
+use Rattle.std.specs.Prelude.{ℕ, ◌+◌, zero, suc, max, List, [], ◌∷◌, ◌++◌, length, map}
+use Rattle.tangle_lines.specs.Bytes.{space}
+use Rattle.tangle_expansion.specs.Shapes.{Title, Named, ShapeItem, Written, Mark, Macros, Use, NoUse, Shape, Project}
+
+-- A part of an expansion: one byte, or an opening, a mark or a closing, which the node, the number of its piece and that of the mark
+-- tell, or all macros. The mark of number 0 is the opening mark.
+pub data Part : Type 0 where
+  Byte : ℕ → Part
+  Opening : Title → ℕ → Part
+  MarkOf : Title → ℕ → ℕ → Part
+  Closing : Title → ℕ → Part
+  AllMacros : Part
+
+-- how many marks there are behind an item
+abbrev pub marks_behind : ℕ → ShapeItem → ℕ
+marks_behind marks (Written kind bytes) = marks
+marks_behind marks Mark = marks + 1
+marks_behind marks Macros = marks
+marks_behind marks (Use name) = marks
+marks_behind marks NoUse = marks
+
+-- the parts of an item of the piece with this number, behind so many marks, where a name has these parts
+abbrev pub item_flat : (List ℕ → List Part) → Title → ℕ → ℕ → ShapeItem → List Part
+item_flat used node piece marks (Written kind bytes) = map Byte bytes
+item_flat used node piece marks Mark = MarkOf node piece (marks + 1) ∷ []
+item_flat used node piece marks Macros = AllMacros ∷ []
+item_flat used node piece marks (Use name) = Byte space ∷ used name
+item_flat used node piece marks NoUse = Byte space ∷ []
+
+-- the items of the piece, and its closing
+abbrev pub items_flat : (List ℕ → List Part) → Title → ℕ → ℕ → List ShapeItem → List Part
+items_flat used node piece marks [] = Closing node piece ∷ []
+items_flat used node piece marks (item ∷ items) =
+    item_flat used node piece marks item ++ items_flat used node piece (marks_behind marks item) items
+
+-- the pieces from this number on
+abbrev pub pieces_flat : (List ℕ → List Part) → Title → ℕ → Shape → List Part
+pieces_flat used node piece [] = []
+pieces_flat used node piece (items ∷ pieces) =
+    Opening node piece ∷ MarkOf node piece 0 ∷ items_flat used node piece 0 items ++ pieces_flat used node (piece + 1) pieces
+
+-- the parts of a node, where uses are followed less than so many deep
+abbrev pub flat : ℕ → Project → Title → List Part
+flat zero project node = []
+flat (suc fuel) project node = pieces_flat (λ name. flat fuel project (Named name)) node 0 (project node)
+
+-- The weight: each byte counts 1, and so do an opening, a mark, a closing and the macros; a use counts 1 and the weight of its name.
+
+abbrev pub item_weight : (List ℕ → ℕ) → ShapeItem → ℕ
+item_weight used (Written kind bytes) = length bytes
+item_weight used Mark = 1
+item_weight used Macros = 1
+item_weight used (Use name) = 1 + used name
+item_weight used NoUse = 1
+
+abbrev pub items_weight : (List ℕ → ℕ) → List ShapeItem → ℕ
+items_weight used [] = 0
+items_weight used (item ∷ items) = item_weight used item + items_weight used items
+
+abbrev pub pieces_weight : (List ℕ → ℕ) → Shape → ℕ
+pieces_weight used [] = 0
+pieces_weight used (items ∷ pieces) = 3 + items_weight used items + pieces_weight used pieces
+
+abbrev pub weight : ℕ → Project → Title → ℕ
+weight zero project node = 0
+weight (suc fuel) project node = pieces_weight (λ name. weight fuel project (Named name)) (project node)
+
+-- The depth: 0 without a piece, else one more than the greatest depth among the names that are used.
+
+abbrev pub item_depth : (List ℕ → ℕ) → ShapeItem → ℕ
+item_depth used (Written kind bytes) = 0
+item_depth used Mark = 0
+item_depth used Macros = 0
+item_depth used (Use name) = used name
+item_depth used NoUse = 0
+
+abbrev pub items_depth : (List ℕ → ℕ) → List ShapeItem → ℕ
+items_depth used [] = 0
+items_depth used (item ∷ items) = max (item_depth used item) (items_depth used items)
+
+abbrev pub pieces_depth : (List ℕ → ℕ) → Shape → ℕ
+pieces_depth used [] = 0
+pieces_depth used (items ∷ pieces) = max (suc (items_depth used items)) (pieces_depth used pieces)
+
+abbrev pub depth : ℕ → Project → Title → ℕ
+depth zero project node = 0
+depth (suc fuel) project node = pieces_depth (λ name. depth fuel project (Named name)) (project node)

@@ -1,0 +1,98 @@
+-- The section numbers, places and macro texts of a web, and the text that they make of an expansion.
+use Rattle.std.specs.Prelude.{ℕ, ◌==◌, ◌||◌, List, [], ◌∷◌, ◌++◌, map, flat_map, get_or, codes, decimal, unwrap_or, if◌then◌else◌}
+use Rattle.std.specs.Map.{lookup}
+use Rattle.std.specs.Str.{bytes_eq}
+use Rattle.tangle_lines.specs.Bytes.{line_feed}
+use Rattle.tangle_lines.specs.declared.faults.Origin.{Origin}
+use Rattle.tangle_scan.specs.declared.items.Item.{Item}
+use Rattle.tangle_scan.specs.declared.items.Item.TheVariants as item
+use Rattle.tangle_scan.specs.Web.{WebRead, PieceRead}
+use Rattle.tangle_names.specs.NameTable.{TableRead}
+use Rattle.tangle_expansion.specs.Shapes.{Title, Program, Named}
+use Rattle.tangle_expansion.specs.Flat.{Part, Byte, Opening, MarkOf, Closing, AllMacros}
+use Rattle.tangle_expansion.specs.Projects.{pieces_of}
+use Rattle.tangle_expansion.specs.MacroTexts.{macro_text}
+
+-- of a piece the number of its section and the places of its marks, the opening mark's first
+pub record PieceNumbersRead : Type 0 where
+  pub section : ℕ
+  pub marks : List Origin
+
+-- what the text of an expansion takes from the web
+pub record NumbersRead : Type 0 where
+  -- as line marks have them
+  pub file_names : List (List ℕ)
+  pub program : List PieceNumbersRead
+  pub names : List (List ℕ × List PieceNumbersRead)
+  pub macros : List ℕ
+
+abbrev pub backslash : ℕ
+backslash = 92
+
+abbrev pub quote : ℕ
+quote = 34
+
+abbrev pub escaped_byte : ℕ → List ℕ
+escaped_byte b = if b == backslash || b == quote then backslash ∷ b ∷ [] else b ∷ []
+
+-- a file's name as a line mark has it
+abbrev pub escaped : List ℕ → List ℕ
+escaped name = flat_map escaped_byte name
+
+abbrev pub item_places : Item → List Origin
+item_places (item.LineMark place) = place ∷ []
+item_places _ = []
+
+abbrev pub piece_numbers : PieceRead → PieceNumbersRead
+piece_numbers piece = record { section = piece.section; marks = piece.place ∷ flat_map item_places piece.items }
+
+module _ (web : WebRead) (table : TableRead) where
+  abbrev pub numbers_of : NumbersRead
+  numbers_of = record {
+    file_names = map escaped web.file_names;
+    program = map piece_numbers (pieces_of web table Program);
+    names = map (λ name. (name, map piece_numbers (pieces_of web table (Named name)))) table.names;
+    macros = flat_map (macro_text web.texts) web.macros;
+  }
+
+-- the text of an expansion
+
+abbrev pub opening_text : ℕ → List ℕ
+opening_text section = codes "/*" ++ decimal section ++ codes ":*/"
+
+abbrev pub closing_text : ℕ → List ℕ
+closing_text section = codes "/*:" ++ decimal section ++ codes "*/"
+
+abbrev pub mark_text : List ℕ → ℕ → List ℕ
+mark_text file line = codes "\n#line " ++ decimal line ++ codes " \"" ++ file ++ codes "\"\n"
+
+abbrev pub no_numbers : PieceNumbersRead
+no_numbers = record { section = 0; marks = [] }
+
+abbrev pub no_place : Origin
+no_place = record { file = 0; line = 0 }
+
+module _ (numbers : NumbersRead) where
+  -- the numbers of a node's pieces
+  abbrev pub node_numbers : Title → List PieceNumbersRead
+  node_numbers Program = numbers.program
+  node_numbers (Named name) = unwrap_or (lookup (bytes_eq name) numbers.names) []
+
+  abbrev pub numbers_at : Title → ℕ → PieceNumbersRead
+  numbers_at node piece = get_or (node_numbers node) piece no_numbers
+
+  abbrev pub place_of_mark : Title → ℕ → ℕ → Origin
+  place_of_mark node piece mark = get_or (numbers_at node piece).marks mark no_place
+
+  abbrev pub place_text : Origin → List ℕ
+  place_text place = mark_text (get_or numbers.file_names place.file []) place.line
+
+  abbrev pub part_text : Part → List ℕ
+  part_text (Byte b) = b ∷ []
+  part_text (Opening node piece) = opening_text (numbers_at node piece).section
+  part_text (MarkOf node piece mark) = place_text (place_of_mark node piece mark)
+  part_text (Closing node piece) = closing_text (numbers_at node piece).section
+  part_text AllMacros = line_feed ∷ numbers.macros
+
+  abbrev pub text : List Part → List ℕ
+  text parts = flat_map part_text parts

@@ -1,0 +1,51 @@
+-- The text of an output file, and that it is true to the lines of the source.
+use Rattle.std.specs.Prelude.{◌≡◌, ◌≤◌, length, true, unwrap_or, IsSome, ℕ, Bool, List, [], ◌∷◌, ◌++◌, map, if◌then◌else◌, None}
+use Rattle.tangle_lines.specs.Bytes.{line_feed}
+use Rattle.tangle_lines.specs.Reading.{SourceRead}
+use Rattle.tangle_scan.specs.Web.{WebRead}
+use Rattle.tangle_names.specs.NameTable.{table_of}
+use Rattle.tangle_expansion.specs.Shapes.{Title}
+use Rattle.tangle_expansion.specs.Flat.{Part}
+use Rattle.tangle_expansion.specs.Limits.{levels, heaviest}
+use Rattle.tangle_expansion.specs.Numbers.{NumbersRead, numbers_of, text}
+use Rattle.tangle_expansion.specs.Kept.{kept_at}
+use Rattle.tangle_expansion.specs.declared.nodes.Node.{Node}
+use Rattle.tangle_expansion.specs.declared.kept.Kept.{Kept}
+use Rattle.tangle_expansion.specs.Standing.{StandingPart, standing, standing_project, StandAtTheirPlaces}
+
+abbrev pub front_text : NumbersRead → Bool → List ℕ
+front_text numbers has_macros = if has_macros then numbers.macros else []
+
+-- a file: the macros, if they begin it, and the text of its node and a line feed, if the node has a piece
+abbrev pub file_text : NumbersRead → Bool → Bool → List Part → List ℕ
+file_text numbers has_macros has_piece parts =
+    front_text numbers has_macros ++ (if has_piece then text numbers parts ++ line_feed ∷ [] else [])
+
+-- an output file: its name, the node whose text it has, whether all macros begin it, and whether the node has a piece
+pub record OutputRead : Type 0 where
+  pub name : List ℕ
+  pub node : Node
+  pub has_macros : Bool
+  pub has_piece : Bool
+
+-- the parts that are kept of the node, none where nothing is
+abbrev pub node_parts : Kept → Node → List Part
+node_parts kept node = unwrap_or (kept_at kept node) []
+
+-- the expansion of its node is kept, if that has a piece, and is within the limit of weight
+pub record IsReady (output : OutputRead) (kept : Kept) : Type 0 where
+  pub there : output.has_piece ≡ true → IsSome (kept_at kept output.node)
+  pub light : length (node_parts kept output.node) ≤ heaviest
+
+abbrev pub output_text : NumbersRead → Kept → OutputRead → List ℕ
+output_text numbers kept output = file_text numbers output.has_macros output.has_piece (node_parts kept output.node)
+
+-- what a node expands to, with where each text stands
+abbrev pub standing_of : SourceRead → WebRead → Title → List StandingPart
+standing_of source web node = standing levels (standing_project source web (table_of web)) node
+
+-- The bytes are the text of what the node expands to, and each byte of a text in it that is in no stretch stands at the compiler's place
+-- that is its own line's. In front of a file's first mark no place is known.
+pub record IsTrueToLines (source : SourceRead) (web : WebRead) (node : Title) (bytes : List ℕ) : Type 0 where
+  pub written : bytes ≡ text (numbers_of web (table_of web)) (map (λ p. p.part) (standing_of source web node))
+  pub places : StandAtTheirPlaces (numbers_of web (table_of web)) None (standing_of source web node)

@@ -1,0 +1,30 @@
+-- How long the text of a part can be.
+use Rattle.std.specs.Prelude.{◌<◌, ◌≤◌, ◌^◌, ℕ, List, length}
+use Rattle.std.specs.List.{All}
+use Rattle.tangle_lines.specs.declared.faults.Origin.{Origin}
+use Rattle.tangle_expansion.specs.Flat.{Part}
+use Rattle.tangle_expansion.specs.Numbers.{PieceNumbersRead, NumbersRead, part_text}
+
+-- the text of a part has at most so many bytes: a file name and the macros have less than 2 ^ 64
+unfoldable pub longest_part : ℕ
+longest_part = 2 ^ 66
+
+abbrev pub PartsAreShort : NumbersRead → Type 0
+PartsAreShort numbers = (part : Part) → length (part_text numbers part) ≤ longest_part
+
+abbrev pub IsLow : Origin → Type 0
+IsLow place = place.line < 2 ^ 32
+
+pub record IsShort (piece : PieceNumbersRead) : Type 0 where
+  pub section : piece.section < 2 ^ 64
+  pub marks : All IsLow piece.marks
+
+abbrev pub EntryIsShort : (List ℕ × List PieceNumbersRead) → Type 0
+EntryIsShort e = All IsShort e.1
+
+-- what numbers are made of
+pub record AreShort (numbers : NumbersRead) : Type 0 where
+  pub file_names : All (λ (name : List ℕ). length name < 2 ^ 64) numbers.file_names
+  pub program : All IsShort numbers.program
+  pub names : All EntryIsShort numbers.names
+  pub macros : length numbers.macros < 2 ^ 64

@@ -1,0 +1,146 @@
+//! Output files, and their writing.
+ghost use Rattle.std.specs.Prelude.{◌≡◌, Bool, length, IsSome};
+ghost use Rattle.tangle_streams.specs.Streams.{PutsOut};
+ghost use Rattle.tangle_expansion.specs.Kept.{kept_at};
+ghost use Rattle.tangle_expansion.specs.Outputs.{IsReady, front_text, node_parts, output_text};
+
+use crate::expansion::Expansion;
+use crate::kept::Kept;
+use crate::nodes::Node;
+use crate::numbers::Numbers;
+use std::marker::Model;
+use tangle_lines::{Sink, WriteFault, put};
+
+/// An output file of a web: the text of a node, with all macros in front where it is the main file and no C part has `@h`.
+#[derive(Drop)]
+pub struct Output {
+    name: Vec<u8>,
+    node: Node,
+    has_macros: bool,
+    has_piece: bool,
+}
+
+impl Model for Output {
+    ghost use Rattle.tangle_expansion.specs.Outputs.{OutputRead};
+
+    ghost Value = { OutputRead };
+
+    ghost view = { λ o. record { name = o.name.items; node = o.node; has_macros = o.has_macros; has_piece = o.has_piece } };
+}
+
+impl Output {
+    /// The file of this name with the text of a node: whether all macros begin it, and whether the node has a piece.
+    pub fn new(name: Vec<u8>, node: Node, has_macros: bool, has_piece: bool) -> Output
+        ensures { result ≡ record { name = name.items; node = node; has_macros = has_macros; has_piece = has_piece } }
+    {
+        Output {
+            name,
+            node,
+            has_macros,
+            has_piece,
+        }
+    }
+
+    /// The name of the file.
+    pub fn name(&self) -> &[u8]
+        ensures { result.now ≡ self.now.name }
+    {
+        self.name.as_slice()
+    }
+
+    /// The node whose text it has.
+    pub fn node(&self) -> Node
+        ensures { result ≡ self.now.node }
+    {
+        self.node
+    }
+
+    /// Whether all macros begin it.
+    pub fn has_macros(&self) -> bool
+        ensures { result ≡ self.now.has_macros }
+    {
+        self.has_macros
+    }
+
+    /// Whether its node has a piece; a file without one has no text but the macros.
+    pub fn has_piece(&self) -> bool
+        ensures { result ≡ self.now.has_piece }
+    {
+        self.has_piece
+    }
+}
+
+/// What stands in front of the text of a file's node: the macros, or nothing.
+fn front_of<'a>(output: &Output, numbers: &'a Numbers) -> &'a [u8]
+    ensures { result.now ≡ front_text numbers.now output.now.has_macros }
+{
+    if output.has_macros() {
+        numbers.macros()
+    } else {
+        &[]
+    }
+}
+
+/// The expansion that is kept of the node.
+fn expansion_of(kept: &Kept, node: Node) -> &Expansion
+    requires { IsSome (kept_at kept.now node) }
+    ensures { result.now ≡ node_parts kept.now node }
+{
+    kept.get(node).unwrap()
+}
+
+/// Writes an output file: the macros, if they begin it, and the text of its node and a line feed, if the node has a piece. It answers how many
+/// bytes the file has.
+///
+/// # Errors
+///
+/// `WriteFault(n)` where the sink failed, or took no byte, after the first `n` bytes of the file.
+pub fn write_file<S: Sink>(
+    output: &Output,
+    kept: &Kept,
+    numbers: &Numbers,
+    sink: &mut S,
+) -> Result<u128, WriteFault>
+    requires { IsReady output.now kept.now }
+    ensures { PutsOut (S.stream sink.old) (S.stream sink.new)
+        (output_text numbers.now kept.now output.now) result }
+{
+    numbers.parts_are_short();
+    let begun = put(sink, Ok(0), front_of(output, numbers));
+    if !output.has_piece() {
+        return begun;
+    }
+    let expansion = expansion_of(kept, output.node());
+    let written = expansion.put_text(numbers, sink, begun);
+    put(sink, written, b"\n")
+}
+
+/// A sink that takes all bytes and keeps none.
+#[derive(Drop)]
+struct Discarding {}
+
+impl Sink for Discarding {
+    ghost use Rattle.std.specs.Prelude.{None};
+
+    ghost stream = { λ _. record { taken = None; failures = 0 } };
+
+    fn take(&mut self, bytes: &[u8]) -> Option<usize> {
+        Some(bytes.len())
+    }
+
+    fn failures(&self) -> u64 {
+        0
+    }
+}
+
+/// How many bytes an output file has. It takes no memory.
+pub fn file_size(output: &Output, kept: &Kept, numbers: &Numbers) -> u128
+    requires { IsReady output.now kept.now }
+    ensures { result ≡ length (output_text numbers.now kept.now output.now) }
+{
+    let mut sink = Discarding {};
+    match write_file(output, kept, numbers, &mut sink) {
+        Ok(size) => size,
+        Err(_) => 0,
+    }
+}

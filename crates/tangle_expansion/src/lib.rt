@@ -1,0 +1,37 @@
+//! What nodes of a web expand to: expansions, which share, and their writing.
+//!
+//! A node is a full name or the unnamed program. [`plan_node`] keeps the bytes and the plan of a node, [`expand`] makes its expansion of those
+//! of the names that it uses, and [`write_text`] writes an expansion, with the section numbers and places of a web, its [`Numbers`].
+#![tactic(auto)]
+
+mod building;
+mod codes;
+mod expanding;
+mod expansion;
+mod files;
+mod kept;
+mod laws;
+mod macros;
+mod nodes;
+mod numbers;
+mod planning;
+mod shapes;
+mod work;
+mod writing;
+
+pub use expanding::{are_uses_kept, expand};
+pub use expansion::{Expansion, NodeText};
+pub use files::{Output, file_size, write_file};
+pub use kept::Kept;
+pub use laws::{
+    codes_tell_the_shape, expandable_nodes_are_light, expandable_nodes_reach_no_cycle,
+    filled_plans_are_right, names_resolve_inside, nodes_expand_by_uses, texts_are_short,
+    texts_are_true_to_lines, texts_stand_at_their_places, the_weight_is_the_length,
+    unaffected_nodes_stay, used_names_are_expandable,
+};
+pub use nodes::{Node, PiecesByNode};
+pub use numbers::Numbers;
+pub use planning::plan_node;
+pub use shapes::same_shape;
+pub use work::Work;
+pub use writing::write_text;

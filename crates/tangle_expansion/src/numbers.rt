@@ -1,0 +1,152 @@
+//! The section numbers, places and macro texts of a web.
+ghost use Rattle.std.specs.Prelude.{◌≡◌, ◌<◌, ◌^◌, ℕ, [], get_or, map, vec_len};
+ghost use Rattle.std.specs.List.{All};
+ghost use Rattle.tangle_expansion.specs.Meaning.{title_of};
+ghost use Rattle.tangle_expansion.specs.Numbers.{PieceNumbersRead, node_numbers, no_numbers, no_place};
+ghost use Rattle.tangle_expansion.specs.NumbersKept.{entries_of};
+ghost use Rattle.tangle_expansion.specs.TextLimits.{IsShort, EntryIsShort, PartsAreShort};
+
+use indexmap::IndexMap;
+use std::alloc::Global;
+use std::marker::Model;
+use tangle_lines::Origin;
+
+/// The section number of a piece, and the places of its marks.
+#[derive(Drop)]
+pub(crate) struct PieceNumbers {
+    section: usize,
+    marks: Vec<Origin>,
+}
+
+impl Model for PieceNumbers {
+    ghost use Rattle.tangle_expansion.specs.Numbers.{PieceNumbersRead};
+
+    ghost Value = { PieceNumbersRead };
+
+    ghost view = { λ p. record { section = p.section; marks = p.marks.items } };
+}
+
+impl PieceNumbers {
+    /// The numbers of a piece of this section with these marks.
+    pub(crate) fn new(section: usize, marks: Vec<Origin>) -> Self
+        ensures { result ≡ record { section = section; marks = marks.items } }
+    {
+        PieceNumbers { section, marks }
+    }
+}
+
+/// What the texts of a web's expansions take from it: section numbers, places and the text of the macros.
+#[derive(Drop)]
+pub struct Numbers {
+    file_names: Vec<Vec<u8>>,
+    program: Vec<PieceNumbers>,
+    names: IndexMap<Vec<u8>, Vec<PieceNumbers>>,
+    macros: Vec<u8>,
+}
+
+impl Model for Numbers {
+    ghost use Rattle.tangle_expansion.specs.Numbers.{NumbersRead};
+    ghost use Rattle.tangle_expansion.specs.NumbersKept.{numbers_read};
+    ghost use Rattle.tangle_expansion.specs.TextLimits.{PartsAreShort};
+
+    ghost Value = { NumbersRead };
+
+    ghost view = { numbers_read };
+
+    ghost invariant = { λ n. PartsAreShort (numbers_read n) };
+}
+
+impl Numbers {
+    /// Numbers of these parts.
+    pub(crate) fn new(
+        file_names: Vec<Vec<u8>>,
+        program: Vec<PieceNumbers>,
+        names: IndexMap<Vec<u8>, Vec<PieceNumbers>>,
+        macros: Vec<u8>,
+    ) -> Self
+        requires file_names { All (λ n. vec_len n < 2 ^ 64) file_names.items }
+        requires program { All IsShort program.items }
+        requires names { All EntryIsShort (entries_of names) }
+        ensures { result ≡ record { file_names = map (λ n. n.items) file_names.items; program = program.items; names = entries_of names; macros = macros.items } }
+    {
+        let _bytes = macros.len();
+        Numbers {
+            file_names,
+            program,
+            names,
+            macros,
+        }
+    }
+
+    /// The numbers of a web without files, pieces and macros. It takes no memory yet.
+    pub fn none(alloc: Global) -> Self
+        ensures { result ≡ record { file_names = []; program = []; names = []; macros = [] } }
+    {
+        Numbers::new(
+            Vec::new(alloc),
+            Vec::new(alloc),
+            IndexMap::new(alloc),
+            Vec::new(alloc),
+        )
+    }
+
+    /// The text of each part is short.
+    pub(crate) fn parts_are_short(&self)
+        ensures { PartsAreShort self.now }
+    {
+        let _bytes = self.macros.len();
+    }
+
+    /// The numbers of a node's pieces.
+    pub(crate) fn of_node(&self, name: &Option<Vec<u8>>) -> &[PieceNumbers]
+        ensures { result.now ≡ node_numbers self.now (title_of name.now) }
+    {
+        match name {
+            None => self.program.as_slice(),
+            Some(name) => match self.names.get(name.as_slice()) {
+                Some(pieces) => pieces.as_slice(),
+                None => &[],
+            },
+        }
+    }
+
+    /// The name of a file, as line marks have it.
+    pub(crate) fn file_name(&self, place: Origin) -> &[u8]
+        ensures { result.now ≡ get_or self.now.file_names place.file [] }
+    {
+        match self.file_names.get(place.file as usize) {
+            Some(name) => name.as_slice(),
+            None => &[],
+        }
+    }
+
+    /// The text of the macros.
+    pub(crate) fn macros(&self) -> &[u8]
+        ensures { result.now ≡ self.now.macros }
+    {
+        self.macros.as_slice()
+    }
+}
+
+/// The number of the section of a piece.
+pub(crate) fn section_at(pieces: &[PieceNumbers], piece: usize) -> usize
+    ensures { result ≡ (get_or pieces.now piece no_numbers).section }
+{
+    match pieces.get(piece) {
+        Some(numbers) => numbers.section,
+        None => 0,
+    }
+}
+
+/// The place of a mark of a piece.
+pub(crate) fn place_at(pieces: &[PieceNumbers], piece: usize, mark: usize) -> Origin
+    ensures { result ≡ get_or (get_or pieces.now piece no_numbers).marks mark no_place }
+{
+    match pieces.get(piece) {
+        Some(numbers) => match numbers.marks.get(mark) {
+            Some(place) => *place,
+            None => Origin { file: 0, line: 0 },
+        },
+        None => Origin { file: 0, line: 0 },
+    }
+}

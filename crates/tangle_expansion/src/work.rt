@@ -1,0 +1,58 @@
+//! The list of the nodes that were expanded.
+ghost use Rattle.std.specs.Prelude.{◌≡◌, ◌++◌, ◌∷◌, [], length, OnOk, OnErr};
+
+use crate::nodes::Node;
+use std::alloc::Global;
+use std::marker::Model;
+use tangle_lines::NoMemory;
+
+/// The list of the nodes that were expanded, one after another.
+#[derive(Drop)]
+pub struct Work {
+    nodes: Vec<Node>,
+}
+
+impl Model for Work {
+    ghost use Rattle.std.specs.Prelude.{List};
+    ghost use Rattle.tangle_expansion.specs.declared.nodes.Node.{Node};
+
+    ghost Value = { List Node };
+
+    ghost view = { λ w. w.nodes.items };
+}
+
+impl Work {
+    /// No node. It takes no memory yet.
+    pub fn new(alloc: Global) -> Work
+        ensures { result ≡ [] }
+    {
+        Work {
+            nodes: Vec::new(alloc),
+        }
+    }
+
+    /// How many nodes were expanded.
+    pub fn made(&self) -> u64
+        ensures { result ≡ length self.now }
+    {
+        self.nodes.len() as u64
+    }
+
+    /// The nodes that were expanded, in order.
+    pub fn nodes(&self) -> &[Node]
+        ensures { result.now ≡ self.now }
+    {
+        self.nodes.as_slice()
+    }
+
+    /// Notes that the node was expanded.
+    pub(crate) fn add(&mut self, node: Node) -> Result<(), NoMemory>
+        ensures ok { OnOk result (self.new ≡ self.old ++ node ∷ []) }
+        ensures err { OnErr result (self.new ≡ self.old) }
+    {
+        match self.nodes.push(node) {
+            Ok(()) => Ok(()),
+            Err(_) => Err(NoMemory),
+        }
+    }
+}

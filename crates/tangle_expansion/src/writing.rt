@@ -1,0 +1,271 @@
+//! Writing the text of an expansion.
+ghost use Rattle.std.specs.Prelude.{◌≡◌, ◌+◌, ◌-◌, ◌^◌, ◌<◌, ◌≤◌, take, drop, length};
+ghost use Rattle.tangle_streams.specs.Streams.{PutsOut, PutsOutMore};
+ghost use Rattle.tangle_expansion.specs.Limits.{heaviest};
+ghost use Rattle.tangle_expansion.specs.Meaning.{title_of, bytes_between, is_use as is_use_step, pieces_passed, marks_passed, bytes_passed, own_parts, before_use, behind_use};
+ghost use Rattle.tangle_expansion.specs.Numbers.{node_numbers, opening_text, closing_text, place_text, text};
+
+use crate::expansion::{Body, Expansion, NodeText, Step};
+use crate::numbers::{Numbers, PieceNumbers, place_at, section_at};
+use itoa::Buffer;
+use tangle_lines::{Origin, Sink, WriteFault, put};
+
+/// Where the writing of a plan stands: behind so many steps, so many pieces, so many marks of this piece, and so many bytes of the text.
+#[derive(Clone, Copy, Debug)]
+struct Cursor {
+    step: usize,
+    piece: usize,
+    marks: usize,
+    start: usize,
+    ghost pieces_low: { piece ≤ step },
+    ghost marks_low: { marks ≤ step },
+}
+
+/// Where the writing of a plan begins.
+fn first() -> Cursor
+    ensures step { result.step ≡ 0 }
+    ensures piece { result.piece ≡ 0 }
+    ensures marks { result.marks ≡ 0 }
+    ensures start { result.start ≡ 0 }
+{
+    Cursor {
+        step: 0,
+        piece: 0,
+        marks: 0,
+        start: 0,
+    }
+}
+
+/// Puts out the opening of a piece.
+fn put_opening<S: Sink>(
+    section: usize,
+    sink: &mut S,
+    so_far: Result<u128, WriteFault>,
+) -> Result<u128, WriteFault>
+    ensures { PutsOutMore (S.stream sink.old) (S.stream sink.new)
+        so_far (opening_text section) result }
+{
+    let mut digits = Buffer::new();
+    let opened = put(sink, so_far, b"/*");
+    let numbered = put(sink, opened, digits.format(section).as_bytes());
+    put(sink, numbered, b":*/")
+}
+
+/// Puts out the closing of a piece.
+fn put_closing<S: Sink>(
+    section: usize,
+    sink: &mut S,
+    so_far: Result<u128, WriteFault>,
+) -> Result<u128, WriteFault>
+    ensures { PutsOutMore (S.stream sink.old) (S.stream sink.new)
+        so_far (closing_text section) result }
+{
+    let mut digits = Buffer::new();
+    let opened = put(sink, so_far, b"/*:");
+    let numbered = put(sink, opened, digits.format(section).as_bytes());
+    put(sink, numbered, b"*/")
+}
+
+/// Puts out a line mark.
+fn put_mark<S: Sink>(
+    numbers: &Numbers,
+    place: Origin,
+    sink: &mut S,
+    so_far: Result<u128, WriteFault>,
+) -> Result<u128, WriteFault>
+    ensures { PutsOutMore (S.stream sink.old) (S.stream sink.new)
+        so_far (place_text numbers.now place) result }
+{
+    let mut digits = Buffer::new();
+    let opened = put(sink, so_far, b"\n#line ");
+    let numbered = put(sink, opened, digits.format(place.line).as_bytes());
+    let quoted = put(sink, numbered, b" \"");
+    let named = put(sink, quoted, numbers.file_name(place));
+    put(sink, named, b"\"\n")
+}
+
+/// The bytes from one place of a text up to another.
+fn between(text: &[u8], start: usize, end: usize) -> &[u8]
+    ensures { result.now ≡ bytes_between text.now start end }
+{
+    let end = if end < text.len() { end } else { text.len() };
+    if start < end { &text[start..end] } else { &[] }
+}
+
+fn is_use(step: Step) -> bool
+    ensures { result ≡ is_use_step step }
+{
+    match step {
+        Step::Use(_) => true,
+        Step::Open | Step::Run(_) | Step::Mark | Step::Macros | Step::Space | Step::Close => false,
+    }
+}
+
+/// Puts out the parts of a step that is no use.
+fn put_step<S: Sink>(
+    numbers: &Numbers,
+    node: &NodeText,
+    pieces: &[PieceNumbers],
+    at: Cursor,
+    step: Step,
+    sink: &mut S,
+    so_far: Result<u128, WriteFault>,
+) -> Result<u128, WriteFault>
+    requires ours { pieces.now ≡ node_numbers numbers.now (title_of node.now.name) }
+    requires room { at.step + 1 < 2 ^ 64 }
+    ensures { PutsOutMore (S.stream sink.old) (S.stream sink.new)
+        so_far (text numbers.now (own_parts (title_of node.now.name) node.now.text.items at.piece at.marks at.start step)) result }
+{
+    match step {
+        Step::Open => {
+            let opened = put_opening(section_at(pieces, at.piece), sink, so_far);
+            put_mark(numbers, place_at(pieces, at.piece, 0), sink, opened)
+        }
+        Step::Run(end) => put(sink, so_far, between(&node.text, at.start, end)),
+        Step::Mark => put_mark(
+            numbers,
+            place_at(pieces, at.piece, at.marks + 1),
+            sink,
+            so_far,
+        ),
+        Step::Macros => {
+            let fed = put(sink, so_far, b"\n");
+            put(sink, fed, numbers.macros())
+        }
+        Step::Space => put(sink, so_far, b" "),
+        Step::Use(_) => so_far,
+        Step::Close => put_closing(section_at(pieces, at.piece), sink, so_far),
+    }
+}
+
+/// Where the writing stands behind a step.
+fn passed(at: Cursor, step: Step) -> Cursor
+    requires { at.step + 1 < 2 ^ 64 }
+    ensures step { result.step ≡ at.step + 1 }
+    ensures piece { result.piece ≡ pieces_passed at.piece step }
+    ensures marks { result.marks ≡ marks_passed at.marks step }
+    ensures start { result.start ≡ bytes_passed at.start step }
+{
+    let next = at.step + 1;
+    match step {
+        Step::Open => Cursor {
+            step: next,
+            piece: at.piece,
+            marks: 0,
+            start: at.start,
+        },
+        Step::Run(end) => Cursor {
+            step: next,
+            piece: at.piece,
+            marks: at.marks,
+            start: end,
+        },
+        Step::Mark => Cursor {
+            step: next,
+            piece: at.piece,
+            marks: at.marks + 1,
+            start: at.start,
+        },
+        Step::Macros => Cursor {
+            step: next,
+            piece: at.piece,
+            marks: at.marks,
+            start: at.start,
+        },
+        Step::Space => Cursor {
+            step: next,
+            piece: at.piece,
+            marks: at.marks,
+            start: at.start,
+        },
+        Step::Use(_) => Cursor {
+            step: next,
+            piece: at.piece,
+            marks: at.marks,
+            start: at.start,
+        },
+        Step::Close => Cursor {
+            step: next,
+            piece: at.piece + 1,
+            marks: 0,
+            start: at.start,
+        },
+    }
+}
+
+/// Puts out the parts up to the next use, or to the end: where the writing then stands.
+fn put_to_use<S: Sink>(
+    numbers: &Numbers,
+    node: &NodeText,
+    pieces: &[PieceNumbers],
+    from: Cursor,
+    sink: &mut S,
+    so_far: Result<u128, WriteFault>,
+) -> (Cursor, Result<u128, WriteFault>)
+    requires { pieces.now ≡ node_numbers numbers.now (title_of node.now.name) }
+    ensures puts { PutsOutMore (S.stream sink.old) (S.stream sink.new) so_far
+        (text numbers.now (before_use (title_of node.now.name) node.now.text.items from.piece from.marks from.start (drop from.step node.now.plan.items))) result.1 }
+    ensures rest { behind_use from.piece from.marks from.start (drop from.step node.now.plan.items)
+        ≡ record { piece = result.0.piece; marks = result.0.marks; start = result.0.start; plan = drop result.0.step node.now.plan.items } }
+{
+    let mut at = from;
+    let mut so_far = so_far;
+    while at.step < node.plan.len() {
+        let step = node.plan[at.step];
+        if is_use(step) {
+            return (passed(at, step), so_far);
+        }
+        so_far = put_step(numbers, node, pieces, at, step, sink, so_far);
+        at = passed(at, step);
+    }
+    (at, so_far)
+}
+
+impl Expansion {
+    /// Puts the text of the expansion out after what was put out so far, unless that met a fault: how many bytes went out in all.
+    ///
+    /// # Errors
+    ///
+    /// The fault so far, or `WriteFault(n)` where the sink failed, or took no byte, after `n` bytes in all.
+    pub fn put_text<S: Sink>(
+        &self,
+        numbers: &Numbers,
+        sink: &mut S,
+        so_far: Result<u128, WriteFault>,
+    ) -> Result<u128, WriteFault>
+        ensures { PutsOutMore (S.stream sink.old) (S.stream sink.new)
+            so_far (text numbers.now self.now) result }
+    {
+        let body: &Body = &self.body;
+        let node: &NodeText = &body.node;
+        let pieces = numbers.of_node(&node.name);
+        let mut at = first();
+        let mut so_far = so_far;
+        for used in &body.used {
+            let (next, before) = put_to_use(numbers, node, pieces, at, sink, so_far);
+            let spaced = put(sink, before, b" ");
+            so_far = used.put_text(numbers, sink, spaced);
+            at = next;
+        }
+        let (_, all) = put_to_use(numbers, node, pieces, at, sink, so_far);
+        all
+    }
+}
+
+/// Writes the text of an expansion: how many bytes it has.
+///
+/// # Errors
+///
+/// `WriteFault(n)` where the sink failed, or took no byte, after the first `n` bytes of the text.
+pub fn write_text<S: Sink>(
+    expansion: &Expansion,
+    numbers: &Numbers,
+    sink: &mut S,
+) -> Result<u128, WriteFault>
+    requires { length expansion.now ≤ heaviest }
+    ensures { PutsOut (S.stream sink.old) (S.stream sink.new)
+        (text numbers.now expansion.now) result }
+{
+    numbers.parts_are_short();
+    expansion.put_text(numbers, sink, Ok(0))
+}

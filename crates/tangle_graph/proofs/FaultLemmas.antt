@@ -1,0 +1,182 @@
+-- The first uses of names, the faults of names one by one, and the flags of nodes.
+use Rattle.std.proofs.Common.{◌≡◌, ◌∙◌, ◌<◌, ◌≤◌, ◌+◌, ◌↔◌, ◌&&◌, ℕ, zero, suc, Bool, true, false, cond, not, List, [], ◌∷◌, ◌++◌, length, map, flat_map, drop, drop-cons, get_or, refl, ap, sym, arith, append-nil, append_assoc, add-zero, zero-add}
+use Rattle.std.specs.List.{position_or_len, range_with_len}
+use Rattle.std.proofs.lemmas.List.{get_or-map, length-map}
+use Rattle.std.specs.Prelude.{None, if◌then◌else◌}
+use Rattle.tangle_lines.specs.declared.faults.FaultKind.TheVariants as kind
+use Rattle.tangle_lines.specs.Faults.{Finding, fault_unplaced}
+use Rattle.tangle_lexer.specs.Occurrences.{OccurrenceRead}
+use Rattle.tangle_scan.specs.Web.{PieceRead, WebRead}
+use Rattle.tangle_names.specs.declared.Resolved.{Resolved}
+use Rattle.tangle_names.specs.NameTable.{TableRead}
+use Rattle.tangle_names.specs.Numbers.{NotesNumber, is_number}
+use Rattle.tangle_expansion.specs.ItemSlots.{pieces_at}
+use Rattle.tangle_expansion.specs.Projects.{project, shape_item}
+use Rattle.tangle_expansion.specs.Shapes.{Title, Named, Shape, Project}
+use Rattle.tangle_expansion.specs.Shapes as title
+use Rattle.digraph.specs.Graph.{Graph, HasUse, rows_of, row_at}
+use Rattle.digraph.specs.Flags.{FlagsJust}
+use Rattle.digraph.specs.Reach as graph
+use Rattle.digraph.proofs.GraphLemmas.{rows_size}
+use Rattle.digraph.proofs.TitleLemmas.{contains_alike, cycle_alike}
+use Rattle.tangle_graph.specs.FaultFlags.{first_use_by_number, flag_at}
+use Rattle.tangle_graph.specs.Faults.{is_use, is_defined, is_too_large, ReachesCycle, AreGraphFaults, fault_of, faults_of_names, first_occurrence, graph_faults, large_program, no_program}
+use Rattle.tangle_graph.specs.Groups.{IsGraphOf}
+use Rattle.tangle_graph.specs.Nodes.{title_at, UsesTitle}
+use Rattle.tangle_graph.specs.Outputs.{has_pieces, is_expandable}
+use Rattle.tangle_graph.specs.Stores.{is_filled}
+
+-- one occurrence more in front
+first_at : (q : OccurrenceRead → Bool) (os : List OccurrenceRead) (i : ℕ) (o : OccurrenceRead) → i < length os → o ≡ get_or os i o
+    → i + position_or_len q (drop i os) ≡ cond (q o) i (i + 1 + position_or_len q (drop (i + 1) os))
+first_at q os i o h read =
+    let one_more : suc i ≡ i + 1 = omega arith in
+    ap (λ xs. i + position_or_len q xs) (drop-cons os i o h ∙ (λ j. sym read j ∷ drop (one_more j) os)) ∙ by (q o)
+  where
+    by : (b : Bool) → i + cond (not b) (1 + position_or_len q (drop (i + 1) os)) 0 ≡ cond b i (i + 1 + position_or_len q (drop (i + 1) os))
+    by true = omega arith
+    by false = omega arith
+
+resolved_at : (f : OccurrenceRead → Resolved) (os : List OccurrenceRead) (rs : List Resolved) (i : ℕ) (o : OccurrenceRead) (r d : Resolved) → i < length os → o ≡ get_or os i o
+    → rs ≡ map f os → r ≡ get_or rs i d → r ≡ f o
+resolved_at f os rs i o r d h read all at = at ∙ (ap (λ xs. get_or xs i d) all ∙ (get_or-map f os i o d h ∙ ap f (sym read)))
+
+pub use_step : (f : OccurrenceRead → Resolved) (os : List OccurrenceRead) (rs : List Resolved) (i id : ℕ) (o : OccurrenceRead) (r d : Resolved) (wanted : Bool) (old new : List ℕ)
+    → i < length os → o ≡ get_or os i o → rs ≡ map f os → r ≡ get_or rs i d → wanted ≡ is_use o.role → id < length old
+    → get_or old id 0 ≡ i + 1 + first_use_by_number f (drop (i + 1) os) id → NotesNumber old new wanted i r
+    → get_or new id 0 ≡ i + first_use_by_number f (drop i os) id
+use_step f os rs i id o r d wanted old new h read all at is within sofar notes =
+    let resolved = resolved_at f os rs i o r d h read all at in
+    notes.numbers id within ∙ ((λ j. cond (is j && is_number id (resolved j)) i (sofar j)) ∙ sym (first_at (λ (o : OccurrenceRead). is_use o.role && is_number id (f o)) os i o h read))
+
+-- the faults of one name more
+pub range_more : (g : ℕ → List Finding) (a n : ℕ) → flat_map g (range_with_len a (n + 1)) ≡ flat_map g (range_with_len a n) ++ g (a + n)
+range_more g a zero = append-nil (g a) ∙ ap g (sym (add-zero a))
+range_more g a (suc n) =
+    let place : a + 1 + n ≡ a + suc n = omega arith in
+    let one_more : suc n + 1 ≡ suc (n + 1) = omega arith in
+    ap (λ k. flat_map g (range_with_len a k)) one_more ∙ ap (λ l. g a ++ l) (range_more g (a + 1) n) ∙ sym (append_assoc (g a) (flat_map g (range_with_len (a + 1) n)) (g (a + 1 + n)))
+    ∙ ap (λ k. (g a ++ flat_map g (range_with_len (a + 1) n)) ++ g k) place
+
+pub faults_step : (g : ℕ → List Finding) (n : ℕ) (before now next : List Finding) → now ≡ before ++ flat_map g (range_with_len 0 n) → next ≡ now ++ g n
+    → next ≡ before ++ flat_map g (range_with_len 0 (n + 1))
+faults_step g n before now next sofar is =
+    is ∙ ap (λ l. l ++ g n) sofar ∙ append_assoc before (flat_map g (range_with_len 0 n)) (g n) ∙ ap (λ l. before ++ l) (ap (λ k. flat_map g (range_with_len 0 n) ++ g k) (sym (zero-add n)) ∙ sym (range_more g 0 n))
+
+-- Reaching by titles is reaching by the uses of titles.
+
+reaches_names : (p : Project) (a b : Title) → title.Reaches p a b → graph.Reaches (UsesTitle p) a b
+reaches_names p a b title.here = graph.here
+reaches_names p a b (title.on {name = name} u r) = graph.on {b = Named name} u (reaches_names p (Named name) b r)
+
+reaches_titles : (p : Project) (a b : Title) → graph.Reaches (UsesTitle p) a b → title.Reaches p a b
+reaches_titles p a b graph.here = title.here
+reaches_titles p a b (graph.on {b = title.Program} u r) = absurd u
+reaches_titles p a b (graph.on {b = Named name} u r) = title.on u (reaches_titles p (Named name) b r)
+
+contains_titles : (project : Project) (a : Title) → graph.ContainsItself (UsesTitle project) a ↔ title.ContainsItself project a
+contains_titles project a = (λ c. down c.0 c.1 c.2, λ c. (Named c.0, c.1, reaches_names project (Named c.0) a c.2))
+  where
+    down : (b : Title) → UsesTitle project a b → graph.Reaches (UsesTitle project) b a → title.ContainsItself project a
+    down title.Program u r = absurd u
+    down (Named name) u r = (name, u, reaches_titles project (Named name) a r)
+
+cycle_titles : (project : Project) (a : Title) → graph.ReachesCycle (UsesTitle project) a ↔ ReachesCycle project a
+cycle_titles project a = (
+  λ c. (c.0, reaches_titles project a c.0 c.1, (contains_titles project c.0).0 c.2),
+  λ c. (c.0, reaches_names project a c.0 c.1, (contains_titles project c.0).1 c.2),
+)
+
+-- a node has a piece where there is a number of one
+module _ (web : WebRead) (table : TableRead) (rows uses : Graph) (is : IsGraphOf web table rows uses) where
+  below : (n : ℕ) → n ≤ length table.names → n < length uses
+  below n h = omega (arith, h, is.uses_size)
+
+  row_below : (n : ℕ) → n ≤ length table.names → n < length rows
+  row_below n h = omega (arith, h, is.rows_size)
+
+  has_mapped : (row : List ℕ) → is_filled row ≡ has_pieces (map (λ (p : PieceRead). map (shape_item web.texts table) p.items) (pieces_at web.pieces row))
+  has_mapped [] = refl
+  has_mapped (k ∷ row) = refl
+
+  pub defined_flag : (flags : List Bool) → flags ≡ map is_filled (rows_of rows) → (n : ℕ) → n ≤ length table.names → flag_at flags n ≡ is_defined web table n
+  defined_flag flags made n h =
+      ap (λ l. get_or l n false) made ∙ get_or-map is_filled (rows_of rows) n [] false (let low = row_below n h in omega (arith, low, rows_size rows))
+      ∙ has_mapped (row_at (rows_of rows) n)
+      ∙ ap (λ ps. has_pieces (map (λ (p : PieceRead). map (shape_item web.texts table) p.items) ps)) (is.pieces n (row_below n h))
+
+  pub defined_size : (flags : List Bool) → flags ≡ map is_filled (rows_of rows) → length flags ≡ length table.names + 1
+  defined_size flags made = ap length made ∙ length-map (rows_of rows) is_filled ∙ rows_size rows ∙ is.rows_size
+
+  pub containing_flag : (flags : List Bool) → FlagsJust uses flags (graph.ContainsItself (HasUse uses)) → (n : ℕ) → n ≤ length table.names
+      → (flag_at flags n ≡ true) ↔ title.ContainsItself (project web table) (title_at table.names n)
+  containing_flag flags just n h =
+      let alike = contains_alike uses (UsesTitle (project web table)) (title_at table.names) is.titled n (below n h) in
+      let titles = contains_titles (project web table) (title_at table.names n) in
+      let flag = just n (below n h) in
+      (λ e. titles.0 (alike.0 (flag.0 e)), λ c. flag.1 (alike.1 (titles.1 c)))
+
+  pub reaching_flag : (flags : List Bool) → FlagsJust uses flags (graph.ReachesCycle (HasUse uses)) → (n : ℕ) → n ≤ length table.names
+      → (flag_at flags n ≡ true) ↔ ReachesCycle (project web table) (title_at table.names n)
+  reaching_flag flags just n h =
+      let alike = cycle_alike uses (UsesTitle (project web table)) (title_at table.names) is.titled n (below n h) in
+      let titles = cycle_titles (project web table) (title_at table.names n) in
+      let flag = just n (below n h) in
+      (λ e. titles.0 (alike.0 (flag.0 e)), λ c. flag.1 (alike.1 (titles.1 c)))
+
+-- lists that grow one after the other
+pub joined : {X : Type 0} (now a b c d e f g : List X) (l0 l1 l2 l3 l4 l5 l6 : List X) → l0 ≡ [] → l1 ≡ l0 ++ a → l2 ≡ l1 ++ b → l3 ≡ l2 ++ c → l4 ≡ l3 ++ d → l5 ≡ l4 ++ e
+    → l6 ≡ l5 ++ f → now ≡ l6 ++ g → now ≡ a ++ (b ++ (c ++ (d ++ (e ++ (f ++ g)))))
+joined now a b c d e f g l0 l1 l2 l3 l4 l5 l6 h0 h1 h2 h3 h4 h5 h6 h7 =
+    h7 ∙ next l5 l6 f g h6 ∙ next l4 l5 e (f ++ g) h5 ∙ next l3 l4 d (e ++ (f ++ g)) h4 ∙ next l2 l3 c (d ++ (e ++ (f ++ g))) h3
+    ∙ next l1 l2 b (c ++ (d ++ (e ++ (f ++ g)))) h2 ∙ next l0 l1 a (b ++ (c ++ (d ++ (e ++ (f ++ g))))) h1
+    ∙ ap (λ l. l ++ (a ++ (b ++ (c ++ (d ++ (e ++ (f ++ g))))))) h0
+  where
+    next : {X : Type 0} (before now x y : List X) → now ≡ before ++ x → now ++ y ≡ before ++ (x ++ y)
+    next before now x y h = ap (λ l. l ++ y) h ∙ append_assoc before x y
+
+pub unless : {X : Type 0} (b : Bool) (xs : List X) → cond (not b) xs [] ≡ cond b [] xs
+unless true xs = refl
+unless false xs = refl
+
+-- The faults of a graph are one list.
+
+same_flag : {P : Type 0} (a b : Bool) → ((a ≡ true) ↔ P) → ((b ≡ true) ↔ P) → a ≡ b
+same_flag true true p q = refl
+same_flag true false p q = sym (q.1 (p.0 refl))
+same_flag false true p q = p.1 (q.0 refl)
+same_flag false false p q = refl
+
+same_in_range : (f g : ℕ → List Finding) (a n : ℕ) → ((k : ℕ) → a ≤ k → k < a + n → f k ≡ g k) → flat_map f (range_with_len a n) ≡ flat_map g (range_with_len a n)
+same_in_range f g a zero same = refl
+same_in_range f g a (suc n) same =
+    let first : f a ≡ g a = same a (omega arith) (omega arith) in
+    let rest = same_in_range f g (a + 1) n (λ k low high. same k (omega (arith, low)) (omega (arith, high))) in
+    λ i. first i ++ rest i
+
+module _ (web : WebRead) (table : TableRead) (out : List ℕ) (c d r s : ℕ → Bool)
+    (containing : (n : ℕ) → n ≤ length table.names → c n ≡ d n) (reaching : (n : ℕ) → n ≤ length table.names → r n ≡ s n) where
+  same_large : (n : ℕ) → n ≤ length table.names → is_too_large web table r n ≡ is_too_large web table s n
+  same_large n h = ap (λ b. is_defined web table n && (not b && not (is_expandable (project web table) (title_at table.names n)))) (reaching n h)
+
+  same_containing : faults_of_names web table out c r kind.SelfContaining ≡ faults_of_names web table out d s kind.SelfContaining
+  same_containing = same_in_range _ _ 0 (length table.names) (λ k low high.
+      ap (λ b. fault_of web table kind.SelfContaining k (if b then first_occurrence web table k else None)) (containing k (omega (arith, high))))
+
+  same_too_large : faults_of_names web table out c r kind.TooLarge ≡ faults_of_names web table out d s kind.TooLarge
+  same_too_large = same_in_range _ _ 0 (length table.names) (λ k low high.
+      ap (λ b. fault_of web table kind.TooLarge k (if b then first_occurrence web table k else None)) (same_large k (omega (arith, high))))
+
+  same_program : large_program web table out c r ≡ large_program web table out d s
+  same_program = ap (λ b. if b then fault_unplaced kind.TooLarge ∷ [] else []) (same_large (length table.names) (omega arith))
+
+  same_faults : graph_faults web table out c r ≡ graph_faults web table out d s
+  same_faults = λ i. faults_of_names web table out c r kind.Undefined ++ (faults_of_names web table out c r kind.Unused ++ (same_containing i
+      ++ (same_too_large i ++ (same_program i ++ (faults_of_names web table out c r kind.FileClash ++ no_program web table out c r)))))
+
+pub one_list : (web : WebRead) (table : TableRead) (out : List ℕ) (a b : List Finding) → AreGraphFaults web table out a → AreGraphFaults web table out b → a ≡ b
+one_list web table out a b x y =
+    x.list ∙ same_faults web table out x.contains_itself y.contains_itself x.reaches_cycle y.reaches_cycle
+    (λ n h. same_flag (x.contains_itself n) (y.contains_itself n) (x.self_containing n h) (y.self_containing n h))
+    (λ n h. same_flag (x.reaches_cycle n) (y.reaches_cycle n) (x.cyclic n h) (y.cyclic n h))
+    ∙ sym y.list

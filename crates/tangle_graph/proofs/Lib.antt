@@ -1,0 +1,16 @@
+mod NodeLemmas
+mod GroupLemmas
+mod RowLemmas
+mod MeasureLemmas
+mod OrderLemmas
+mod StepLemmas
+mod FirstLemmas
+mod GraphLemmas
+mod StoreLemmas
+mod LimitLemmas
+mod PlanLemmas
+mod PushLemmas
+mod ExpandLemmas
+mod StoreIs
+mod OrderingLemmas
+mod FaultLemmas

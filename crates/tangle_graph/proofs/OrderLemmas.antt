@@ -1,0 +1,107 @@
+-- What is found of each node along an order in which a node comes after those that it uses.
+use Rattle.std.proofs.Common.{◌≡◌, ◌≢◌, ◌∙◌, ◌<◌, ◌≤◌, ◌+◌, ◌⊎◌, ℕ, zero, suc, List, [], ◌∷◌, ◌++◌, length, take, get_or, set, sym, subst, inl, inr, arith, length-set, get_or-set_same, get_or-set_other}
+use Rattle.std.specs.Prelude.{Contains}
+use Rattle.std.proofs.Math.Decide.{ℕ_discrete}
+use Rattle.std.proofs.lemmas.List.{take_more, take_all}
+use Rattle.std.proofs.lemmas.List.Elements.{Contains-push_cases, Contains-append_left, Contains-append_right}
+use Rattle.digraph.specs.Graph.{Graph, InRange}
+use Rattle.digraph.specs.Order.{IsAfterUses, IsOrder}
+use Rattle.digraph.specs.Titles.{IsTitled}
+use Rattle.digraph.proofs.GraphLemmas.{use_in}
+use Rattle.tangle_expansion.specs.Shapes.{Title, Program, Named, Project}
+use Rattle.tangle_expansion.specs.Flat.{weight, depth}
+use Rattle.tangle_graph.specs.Nodes.{UsesTitle}
+use Rattle.tangle_graph.specs.Measures.{AreMeasured}
+use Rattle.tangle_graph.proofs.MeasureLemmas.{pieces_depth-use, pieces_weight-use}
+
+-- a number is in a list, or it isn't
+pub among : (xs : List ℕ) (n : ℕ) → Contains xs n ⊎ ((c : Contains xs n) → ⊥)
+among [] n = inr (λ c. absurd (omega (arith, c.1)))
+among (x ∷ xs) n = elim (ℕ_discrete x n) [
+  | yes same ↦ inl (0, omega arith, same)
+  | no other ↦ later (among xs n) other
+]
+  where
+    later : Contains xs n ⊎ ((c : Contains xs n) → ⊥) → x ≢ n → Contains (x ∷ xs) n ⊎ ((c : Contains (x ∷ xs) n) → ⊥)
+    later (inl c) apart = inl (Contains-append_right (x ∷ []) xs n c)
+    later (inr none) apart = inr (λ c. elim (cases c) [
+      | inl here ↦ absurd (apart here)
+      | inr there ↦ none there
+    ])
+      where
+        cases : Contains (x ∷ xs) n → (x ≡ n) ⊎ Contains xs n
+        cases (zero, h, e) = inl e
+        cases (suc k, h, e) = inr (k, omega (arith, h), e)
+
+pub measured_none : (value : ℕ → ℕ) (other : ℕ) (values order : List ℕ) → ((n : ℕ) → n < length values → get_or values n 0 ≡ other) → AreMeasured value other values (take 0 order)
+measured_none value other values order all = record {
+  listed = λ n c. absurd (omega (arith, c.1));
+  unlisted = λ n h none. all n h;
+}
+
+pub measured_next : (graph : Graph) (value : ℕ → ℕ) (other : ℕ) (values order : List ℕ) (i v : ℕ) → IsAfterUses graph order → i < length order → length values ≡ length graph
+    → AreMeasured value other values (take i order) → v ≡ value (get_or order i 0)
+    → AreMeasured value other (set values (get_or order i 0) v) (take (i + 1) order)
+measured_next graph value other values order i v placed h size sofar e = record { listed = here; unlisted = left }
+  where
+    more : take (i + 1) order ≡ take i order ++ get_or order i 0 ∷ []
+    more = take_more order i 0 h
+
+    at : get_or order i 0 < length values
+    at = omega (arith, size, placed.nodes i h)
+
+    is : get_or (set values (get_or order i 0) v) (get_or order i 0) 0 ≡ value (get_or order i 0)
+    is = get_or-set_same values (get_or order i 0) v 0 at ∙ e
+
+    here : (n : ℕ) → Contains (take (i + 1) order) n → get_or (set values (get_or order i 0) v) n 0 ≡ value n
+    here n c = elim (ℕ_discrete n (get_or order i 0)) [
+      | yes same ↦ subst (λ k. get_or (set values (get_or order i 0) v) k 0 ≡ value k) (sym same) is
+      | no apart ↦ get_or-set_other values (get_or order i 0) n v 0 apart ∙ elim (Contains-push_cases (take i order) (get_or order i 0) n (subst (λ l. Contains l n) more c)) [
+        | inl before ↦ sofar.listed n before
+        | inr last ↦ absurd (apart (sym last))
+      ]
+    ]
+
+    left : (n : ℕ) → n < length (set values (get_or order i 0) v) → ((c : Contains (take (i + 1) order) n) → ⊥) → get_or (set values (get_or order i 0) v) n 0 ≡ other
+    left n low none = elim (ℕ_discrete n (get_or order i 0)) [
+      | yes same ↦ absurd (none (subst (λ l. Contains l n) (sym more) (Contains-append_right (take i order) (get_or order i 0 ∷ []) n (0, omega arith, sym same))))
+      | no apart ↦ get_or-set_other values (get_or order i 0) n v 0 apart
+          ∙ sofar.unlisted n (omega (arith, low, length-set values (get_or order i 0) v)) (λ c. none (subst (λ l. Contains l n) (sym more) (Contains-append_left (take i order) (get_or order i 0 ∷ []) n c)))
+    ]
+
+-- at the end of the order all are found
+pub measured_all : (value : ℕ → ℕ) (other : ℕ) (values order : List ℕ) (i n : ℕ) → length order ≤ i → AreMeasured value other values (take i order)
+    → n < length values → (((c : Contains order n) → ⊥) → value n ≡ other) → get_or values n 0 ≡ value n
+measured_all value other values order i n h sofar low rest =
+    let all : take i order ≡ order = take_all i order h in
+    elim (among order n) [
+      | inl c ↦ sofar.listed n (subst (λ l. Contains l n) (sym all) c)
+      | inr none ↦ sofar.unlisted n low (λ c. none (subst (λ l. Contains l n) all c)) ∙ sym (rest none)
+    ]
+
+-- A use is one level more, and one more in weight.
+
+deeper : (steps : ℕ) (project : Project) (a b : Title) → UsesTitle project a b → steps ≤ depth steps project b → suc steps ≤ depth (suc steps) project a
+deeper steps project a Program u h = absurd u
+deeper steps project a (Named name) u h = omega (arith, h, pieces_depth-use (λ other. depth steps project (Named other)) (project a) name u)
+
+heavier : (steps : ℕ) (project : Project) (a b : Title) → UsesTitle project a b → steps ≤ weight steps project b → suc steps ≤ weight (suc steps) project a
+heavier steps project a Program u h = absurd u
+heavier steps project a (Named name) u h = omega (arith, h, pieces_weight-use (λ other. weight steps project (Named other)) (project a) name u)
+
+-- what is left out of an order is deeper, and heavier, than any number
+pub left_out_deepest : (graph : Graph) (project : Project) (title : ℕ → Title) (order : List ℕ) (steps n : ℕ) → IsTitled graph (UsesTitle project) title → InRange graph → IsOrder graph order
+    → n < length graph → ((c : Contains order n) → ⊥) → steps ≤ depth steps project (title n)
+left_out_deepest graph project title order zero n titled range is low out = omega arith
+left_out_deepest graph project title order (suc steps) n titled range is low out =
+    let next = is.rest n low out in
+    deeper steps project (title n) (title next.0) (titled.sound n next.0 next.1)
+    (left_out_deepest graph project title order steps next.0 titled range is (use_in graph range n next.0 next.1) next.2)
+
+pub left_out_heaviest : (graph : Graph) (project : Project) (title : ℕ → Title) (order : List ℕ) (steps n : ℕ) → IsTitled graph (UsesTitle project) title → InRange graph → IsOrder graph order
+    → n < length graph → ((c : Contains order n) → ⊥) → steps ≤ weight steps project (title n)
+left_out_heaviest graph project title order zero n titled range is low out = omega arith
+left_out_heaviest graph project title order (suc steps) n titled range is low out =
+    let next = is.rest n low out in
+    heavier steps project (title n) (title next.0) (titled.sound n next.0 next.1)
+    (left_out_heaviest graph project title order steps next.0 titled range is (use_in graph range n next.0 next.1) next.2)

@@ -1,0 +1,66 @@
+-- One row more, with its flag or its plan.
+use Rattle.std.proofs.Common.{◌≡◌, ◌∙◌, ◌<◌, ◌+◌, ℕ, Bool, false, List, [], ◌∷◌, ◌++◌, length, length-append, filter, take, get_or, ap, sym, subst, arith, Vec}
+use Rattle.std.specs.Global.{Global}
+use Rattle.std.specs.declared.rc.Rc.{Rc}
+use Rattle.std.proofs.Math.Decide.{dec_lt}
+use Rattle.std.proofs.lemmas.List.{take_more, map-append, get_or_append_left, get_or_push, length-take-le, length-map}
+use Rattle.tangle_scan.specs.Web.{WebRead}
+use Rattle.tangle_names.specs.NameTable.{TableRead}
+use Rattle.tangle_expansion.specs.ItemCodes.{pieces_names}
+use Rattle.tangle_expansion.specs.ItemSlots.{pieces_at, pieces_slots}
+use Rattle.tangle_expansion.specs.NodeTexts.{plan_slots, plan_uses}
+use Rattle.tangle_expansion.specs.Slots.{Slot}
+use Rattle.tangle_expansion.specs.declared.expansion.NodeText.{NodeText}
+use Rattle.digraph.specs.Graph.{Graph, rows_of}
+use Rattle.tangle_graph.specs.Nodes.{title_at}
+use Rattle.tangle_graph.specs.Plans.{AreFilled, ArePlans, slots_of, uses_of_plans}
+use Rattle.tangle_graph.specs.Stores.{is_filled}
+
+-- what is so at each place of two lists is so with one more
+pushed : {X Y : Type 0} (f : ℕ → X → Y) (xs : List X) (ys : List Y) (x : X) (y : Y) (d : X) (e : Y) → length ys ≡ length xs
+    → ((n : ℕ) → n < length xs → get_or ys n e ≡ f n (get_or xs n d)) → y ≡ f (length xs) x
+    → (n : ℕ) → n < length (xs ++ x ∷ []) → get_or (ys ++ y ∷ []) n e ≡ f n (get_or (xs ++ x ∷ []) n d)
+pushed f xs ys x y d e size all is n h = elim (dec_lt n (length xs)) [
+  | yes low ↦ get_or_append_left ys (y ∷ []) e n (omega (arith, low, size)) ∙ all n low ∙ ap (f n) (sym (get_or_append_left xs (x ∷ []) d n low))
+  | no past ↦ (let end : length xs ≡ n = omega (arith, past, h, length-append xs (x ∷ [])) in
+      get_or_push ys y e n (size ∙ end) ∙ is ∙ ap (λ k. f k x) end ∙ ap (f n) (sym (get_or_push xs x d n end)))
+]
+
+pub row_taken : (rows : Graph) (i : ℕ) (row : Vec ℕ Global) → i < length rows → row ≡ get_or rows i row → rows_of (take (i + 1) rows) ≡ rows_of (take i rows) ++ row.items ∷ []
+row_taken rows i row h read =
+    ap rows_of (take_more rows i row h) ∙ map-append (λ (v : Vec ℕ Global). v.items) (take i rows) (get_or rows i row ∷ [])
+    ∙ ap (λ (v : Vec ℕ Global). rows_of (take i rows) ++ v.items ∷ []) (sym read)
+
+filled_push : (xs : List (List ℕ)) (flags : List Bool) (r : List ℕ) (b : Bool) → AreFilled xs flags → b ≡ is_filled r → AreFilled (xs ++ r ∷ []) (flags ++ b ∷ [])
+filled_push xs flags r b is e = record {
+  size = omega (arith, is.size, length-append xs (r ∷ []), length-append flags (b ∷ []));
+  flag = pushed (λ n x. is_filled x) xs flags r b [] false is.size is.flag e;
+}
+
+pub filled_more : (rows : Graph) (flags : List Bool) (i : ℕ) (row : Vec ℕ Global) (b : Bool) → i < length rows → row ≡ get_or rows i row → AreFilled (rows_of (take i rows)) flags
+    → b ≡ is_filled row.items → AreFilled (rows_of (take (i + 1) rows)) (flags ++ b ∷ [])
+filled_more rows flags i row b h read is e = subst (λ xs. AreFilled xs (flags ++ b ∷ [])) (sym (row_taken rows i row h read)) (filled_push (rows_of (take i rows)) flags row.items b is e)
+
+module _ (web : WebRead) (table : TableRead) (has : ℕ → Bool) where
+  plans_push : (xs : List (List ℕ)) (slots : List (List Slot)) (uses : List (List ℕ)) (r : List ℕ) (s : List Slot) (u : List ℕ) → ArePlans web table has xs slots uses
+      → s ≡ pieces_slots web.texts table has (title_at table.names (length xs)) 0 (pieces_at web.pieces r) → u ≡ filter has (pieces_names table (pieces_at web.pieces r))
+      → ArePlans web table has (xs ++ r ∷ []) (slots ++ s ∷ []) (uses ++ u ∷ [])
+  plans_push xs slots uses r s u is es eu = record {
+    slots_size = omega (arith, is.slots_size, length-append xs (r ∷ []), length-append slots (s ∷ []));
+    uses_size = omega (arith, is.uses_size, length-append xs (r ∷ []), length-append uses (u ∷ []));
+    slots_right = pushed (λ n x. pieces_slots web.texts table has (title_at table.names n) 0 (pieces_at web.pieces x)) xs slots r s [] [] is.slots_size is.slots_right es;
+    uses_right = pushed (λ n x. filter has (pieces_names table (pieces_at web.pieces x))) xs uses r u [] [] is.uses_size is.uses_right eu;
+  }
+
+  pub plans_more : (rows : Graph) (texts : List (Rc NodeText Global)) (i : ℕ) (row : Vec ℕ Global) (text : Rc NodeText Global) → i < length rows → row ≡ get_or rows i row
+      → ArePlans web table has (rows_of (take i rows)) (slots_of texts) (uses_of_plans texts)
+      → plan_slots text.value ≡ pieces_slots web.texts table has (title_at table.names i) 0 (pieces_at web.pieces row.items)
+      → plan_uses text.value ≡ filter has (pieces_names table (pieces_at web.pieces row.items))
+      → ArePlans web table has (rows_of (take (i + 1) rows)) (slots_of (texts ++ text ∷ [])) (uses_of_plans (texts ++ text ∷ []))
+  plans_more rows texts i row text h read is es eu =
+      let count : length (rows_of (take i rows)) ≡ i = length-map (take i rows) (λ (v : Vec ℕ Global). v.items) ∙ length-take-le i rows (omega (arith, h)) in
+      let pushed_all = plans_push (rows_of (take i rows)) (slots_of texts) (uses_of_plans texts) row.items (plan_slots text.value) (plan_uses text.value) is
+      (es ∙ ap (λ n. pieces_slots web.texts table has (title_at table.names n) 0 (pieces_at web.pieces row.items)) (sym count)) eu in
+      subst (λ xs. ArePlans web table has xs (slots_of (texts ++ text ∷ [])) (uses_of_plans (texts ++ text ∷ []))) (sym (row_taken rows i row h read))
+      (subst (λ ss. ArePlans web table has (rows_of (take i rows) ++ row.items ∷ []) ss (uses_of_plans (texts ++ text ∷ []))) (sym (map-append (λ (t : Rc NodeText Global). plan_slots t.value) texts (text ∷ [])))
+      (subst (λ us. ArePlans web table has (rows_of (take i rows) ++ row.items ∷ []) (slots_of texts ++ plan_slots text.value ∷ []) us) (sym (map-append (λ (t : Rc NodeText Global). plan_uses t.value) texts (text ∷ []))) pushed_all))

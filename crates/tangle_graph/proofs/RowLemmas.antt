@@ -1,0 +1,91 @@
+-- Rows that grow by the pieces of a web, one after another.
+use Rattle.std.proofs.Common.{◌≡◌, ◌∙◌, ◌<◌, ◌≤◌, ◌+◌, length-append, ℕ, zero, suc, Bool, true, false, cond, List, [], ◌∷◌, ◌++◌, length, map, take, filter, flat_map, get_or, refl, ap, sym, arith, append_assoc, append-nil, add-zero, Vec}
+use Rattle.std.specs.Global.{Global}
+use Rattle.std.proofs.lemmas.List.{map-append, get_or_append_left, get_or_push}
+use Rattle.std.specs.Prelude.{All, if◌then◌else◌}
+use Rattle.std.proofs.lemmas.List.Elements.{filter_more, All-append, All-cons, All-nil}
+use Rattle.std.proofs.lemmas.Grind.{flat_map-append}
+use Rattle.std.proofs.Math.Decide.{dec_lt}
+use Rattle.digraph.specs.Graph.{rows_of}
+use Rattle.digraph.specs.Rows.{IsRowsOf, GrowsBy}
+use Rattle.digraph.specs.Users.{places}
+
+pub places_more : {X : Type 0} (p : X → Bool) (k : ℕ) (xs : List X) (i : ℕ) (d : X) → i < length xs
+    → places p k (take (i + 1) xs) ≡ places p k (take i xs) ++ cond (p (get_or xs i d)) ((k + i) ∷ []) []
+places_more p k [] i d h = absurd (omega (arith, h))
+places_more p k (x ∷ xs) zero d h = append-nil (cond (p x) (k ∷ []) []) ∙ ap (λ j. cond (p x) (j ∷ []) []) (sym (add-zero k))
+places_more p k (x ∷ xs) (suc i) d h =
+    let one_more : suc i + 1 ≡ suc (i + 1) = omega arith in
+    let place : k + 1 + i ≡ k + suc i = omega arith in
+    let low : i < length xs = omega (arith, h) in
+    ap (λ n. places p k (take n (x ∷ xs))) one_more
+    ∙ (ap (λ r. cond (p x) (k ∷ []) [] ++ r) (places_more p (k + 1) xs i d low ∙ ap (λ n. places p (k + 1) (take i xs) ++ cond (p (get_or xs i d)) (n ∷ []) []) place)
+    ∙ sym (append_assoc (cond (p x) (k ∷ []) []) (places p (k + 1) (take i xs)) (cond (p (get_or xs i d)) ((k + suc i) ∷ []) [])))
+
+pub used_more : {X : Type 0} (p : X → Bool) (f : X → List ℕ) (xs : List X) (i : ℕ) (d : X) → i < length xs
+    → flat_map f (filter p (take (i + 1) xs)) ≡ flat_map f (filter p (take i xs)) ++ cond (p (get_or xs i d)) (f (get_or xs i d)) []
+used_more p f xs i d h =
+    ap (flat_map f) (filter_more p xs i d h) ∙ (flat_map-append f (filter p (take i xs)) (cond (p (get_or xs i d)) (get_or xs i d ∷ []) [])
+    ∙ ap (λ r. flat_map f (filter p (take i xs)) ++ r) (by (p (get_or xs i d))))
+  where
+    by : (b : Bool) → flat_map f (cond b (get_or xs i d ∷ []) []) ≡ cond b (f (get_or xs i d)) []
+    by true = append-nil (f (get_or xs i d))
+    by false = refl
+
+pub rows_by : (count : ℕ) (f g h : ℕ → List ℕ) (old new : List (List ℕ)) → IsRowsOf count f old → GrowsBy g old new → ((n : ℕ) → h n ≡ f n ++ g n) → IsRowsOf count h new
+rows_by count f g h old new is more sum = record {
+  size = more.size ∙ is.size;
+  row = λ n l. let inside : n < length old = omega (arith, is.size) in more.row n inside ∙ (ap (λ r. r ++ g n) (is.row n l) ∙ sym (sum n));
+}
+
+-- one empty row more
+pub row_more : (rows : List (Vec ℕ Global)) (count : ℕ) (row : Vec ℕ Global) → IsRowsOf count (λ _. []) (rows_of rows) → row.items ≡ [] → IsRowsOf (count + 1) (λ _. []) (rows_of (rows ++ row ∷ []))
+row_more rows count row is none = record {
+  size = ap length (map-append (λ (v : Vec ℕ Global). v.items) rows (row ∷ [])) ∙ (let n = is.size in more (rows_of rows) row.items count n);
+  row = λ n h. ap (λ l. get_or l n []) (map-append (λ (v : Vec ℕ Global). v.items) rows (row ∷ [])) ∙ at n h;
+}
+  where
+    more : (xs : List (List ℕ)) (x : List ℕ) (n : ℕ) → length xs ≡ n → length (xs ++ x ∷ []) ≡ n + 1
+    more [] x n e = ap (λ m. m + 1) e
+    more (y ∷ xs) x n e = omega (arith, more xs x (length xs) refl, e)
+
+    at : (n : ℕ) → n < count + 1 → get_or (rows_of rows ++ row.items ∷ []) n [] ≡ []
+    at n h = elim (dec_lt n (length (rows_of rows))) [
+      | yes low ↦ get_or_append_left (rows_of rows) (row.items ∷ []) [] n low ∙ is.row n (omega (arith, low, is.size))
+      | no past ↦ get_or_push (rows_of rows) row.items [] n (omega (arith, past, h, is.size)) ∙ none
+    ]
+
+-- places are those of elements
+pub places_below : {X : Type 0} (p : X → Bool) (k bound : ℕ) (xs : List X) → k + length xs ≤ bound → All (λ j. j < bound) (places p k xs)
+places_below p k bound [] h = All-nil (λ j. j < bound)
+places_below p k bound (x ∷ xs) h =
+    All-append (λ j. j < bound) (cond (p x) (k ∷ []) []) (places p (k + 1) xs) (here (p x)) (places_below p (k + 1) bound xs (omega (arith, h)))
+  where
+    here : (b : Bool) → All (λ j. j < bound) (cond b (k ∷ []) [])
+    here true = All-cons (λ j. j < bound) k [] (omega (arith, h)) (All-nil (λ j. j < bound))
+    here false = All-nil (λ j. j < bound)
+
+at_seam : {X : Type 0} (ys : List X) (x : X) (xs : List X) (d : X) → get_or (ys ++ x ∷ xs) (length ys) d ≡ x
+at_seam [] x xs d = refl
+at_seam (y ∷ ys) x xs d = at_seam ys x xs d
+
+-- what stands at the places of the elements that pass are these elements
+pub places_read : {X : Type 0} (p : X → Bool) (before xs : List X) (d : X) → map (λ n. get_or (before ++ xs) n d) (places p (length before) xs) ≡ filter p xs
+places_read p before [] d = refl
+places_read p before (x ∷ xs) d =
+    map-append (λ n. get_or (before ++ x ∷ xs) n d) (cond (p x) (length before ∷ []) []) (places p (length before + 1) xs)
+    ∙ ap (λ l. map (λ n. get_or (before ++ x ∷ xs) n d) (cond (p x) (length before ∷ []) []) ++ l)
+    (ap (λ k. map (λ n. get_or (before ++ x ∷ xs) n d) (places p k xs)) (sym size)
+    ∙ ap (λ whole. map (λ n. get_or whole n d) (places p (length (before ++ x ∷ [])) xs)) (sym (append_assoc before (x ∷ []) xs))
+    ∙ places_read p (before ++ x ∷ []) xs d)
+    ∙ by (p x)
+  where
+    size : length (before ++ x ∷ []) ≡ length before + 1
+    size = length-append before (x ∷ [])
+
+    at : get_or (before ++ x ∷ xs) (length before) d ≡ x
+    at = at_seam before x xs d
+
+    by : (b : Bool) → map (λ n. get_or (before ++ x ∷ xs) n d) (cond b (length before ∷ []) []) ++ filter p xs ≡ (if b then x ∷ filter p xs else filter p xs)
+    by true = ap (λ y. y ∷ filter p xs) at
+    by false = refl

@@ -1,0 +1,157 @@
+-- What a store holds by number is what it says of nodes.
+use Rattle.std.proofs.Common.{◌≡◌, ◌≢◌, ◌∙◌, ◌<◌, ◌≤◌, ◌+◌, ◌↔◌, ◌&&◌, ℕ, zero, suc, min, Bool, true, false, List, [], ◌∷◌, length, map, filter, get_or, refl, ap, sym, arith}
+use Rattle.std.specs.Prelude.{Option, Some, None, Contains, nat_lt, nat_le}
+use Rattle.std.proofs.Math.Decide.{dec_lt}
+use Rattle.std.proofs.lemmas.Bool.Decides.{nat_tests}
+use Rattle.std.proofs.lemmas.Slice.Eq.{bytes_eq-Decides}
+use Rattle.std.proofs.lemmas.List.{get_or-map, length-map}
+use Rattle.tangle_expansion.specs.Shapes.{Title, Named, Shape, Project, Uses}
+use Rattle.tangle_expansion.specs.Shapes as title
+use Rattle.tangle_expansion.specs.Flat.{weight, depth}
+use Rattle.tangle_expansion.specs.Limits.{levels, heaviest, weight_cap, weight_of, depth_of, IsExpandableNode}
+use Rattle.tangle_expansion.specs.declared.nodes.Node.TheVariants.{Program, Name}
+use Rattle.tangle_scan.specs.Web.{PieceRead}
+use Rattle.tangle_names.specs.declared.Resolved.{Resolved}
+use Rattle.tangle_names.specs.declared.Resolved.TheVariants as resolved
+use Rattle.tangle_names.specs.NameTable.{TableRead}
+use Rattle.tangle_expansion.specs.Projects.{resolved_at, node_of, node_of_name, is_node, is_piece_of, IsNameBelow, ResolvesInside, project}
+use Rattle.digraph.specs.Reach as graph
+use Rattle.tangle_graph.specs.Nodes.{node_at, UsesTitle}
+use Rattle.tangle_graph.specs.Outputs.{has_pieces, is_expandable}
+use Rattle.tangle_graph.specs.Stores.{is_filled}
+use Rattle.tangle_graph.proofs.MeasureLemmas.{weight-settles}
+use Rattle.tangle_graph.proofs.NodeLemmas.{node_below, node_past}
+
+-- nodes of two numbers are two
+pub same_number : (names : List (List ℕ)) (m n : ℕ) → m ≤ length names → n ≤ length names → node_at (length names) m ≡ node_at (length names) n → m ≡ n
+same_number names m n high low e = elim (dec_lt m (length names)) [
+  | yes lm ↦ elim (dec_lt n (length names)) [
+    | yes ln ↦ (let both : Name m ≡ Name n = sym (node_below (length names) m lm) ∙ e ∙ node_below (length names) n ln in cc)
+    | no pn ↦ absurd (let both : Name m ≡ Program = sym (node_below (length names) m lm) ∙ e ∙ node_past (length names) n (omega (arith, pn)) in cc)
+  ]
+  | no pm ↦ elim (dec_lt n (length names)) [
+    | yes ln ↦ absurd (let both : Name n ≡ Program = sym (node_below (length names) n ln) ∙ sym e ∙ node_past (length names) m (omega (arith, pm)) in cc)
+    | no pn ↦ omega (arith, pm, pn, high, low)
+  ]
+]
+
+pub contains_mapped : {X Y : Type 0} (f : X → Y) (xs : List X) (x : X) → Contains xs x → Contains (map f xs) (f x)
+contains_mapped f xs x c = (c.0, (let h = c.1 in omega (arith, h, length-map xs f)), get_or-map f xs c.0 x (f x) c.1 ∙ ap f c.2)
+
+pub mapped_contains : {X Y : Type 0} (f : X → Y) (xs : List X) (y : Y) → Contains (map f xs) y → (x : X) × Contains xs x × (f x ≡ y)
+mapped_contains f [] y c = absurd (omega (arith, c.1))
+mapped_contains f (x ∷ xs) y (zero, h, e) = (x, (0, omega arith, refl), e)
+mapped_contains f (x ∷ xs) y (suc k, h, e) =
+    let rest = mapped_contains f xs y (k, omega (arith, h), e) in
+    (rest.0, (suc rest.1.0, omega (arith, rest.1.1), rest.1.2), rest.2)
+
+-- Reaching by titles is reaching by the uses of titles.
+
+reaches_names : (project : Project) (a b : Title) → title.Reaches project a b → graph.Reaches (UsesTitle project) a b
+reaches_names project a b title.here = graph.here
+reaches_names project a b (title.on {name = name} u r) = graph.on {b = Named name} u (reaches_names project (Named name) b r)
+
+reaches_titles : (project : Project) (a b : Title) → graph.Reaches (UsesTitle project) a b → title.Reaches project a b
+reaches_titles project a b graph.here = title.here
+reaches_titles project a b (graph.on {b = title.Program} u r) = absurd u
+reaches_titles project a b (graph.on {b = Named name} u r) = title.on u (reaches_titles project (Named name) b r)
+
+pub contains_by_titles : (project : Project) (a : Title) → graph.ContainsItself (UsesTitle project) a ↔ title.ContainsItself project a
+contains_by_titles project a = (
+  λ c. down c.0 c.1 c.2,
+  λ c. (Named c.0, c.1, reaches_names project (Named c.0) a c.2),
+)
+  where
+    down : (b : Title) → UsesTitle project a b → graph.Reaches (UsesTitle project) b a → title.ContainsItself project a
+    down title.Program u r = absurd u
+    down (Named name) u r = (name, u, reaches_titles project (Named name) a r)
+
+-- Expandable, by the capped weight and depth.
+
+weight_same : (project : Project) (node : Title) → depth levels project node < levels → weight weight_cap project node ≡ weight levels project node
+unfolding levels weight_cap
+weight_same project node h = weight-settles 1001 16776216 project node h
+
+one_more : weight_cap ≡ heaviest + 1
+unfolding weight_cap heaviest
+one_more = refl
+
+light_of : (cap most w v : ℕ) → cap ≡ most + 1 → v ≡ w → min cap v ≤ most → w ≤ most
+light_of cap most w v e same h = omega (arith, e, same, h)
+
+-- a shape is empty where there is no number of a piece
+pub filled_row : (row : List ℕ) (s : Shape) → length s ≡ length row → (is_filled row ≡ true) ↔ (s ≢ [])
+filled_row [] [] e = (λ t. absurd (let no : false ≡ true = t in cc), λ h. absurd (h refl))
+filled_row [] (x ∷ s) e = absurd (omega (arith, e))
+filled_row (k ∷ row) [] e = absurd (omega (arith, e))
+filled_row (k ∷ row) (x ∷ s) e = (λ t none. (let no : x ∷ s ≡ [] = none in cc), λ h. refl)
+
+both_true : (a b : Bool) → (a && b) ≡ true → (a ≡ true) × (b ≡ true)
+both_true true b e = (refl, e)
+both_true false b e = absurd (let no : false ≡ true = e in cc)
+
+joined : (a b c : Bool) → a ≡ true → b ≡ true → c ≡ true → (a && (b && c)) ≡ true
+joined a b c p q r = rw (p, q, r) refl
+
+filled_shape : (s : Shape) → (has_pieces s ≡ true) ↔ (s ≢ [])
+filled_shape [] = (λ t. absurd (let no : false ≡ true = t in cc), λ h. absurd (h refl))
+filled_shape (x ∷ s) = (λ t none. (let no : x ∷ s ≡ [] = none in cc), λ h. refl)
+
+-- the test of a node is the property
+pub expandable_is : (project : Project) (node : Title) → (is_expandable project node ≡ true) ↔ IsExpandableNode project node
+expandable_is project node = (
+  λ e. (let first = both_true (has_pieces (project node)) (nat_lt (depth levels project node) levels && nat_le (weight levels project node) heaviest) e in
+      let rest = both_true (nat_lt (depth levels project node) levels) (nat_le (weight levels project node) heaviest) first.1 in
+      let low : depth levels project node < levels = (let t = rest.0 in grind (arith, nat_tests)) in
+      let few : weight levels project node ≤ heaviest = (let t = rest.1 in grind (arith, nat_tests)) in
+      record { has_piece = (filled_shape (project node)).0 first.0; shallow = low; light = few }),
+  λ x. joined (has_pieces (project node)) (nat_lt (depth levels project node) levels) (nat_le (weight levels project node) heaviest)
+      ((filled_shape (project node)).1 x.has_piece)
+      (let h = x.shallow in grind (arith, nat_tests)) (let h = x.light in grind (arith, nat_tests)),
+)
+
+same_bool : (a b : Bool) → ((a ≡ true) → b ≡ true) → ((b ≡ true) → a ≡ true) → a ≡ b
+same_bool true b f g = sym (f refl)
+same_bool false true f g = g refl
+same_bool false false f g = refl
+
+-- so is the test of the capped weight and depth
+pub expandable_by_limits : (project : Project) (node : Title) (row : List ℕ) (w d : ℕ) → length (project node) ≡ length row → w ≡ weight_of project node → d ≡ depth_of project node
+    → (is_filled row && (nat_lt d levels && nat_le w heaviest)) ≡ is_expandable project node
+expandable_by_limits project node row w d size weighed measured =
+    same_bool (is_filled row && (nat_lt d levels && nat_le w heaviest)) (is_expandable project node)
+    (λ e. (let first = both_true (is_filled row) (nat_lt d levels && nat_le w heaviest) e in
+    let rest = both_true (nat_lt d levels) (nat_le w heaviest) first.1 in
+    let low : depth levels project node < levels = (let t = rest.0 in let below : d < levels = grind (arith, nat_tests) in omega (arith, below, measured)) in
+    let few : weight_of project node ≤ heaviest = (let t = rest.1 in let below : w ≤ heaviest = grind (arith, nat_tests) in omega (arith, below, weighed)) in
+    (expandable_is project node).1 (record {
+      has_piece = (filled_row row (project node) size).0 first.0;
+      shallow = low;
+      light = light_of weight_cap heaviest (weight levels project node) (weight weight_cap project node) one_more (weight_same project node low) few;
+    })))
+    (λ e. (let x = (expandable_is project node).0 e in
+    joined (is_filled row) (nat_lt d levels) (nat_le w heaviest) ((filled_row row (project node) size).1 x.has_piece)
+    (let h = x.shallow in let below : d < levels = omega (arith, h, measured) in grind (arith, nat_tests))
+    (let h = x.light in let low = x.shallow in let same = weight_same project node low in let below : w ≤ heaviest = omega (arith, h, same, weighed) in grind (arith, nat_tests))))
+
+-- a name with a piece is in the table
+module _ (table : TableRead) (inside : ResolvesInside table) (name : List ℕ) where
+  abbrev IsThere : Type 0
+  IsThere = (id : ℕ) × (id < length table.names) × (get_or table.names id [] ≡ name)
+
+  there_resolved : (r : Resolved) → IsNameBelow (length table.names) r → is_node table (Named name) (node_of table r) ≡ true → IsThere
+  there_resolved (resolved.Name id) h e = (id, h, sym ((bytes_eq-Decides name (get_or table.names id [])).0 e))
+  there_resolved resolved.NoFullName h e = absurd (let no : false ≡ true = e in cc)
+  there_resolved resolved.Ambiguous h e = absurd (let no : false ≡ true = e in cc)
+
+  there_named : (o : Option ℕ) → is_node table (Named name) (node_of_name table o) ≡ true → IsThere
+  there_named None e = absurd (let no : false ≡ true = e in cc)
+  there_named (Some occurrence) e = there_resolved (resolved_at table occurrence) (inside occurrence) e
+
+  pub there : (pieces : List PieceRead) → ((e : filter (is_piece_of table (Named name)) pieces ≡ []) → ⊥) → IsThere
+  there [] h = absurd (h refl)
+  there (p ∷ pieces) h = by (is_piece_of table (Named name) p) refl (there pieces)
+    where
+      by : (b : Bool) → is_piece_of table (Named name) p ≡ b → (((e : filter (is_piece_of table (Named name)) pieces ≡ []) → ⊥) → IsThere) → IsThere
+      by true e next = there_named p.name e
+      by false e next = next (λ none. h (rw e none))

@@ -1,0 +1,10 @@
+use Rattle.std.proofs.Common.{◌≡◌, ◌++◌, flat_map}
+use Rattle.std.specs.List.{range_with_len}
+use Rattle.tangle_graph.specs.FaultFlags.{flag_at}
+use Rattle.tangle_graph.specs.Faults.{fault_of, fault_place}
+use Rattle.tangle_graph.proofs.faults.add_faults.Given as goal
+
+abbrev pub invariant-loop-id : goal.invariant-loop-id
+invariant-loop-id l =
+    l.faults.items ≡ l.fn.faults.items
+    ++ flat_map (λ id. fault_of l.web l.table l.kind id (fault_place l.web l.table l.out (flag_at l.flags.self_containing.items) (flag_at l.flags.reaching.items) l.kind id)) (range_with_len 0 l.id)

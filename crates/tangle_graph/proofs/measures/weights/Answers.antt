@@ -1,0 +1,55 @@
+use Rattle.std.proofs.Common.{◌≡◌, ◌∙◌, ◌<◌, ◌≤◌, ℕ, length, get_or, min, take, sym, subst, arith, length-set}
+use Rattle.std.specs.Prelude.{All}
+use Rattle.std.proofs.lemmas.List.{get_or_default}
+use Rattle.digraph.specs.Graph.{rows_of, row_at}
+use Rattle.digraph.proofs.GraphLemmas.{row_read}
+use Rattle.tangle_expansion.specs.ItemSlots.{pieces_at}
+use Rattle.tangle_expansion.specs.Limits.{weight_cap, weight_of}
+use Rattle.tangle_expansion.specs.Projects.{project}
+use Rattle.tangle_graph.specs.Measures.{weight_of_pieces}
+use Rattle.tangle_graph.specs.Nodes.{title_at}
+use Rattle.tangle_graph.proofs.OrderLemmas.{measured_next, measured_all, left_out_heaviest}
+use Rattle.tangle_graph.proofs.StepLemmas.{measured_capped, weight_step}
+use Rattle.tangle_graph.proofs.measures.weights.Goals as goal
+
+pub weight_of_node-requires-clause-numbers : goal.weight_of_node-requires-clause-numbers
+weight_of_node-requires-clause-numbers c =
+    let n = get_or c.args.order.now c.loop-n.n-index 0 in
+    let low : n < length c.args.pieces.now = omega (arith, c.requires.order.placed.nodes c.loop-n.n-index c.loop-n-test.true, c.requires.graph.rows_size, c.requires.graph.uses_size) in
+    let read : row_at (rows_of c.args.pieces.now) n ≡ c.deref-in-loop-n.result.now = row_read c.args.pieces.now n c.index-pieces-n.result low c.index-pieces-n.is ∙ sym c.deref-in-loop-n.ensures.value in
+    subst (λ r. All (λ k. k < length c.args.web.now.pieces) r) read (c.requires.graph.numbers n low)
+
+pub weight_of_node-requires-clause-capped : goal.weight_of_node-requires-clause-capped
+weight_of_node-requires-clause-capped c =
+    let value : ℕ → ℕ = λ n. weight_of (project c.args.web.now c.args.table.now) (title_at c.args.table.now.names n) in
+    let capped : All (λ w. w ≤ weight_cap) c.loop-n.weights.items = (λ k d h.
+    let e = get_or_default c.loop-n.weights.items k d 0 h in
+    omega (arith, e, measured_capped value weight_cap c.loop-n.weights.items (take c.loop-n.n-index c.args.order.now) (λ n. omega arith) c.loop-n.invariant.1 k h)) in
+    subst (λ ws. All (λ w. w ≤ weight_cap) ws) (sym c.deref.ensures.value) capped
+
+pub loop-n-preserved : goal.loop-n-preserved
+loop-n-preserved c =
+    let web = c.args.web.now in
+    let table = c.args.table.now in
+    let order = c.args.order.now in
+    let i = c.loop-n.n-index in
+    let n = get_or order i 0 in
+    let value : ℕ → ℕ = λ k. weight_of (project web table) (title_at table.names k) in
+    let low : n < length c.args.pieces.now = omega (arith, c.requires.order.placed.nodes i c.loop-n-test.true, c.requires.graph.rows_size, c.requires.graph.uses_size) in
+    let read : c.deref-in-loop-n.result.now ≡ row_at (rows_of c.args.pieces.now) n = c.deref-in-loop-n.ensures.value ∙ sym (row_read c.args.pieces.now n c.index-pieces-n.result low c.index-pieces-n.is) in
+    let e : c.weight_of_node.result ≡ min weight_cap (weight_of_pieces web.texts table (λ id. get_or c.loop-n.weights.items id 0) (pieces_at web.pieces c.deref-in-loop-n.result.now)) =
+    subst (λ ws. c.weight_of_node.result ≡ min weight_cap (weight_of_pieces web.texts table (λ id. get_or ws id 0) (pieces_at web.pieces c.deref-in-loop-n.result.now))) c.deref.ensures.value c.weight_of_node.ensures in
+    let right : c.weight_of_node.result ≡ value n =
+    weight_step web table c.args.pieces.now c.args.uses.now order c.requires.graph c.requires.order i c.loop-n-test.true c.loop-n.weights.items c.deref-in-loop-n.result.now c.weight_of_node.result
+    c.requires.inside c.loop-n.invariant.1 read (c.nodes_expand_by_uses.ensures.weights weight_cap (project web table)) e in (
+      length-set c.loop-n.weights.items n c.weight_of_node.result ∙ c.loop-n.invariant.0,
+      measured_next c.args.uses.now value weight_cap c.loop-n.weights.items order i c.weight_of_node.result c.requires.order.placed c.loop-n-test.true c.loop-n.invariant.0 c.loop-n.invariant.1 right,
+    )
+
+pub returns-clause-weights : goal.returns-clause-weights
+returns-clause-weights c = λ n low.
+    let web = c.args.web.now in
+    let table = c.args.table.now in
+    let value : ℕ → ℕ = λ k. weight_of (project web table) (title_at table.names k) in
+    measured_all value weight_cap c.loop-n.weights.items c.args.order.now c.loop-n.n-index n (omega (arith, c.loop-n-test.false)) c.loop-n.invariant.1 (omega (arith, low, c.loop-n.invariant.0))
+    (λ none. omega (arith, left_out_heaviest c.args.uses.now (project web table) (title_at table.names) c.args.order.now weight_cap n c.requires.graph.titled c.requires.graph.range c.requires.order low none))

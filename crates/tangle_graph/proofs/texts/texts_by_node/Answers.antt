@@ -1,0 +1,23 @@
+use Rattle.std.proofs.Common.{◌≡◌, ◌+◌, ℕ, Bool, filter, get_or, take, sym, subst, false}
+use Rattle.digraph.specs.Graph.{rows_of}
+use Rattle.tangle_expansion.specs.ItemCodes.{pieces_names}
+use Rattle.tangle_expansion.specs.ItemSlots.{pieces_at, pieces_slots}
+use Rattle.tangle_expansion.specs.NodeTexts.{plan_slots, plan_uses}
+use Rattle.tangle_graph.specs.Nodes.{title_at}
+use Rattle.tangle_graph.specs.Plans.{ArePlans, slots_of, uses_of_plans}
+use Rattle.tangle_graph.proofs.PushLemmas.{plans_more}
+use Rattle.tangle_graph.proofs.texts.texts_by_node.Goals as goal
+
+pub loop-n-preserved : goal.loop-n-preserved
+loop-n-preserved c =
+    let web = c.args.web.now in
+    let table = c.args.table.now in
+    let has : ℕ → Bool = λ id. get_or c.args.has_piece.now id false in
+    let i = c.loop-n.n in
+    let texts = c.loop-n.texts.items in
+    let text = c.in_ok-text_of_node.field-0 in
+    let row = c.index-pieces-n.result in
+    let slots = subst (λ r. plan_slots text.value ≡ pieces_slots web.texts table has (title_at table.names i) 0 (pieces_at web.pieces r)) c.deref.ensures.value c.in_ok-text_of_node.ensures.slots in
+    let uses = subst (λ r. plan_uses text.value ≡ filter has (pieces_names table (pieces_at web.pieces r))) c.deref.ensures.value c.in_ok-text_of_node.ensures.uses in
+    let more = plans_more web table has c.args.pieces.now texts i row text c.loop-n-test.true c.index-pieces-n.is c.loop-n.invariant slots uses in
+    subst (λ ts. ArePlans web table has (rows_of (take (i + 1) c.args.pieces.now)) (slots_of ts) (uses_of_plans ts)) (sym c.in_ok-push.ensures.items) more

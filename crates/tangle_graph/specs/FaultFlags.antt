@@ -1,0 +1,32 @@
+-- What is told of each node by its number, for the faults. These words are cited by private contracts alone.
+use Rattle.std.specs.Prelude.{◌≡◌, ◌≤◌, ◌↔◌, ℕ, ◌+◌, Bool, true, false, ◌&&◌, List, length, slice_index_or}
+use Rattle.std.specs.List.{position_or_len}
+use Rattle.tangle_lexer.specs.Occurrences.{OccurrenceRead}
+use Rattle.tangle_scan.specs.Web.{WebRead}
+use Rattle.tangle_names.specs.declared.Resolved.{Resolved}
+use Rattle.tangle_names.specs.Numbers.{is_number}
+use Rattle.tangle_names.specs.NameTable.{TableRead}
+use Rattle.tangle_expansion.specs.Shapes.{ContainsItself}
+use Rattle.tangle_expansion.specs.Projects.{project}
+use Rattle.tangle_graph.specs.Faults.{is_use, is_defined, ReachesCycle}
+use Rattle.tangle_graph.specs.Nodes.{title_at}
+use Rattle.tangle_graph.specs.Outputs.{is_expandable}
+use Rattle.tangle_graph.specs.declared.faults.NodeFlags.{NodeFlags}
+
+abbrev pub flag_at : List Bool → ℕ → Bool
+flag_at flags n = slice_index_or flags n false
+
+-- the number of the first use that resolves to the name with this number; the count of occurrences, where there is none
+abbrev pub first_use_by_number : (OccurrenceRead → Resolved) → List OccurrenceRead → ℕ → ℕ
+first_use_by_number f os id = position_or_len (λ o. is_use o.role && is_number id (f o)) os
+
+-- the flags tell of each node whether it has a piece, contains itself, reaches a name that does, and is expandable
+pub record AreNodeFlags (web : WebRead) (table : TableRead) (flags : NodeFlags) : Type 0 where
+  pub defined_size : length flags.defined.items ≡ length table.names + 1
+  pub containing_size : length flags.self_containing.items ≡ length table.names + 1
+  pub reaching_size : length flags.reaching.items ≡ length table.names + 1
+  pub expandable_size : length flags.expandable.items ≡ length table.names + 1
+  pub defined : (n : ℕ) → n ≤ length table.names → flag_at flags.defined.items n ≡ is_defined web table n
+  pub containing : (n : ℕ) → n ≤ length table.names → (flag_at flags.self_containing.items n ≡ true) ↔ ContainsItself (project web table) (title_at table.names n)
+  pub reaching : (n : ℕ) → n ≤ length table.names → (flag_at flags.reaching.items n ≡ true) ↔ ReachesCycle (project web table) (title_at table.names n)
+  pub expandable : (n : ℕ) → n ≤ length table.names → flag_at flags.expandable.items n ≡ is_expandable (project web table) (title_at table.names n)

@@ -1,0 +1,93 @@
+-- The faults of the graph of names: what is undefined, never used, contains itself, is too large or has the main file's name.
+use Rattle.std.specs.Prelude.{◌≡◌, ◌≤◌, ◌↔◌, ℕ, Bool, true, false, not, ◌&&◌, List, [], ◌∷◌, ◌++◌, length, map, flat_map, slice_get, slice_index_or, Option, Some, None, option_to_list, is_some, position, if◌then◌else◌}
+use Rattle.std.specs.List.{range_with_len}
+use Rattle.std.specs.Str.{bytes_eq}
+use Rattle.tangle_lines.specs.declared.faults.FaultKind.{FaultKind}
+use Rattle.tangle_lines.specs.declared.faults.FaultKind.TheVariants as kind
+use Rattle.tangle_lines.specs.Faults.{Finding, fault_about, fault_unplaced}
+use Rattle.tangle_lexer.specs.declared.occurrences.OccurrenceRole.{OccurrenceRole}
+use Rattle.tangle_lexer.specs.declared.occurrences.OccurrenceRole.TheVariants.{Definition, Use, Mention}
+use Rattle.tangle_scan.specs.Web.{WebRead}
+use Rattle.tangle_names.specs.Faults.{spot_of}
+use Rattle.tangle_names.specs.NameTable.{TableRead}
+use Rattle.tangle_names.specs.Numbers.{is_number}
+use Rattle.tangle_names.specs.Resolving.{resolve}
+use Rattle.tangle_expansion.specs.Shapes.{Title, Project, Reaches, ContainsItself}
+use Rattle.tangle_expansion.specs.Projects.{project}
+use Rattle.tangle_graph.specs.Nodes.{title_at}
+use Rattle.tangle_graph.specs.Outputs.{has_pieces, is_expandable, name_text}
+
+abbrev pub is_use : OccurrenceRole → Bool
+is_use Use = true
+is_use Definition = false
+is_use Mention = false
+
+-- the node reaches a name that contains itself, in no step or more
+abbrev pub ReachesCycle : Project → Title → Type 0
+ReachesCycle project node = (other : Title) × Reaches project node other × ContainsItself project other
+
+-- a fault about a name, at the occurrence with this number if there is one
+module _ (web : WebRead) (table : TableRead) where
+  abbrev pub fault_at_number : FaultKind → ℕ → ℕ → List Finding
+  fault_at_number kind id number =
+      map (λ o. fault_about kind (spot_of web.file_names o.place) (name_text table id)) (option_to_list (slice_get web.occurrences number))
+
+  abbrev pub fault_of : FaultKind → ℕ → Option ℕ → List Finding
+  fault_of kind id None = []
+  fault_of kind id (Some number) = fault_at_number kind id number
+
+  -- the node with this number has a piece
+  abbrev pub is_defined : ℕ → Bool
+  is_defined n = has_pieces (project web table (title_at table.names n))
+
+  -- the numbers of a name's first occurrence, of its first one with `@(`, and of the first use that resolves to it
+  abbrev pub first_occurrence : ℕ → Option ℕ
+  first_occurrence id = Some (slice_index_or table.first_occurrences id 0)
+
+  abbrev pub first_file_occurrence : ℕ → Option ℕ
+  first_file_occurrence id = slice_index_or table.first_file_occurrences id None
+
+  abbrev pub first_use : ℕ → Option ℕ
+  first_use id = position (λ o. is_use o.role && is_number id (resolve web.occurrences o)) web.occurrences
+
+-- The node has a piece, reaches no name that contains itself, and is beyond a limit, where this tells of each node whether it reaches such a name.
+abbrev pub is_too_large : WebRead → TableRead → (ℕ → Bool) → ℕ → Bool
+is_too_large web table reaches_cycle n = is_defined web table n && (not (reaches_cycle n) && not (is_expandable (project web table) (title_at table.names n)))
+
+-- The faults, where these tell of each node by its number whether it contains itself, and whether it reaches a name that does: the names in
+-- their order, and then the program.
+module _ (web : WebRead) (table : TableRead) (out : List ℕ) (contains_itself reaches_cycle : ℕ → Bool) where
+  -- whether the name has a fault of this kind, and at which occurrence
+  abbrev pub fault_place : FaultKind → ℕ → Option ℕ
+  fault_place kind.Undefined id = if is_defined web table id then None else first_use web table id
+  fault_place kind.Unused id =
+      if is_defined web table id && (not (is_some (first_file_occurrence web table id)) && not (is_some (first_use web table id)))
+      then first_occurrence web table id
+      else None
+  fault_place kind.SelfContaining id = if contains_itself id then first_occurrence web table id else None
+  fault_place kind.TooLarge id = if is_too_large web table reaches_cycle id then first_occurrence web table id else None
+  fault_place kind.FileClash id = if is_defined web table id && bytes_eq (name_text table id) out then first_file_occurrence web table id else None
+  fault_place _ id = None
+
+  -- the faults of this kind, in the order of the names
+  abbrev pub faults_of_names : FaultKind → List Finding
+  faults_of_names kind = flat_map (λ id. fault_of web table kind id (fault_place kind id)) (range_with_len 0 (length table.names))
+
+  -- the program is too large, or has no text
+  abbrev pub large_program : List Finding
+  large_program = if is_too_large web table reaches_cycle (length table.names) then fault_unplaced kind.TooLarge ∷ [] else []
+
+  abbrev pub no_program : List Finding
+  no_program = if is_defined web table (length table.names) then [] else fault_unplaced kind.NoProgram ∷ []
+
+  abbrev pub graph_faults : List Finding
+  graph_faults = faults_of_names kind.Undefined ++ (faults_of_names kind.Unused ++ (faults_of_names kind.SelfContaining
+      ++ (faults_of_names kind.TooLarge ++ (large_program ++ (faults_of_names kind.FileClash ++ no_program)))))
+
+-- the faults of the graph of names of a web, for a main file of this name
+pub record AreGraphFaults (web : WebRead) (table : TableRead) (out : List ℕ) (faults : List Finding) : Type 0 where
+  pub contains_itself : ℕ → Bool
+  pub reaches_cycle : ℕ → Bool
+  pub self_containing : (n : ℕ) → n ≤ length table.names → (contains_itself n ≡ true) ↔ ContainsItself (project web table) (title_at table.names n)
+  pub cyclic : (n : ℕ) → n ≤ length table.names → (reaches_cycle n ≡ true) ↔ ReachesCycle (project web table) (title_at table.names n)
+  pub list : faults ≡ graph_faults web table out contains_itself reaches_cycle

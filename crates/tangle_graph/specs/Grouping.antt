@@ -1,0 +1,47 @@
+-- The pieces of each node, and the names that it uses, by number: the names in their order, and then the program.
+use Rattle.std.specs.Prelude.{ℕ, Bool, false, ◌==◌, List, [], length, filter, flat_map, Option, None, Some, option_to_list}
+use Rattle.tangle_scan.specs.declared.items.Item.{Item}
+use Rattle.tangle_scan.specs.declared.items.Item.TheVariants as item
+use Rattle.tangle_scan.specs.Web.{PieceRead}
+use Rattle.tangle_names.specs.declared.Resolved.{Resolved}
+use Rattle.tangle_names.specs.declared.Resolved.TheVariants.{Name, NoFullName, Ambiguous}
+use Rattle.tangle_names.specs.NameTable.{TableRead}
+use Rattle.tangle_expansion.specs.Projects.{resolved_at}
+use Rattle.digraph.specs.Users.{places}
+
+-- the number of the name that is resolved to
+abbrev pub number_of_name : Resolved → Option ℕ
+number_of_name (Name id) = Some id
+number_of_name NoFullName = None
+number_of_name Ambiguous = None
+
+module _ (table : TableRead) where
+  -- the number of the node that has the pieces with this name; a piece whose name is not resolved has none
+  abbrev pub number_of : Option ℕ → Option ℕ
+  number_of None = Some (length table.names)
+  number_of (Some occurrence) = number_of_name (resolved_at table occurrence)
+
+  -- the names that an item uses
+  abbrev pub used_by : Item → List ℕ
+  used_by (item.UseOf occurrence) = option_to_list (number_of_name (resolved_at table occurrence))
+  used_by _ = []
+
+  abbrev pub used_in : PieceRead → List ℕ
+  used_in piece = flat_map used_by piece.items
+
+abbrev pub is_number : ℕ → Option ℕ → Bool
+is_number n None = false
+is_number n (Some m) = m == n
+
+module _ (table : TableRead) where
+  -- the piece is one of the node with this number
+  abbrev pub is_piece_of_number : ℕ → PieceRead → Bool
+  is_piece_of_number n piece = is_number n (number_of table piece.name)
+
+  -- where the pieces of the node stand
+  abbrev pub places_of : List PieceRead → ℕ → List ℕ
+  places_of pieces n = places (is_piece_of_number n) 0 pieces
+
+  -- the names that the pieces of the node use, each as often as it is used
+  abbrev pub used_numbers : List PieceRead → ℕ → List ℕ
+  used_numbers pieces n = flat_map (used_in table) (filter (is_piece_of_number n) pieces)

@@ -1,0 +1,19 @@
+-- When rows of numbers are the pieces and the uses of each node of a web.
+use Rattle.std.specs.Prelude.{◌≡◌, ◌<◌, ℕ, ◌+◌, length}
+use Rattle.tangle_scan.specs.Web.{WebRead}
+use Rattle.tangle_names.specs.NameTable.{TableRead}
+use Rattle.tangle_expansion.specs.Projects.{project, pieces_of}
+use Rattle.tangle_expansion.specs.ItemSlots.{pieces_at}
+use Rattle.digraph.specs.Graph.{Graph, InRange, rows_of, row_at}
+use Rattle.digraph.specs.Titles.{IsTitled}
+use Rattle.tangle_graph.specs.Nodes.{title_at, UsesTitle}
+use Rattle.std.specs.Prelude.{All}
+
+-- the names come in their order, and then the program; each has the numbers of its pieces and those of the names that it uses
+pub record IsGraphOf (web : WebRead) (table : TableRead) (rows uses : Graph) : Type 0 where
+  pub rows_size : length rows ≡ length table.names + 1
+  pub uses_size : length uses ≡ length table.names + 1
+  pub numbers : (n : ℕ) → n < length rows → All (λ i. i < length web.pieces) (row_at (rows_of rows) n)
+  pub pieces : (n : ℕ) → n < length rows → pieces_at web.pieces (row_at (rows_of rows) n) ≡ pieces_of web table (title_at table.names n)
+  pub range : InRange uses
+  pub titled : IsTitled uses (UsesTitle (project web table)) (title_at table.names)

@@ -1,0 +1,12 @@
+pub mod Nodes
+pub mod Grouping
+pub mod Groups
+pub mod Measures
+pub mod Outputs
+pub mod Rows
+pub mod Stores
+pub mod Ordering
+pub mod StoreKept
+pub mod Plans
+pub mod Faults
+pub mod FaultFlags

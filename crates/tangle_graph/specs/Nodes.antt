@@ -1,0 +1,42 @@
+-- Nodes by name, by number and by title: the names of a table in their order, and then the program.
+use Rattle.std.specs.Prelude.{◌<◌, ℕ, nat_lt, if◌then◌else◌, List, length, slice_get, slice_index_or, Option, None, Some}
+use Rattle.tangle_expansion.specs.Shapes.{Title, Named, Project, Uses}
+use Rattle.tangle_expansion.specs.Shapes as title
+use Rattle.tangle_expansion.specs.declared.nodes.Node.{Node}
+use Rattle.tangle_expansion.specs.declared.nodes.Node.TheVariants.{Program, Name}
+
+abbrev pub title_of_text : Option (List ℕ) → Title
+title_of_text None = title.Program
+title_of_text (Some text) = Named text
+
+-- the title of the node with this number
+abbrev pub title_at : List (List ℕ) → ℕ → Title
+title_at names n = title_of_text (slice_get names n)
+
+abbrev pub title_of_node : List (List ℕ) → Node → Title
+title_of_node names Program = title.Program
+title_of_node names (Name id) = title_at names id
+
+-- the node is the program or a name of the table
+abbrev pub IsNodeOf : List (List ℕ) → Node → Type 0
+IsNodeOf names Program = Unit {0}
+IsNodeOf names (Name id) = id < length names
+
+-- the node with this number, where so many names come before the program
+abbrev pub node_at : ℕ → ℕ → Node
+node_at names n = if nat_lt n names then Name n else Program
+
+-- the number of the node, if it is one of so many names or the program
+abbrev pub number_in : ℕ → Node → Option ℕ
+number_in names Program = Some names
+number_in names (Name id) = if nat_lt id names then Some id else None
+
+-- what a list with an entry for each node says of the node with this number; of another node it says this
+abbrev pub entry : {X : Type 0} → X → List X → Option ℕ → X
+entry none entries None = none
+entry none entries (Some n) = slice_index_or entries n none
+
+-- one title uses another; the program is used by none
+abbrev pub UsesTitle : Project → Title → Title → Type 0
+UsesTitle project node title.Program = ⊥
+UsesTitle project node (Named name) = Uses project node name

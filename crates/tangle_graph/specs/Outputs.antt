@@ -1,0 +1,58 @@
+-- The output files of a web: the main file, and the named ones.
+use Rattle.std.specs.Prelude.{ℕ, Bool, true, false, not, ◌&&◌, ◌||◌, ◌==◌, nat_lt, nat_le, if◌then◌else◌, List, [], ◌∷◌, ◌++◌, map, filter, flat_map, slice_index_or, option_to_list}
+use Rattle.std.specs.Str.{bytes_eq}
+use Rattle.tangle_scan.specs.Web.{WebRead}
+use Rattle.tangle_names.specs.NameTable.{TableRead}
+use Rattle.tangle_expansion.specs.Shapes.{Title, Program, Named, Shape, Project}
+use Rattle.tangle_expansion.specs.Flat.{weight, depth}
+use Rattle.tangle_expansion.specs.Limits.{levels, heaviest}
+use Rattle.tangle_expansion.specs.Outputs.{OutputRead}
+use Rattle.tangle_expansion.specs.Projects.{project, resolved_at}
+use Rattle.tangle_expansion.specs.declared.nodes.Node.TheVariants as node
+use Rattle.digraph.specs.Users.{places}
+use Rattle.tangle_graph.specs.Grouping.{number_of_name}
+
+-- the shape of a node with a piece
+abbrev pub has_pieces : Shape → Bool
+has_pieces [] = false
+has_pieces (piece ∷ pieces) = true
+
+-- the node has a piece and is within both limits
+abbrev pub is_expandable : Project → Title → Bool
+is_expandable project node = has_pieces (project node) && (nat_lt (depth levels project node) levels && nat_le (weight levels project node) heaviest)
+
+-- each number where it comes first
+abbrev pub firsts : List ℕ → List ℕ
+firsts [] = []
+firsts (n ∷ ns) = n ∷ filter (λ m. not (m == n)) (firsts ns)
+
+module _ (web : WebRead) (table : TableRead) where
+  -- the numbers of the occurrences that are marked as a file, in the order of the source
+  abbrev pub file_occurrences : List ℕ
+  file_occurrences = places (λ o. o.is_file) 0 web.occurrences
+
+  -- the names that these resolve to, each where it comes first
+  abbrev pub file_names : List ℕ
+  file_names = firsts (flat_map (λ occurrence. option_to_list (number_of_name (resolved_at table occurrence))) file_occurrences)
+
+abbrev pub name_text : TableRead → ℕ → List ℕ
+name_text table id = slice_index_or table.names id []
+
+abbrev pub named_file : TableRead → ℕ → OutputRead
+named_file table id = record { name = name_text table id; node = node.Name id; has_macros = false; has_piece = true }
+
+module _ (web : WebRead) (table : TableRead) (out : List ℕ) where
+  -- the main file, unless the program has a piece and is not expandable
+  abbrev pub main_file : List OutputRead
+  main_file =
+      if not (has_pieces (project web table Program)) || is_expandable (project web table) Program
+      then record { name = out; node = node.Program; has_macros = not web.has_defs_code; has_piece = has_pieces (project web table Program) } ∷ []
+      else []
+
+  -- the name has a file of its own
+  abbrev pub is_written : ℕ → Bool
+  is_written id = is_expandable (project web table) (Named (name_text table id)) && not (bytes_eq (name_text table id) out)
+
+  -- the main file first, and then the named ones in the order of their first file occurrences
+  abbrev pub outputs : List OutputRead
+  outputs = main_file ++ map (named_file table) (filter is_written (file_names web table))

@@ -1,0 +1,38 @@
+-- The plans of the nodes of a web.
+use Rattle.std.specs.Prelude.{◌≡◌, ◌<◌, ℕ, Bool, false, List, [], length, map, filter, All, slice_index_or, Vec}
+use Rattle.std.specs.Global.{Global}
+use Rattle.std.specs.declared.rc.Rc.{Rc}
+use Rattle.tangle_scan.specs.Web.{WebRead}
+use Rattle.tangle_names.specs.NameTable.{TableRead}
+use Rattle.tangle_expansion.specs.ItemCodes.{pieces_names}
+use Rattle.tangle_expansion.specs.ItemSlots.{pieces_at, pieces_slots}
+use Rattle.tangle_expansion.specs.NodeTexts.{plan_slots, plan_uses}
+use Rattle.tangle_expansion.specs.Slots.{Slot}
+use Rattle.tangle_expansion.specs.declared.expansion.NodeText.{NodeText}
+use Rattle.tangle_graph.specs.Nodes.{title_at}
+use Rattle.tangle_graph.specs.Stores.{is_filled}
+
+-- of each node, its own parts and where it uses which names
+abbrev pub slots_of : List (Rc NodeText Global) → List (List Slot)
+slots_of texts = map (λ (text : Rc NodeText Global). plan_slots text.value) texts
+
+-- of each node, the names with a piece that its plan uses
+abbrev pub uses_of_plans : List (Rc NodeText Global) → List (List ℕ)
+uses_of_plans texts = map (λ (text : Rc NodeText Global). plan_uses text.value) texts
+
+-- the numbers of all rows are those of so many pieces
+abbrev pub ArePiecesInside : ℕ → List (Vec ℕ Global) → Type 0
+ArePiecesInside count rows = All (λ (row : Vec ℕ Global). All (λ n. n < count) row.items) rows
+
+-- a flag for each row: whether it has a number
+pub record AreFilled (rows : List (List ℕ)) (flags : List Bool) : Type 0 where
+  pub size : length flags ≡ length rows
+  pub flag : (n : ℕ) → n < length rows → slice_index_or flags n false ≡ is_filled (slice_index_or rows n [])
+
+-- the plans are those of the nodes that have these pieces, where these names have a piece
+pub record ArePlans (web : WebRead) (table : TableRead) (has_piece : ℕ → Bool) (rows : List (List ℕ)) (slots : List (List Slot)) (uses : List (List ℕ)) : Type 0 where
+  pub slots_size : length slots ≡ length rows
+  pub uses_size : length uses ≡ length rows
+  pub slots_right : (n : ℕ) → n < length rows
+      → slice_index_or slots n [] ≡ pieces_slots web.texts table has_piece (title_at table.names n) 0 (pieces_at web.pieces (slice_index_or rows n []))
+  pub uses_right : (n : ℕ) → n < length rows → slice_index_or uses n [] ≡ filter has_piece (pieces_names table (pieces_at web.pieces (slice_index_or rows n [])))

@@ -1,0 +1,110 @@
+-- What a store says of a project: of each node its pieces, its uses and users, its weight and depth, and whether it contains itself.
+use Rattle.std.specs.Prelude.{◌≡◌, ◌≢◌, ◌<◌, ◌↔◌, ℕ, Bool, true, false, ◌&&◌, nat_lt, nat_le, slice_index, slice_index_or, List, [], ◌∷◌, length, AllPairs, Contains, Some}
+use Rattle.tangle_lines.specs.Faults.{Finding}
+use Rattle.tangle_expansion.specs.Shapes.{Title, Named, Project, Uses, ContainsItself}
+use Rattle.tangle_expansion.specs.Flat.{Part}
+use Rattle.tangle_expansion.specs.Kept.{kept_at}
+use Rattle.tangle_expansion.specs.Slots.{Slot, filled}
+use Rattle.tangle_expansion.specs.Limits.{levels, heaviest, flat_of, weight_of, depth_of, IsExpandableNode}
+use Rattle.tangle_expansion.specs.Outputs.{OutputRead}
+use Rattle.tangle_expansion.specs.declared.kept.Kept.{Kept}
+use Rattle.tangle_expansion.specs.declared.nodes.Node.{Node}
+use Rattle.tangle_expansion.specs.declared.nodes.Node.TheVariants as node_kind
+use Rattle.tangle_graph.specs.Nodes.{title_of_node, IsNodeOf, number_in, entry, UsesTitle}
+
+-- the texts of the names, and lists with an entry for each node: the names in their order, and then the program
+pub record StoreRead : Type 0 where
+  pub names : List (List ℕ)
+  -- the numbers of the node's pieces
+  pub pieces : List (List ℕ)
+  pub uses : List (List Node)
+  pub users : List (List Node)
+  pub self_containing : List Bool
+  pub weights : List ℕ
+  pub depths : List ℕ
+  pub expandable : List Bool
+  pub outputs : List OutputRead
+  pub faults : List Finding
+  -- its own parts and where it uses which names, and the names with a piece that this uses
+  pub slots : List (List Slot)
+  pub plan_uses : List (List ℕ)
+
+abbrev pub is_filled : List ℕ → Bool
+is_filled [] = false
+is_filled (n ∷ ns) = true
+
+module _ (store : StoreRead) where
+  abbrev pub pieces_of_node : Node → List ℕ
+  pieces_of_node node = entry [] store.pieces (number_in (length store.names) node)
+
+  abbrev pub has_piece_at : Node → Bool
+  has_piece_at node = is_filled (pieces_of_node node)
+
+  abbrev pub uses_at : Node → List Node
+  uses_at node = entry [] store.uses (number_in (length store.names) node)
+
+  abbrev pub users_at : Node → List Node
+  users_at node = entry [] store.users (number_in (length store.names) node)
+
+  abbrev pub contains_itself_at : Node → Bool
+  contains_itself_at node = entry false store.self_containing (number_in (length store.names) node)
+
+  abbrev pub weight_at : Node → ℕ
+  weight_at node = entry 0 store.weights (number_in (length store.names) node)
+
+  abbrev pub depth_at : Node → ℕ
+  depth_at node = entry 0 store.depths (number_in (length store.names) node)
+
+  abbrev pub is_expandable_at : Node → Bool
+  is_expandable_at node = entry false store.expandable (number_in (length store.names) node)
+
+  abbrev pub slots_at : Node → List Slot
+  slots_at node = entry [] store.slots (number_in (length store.names) node)
+
+  abbrev pub plan_uses_at : Node → List ℕ
+  plan_uses_at node = entry [] store.plan_uses (number_in (length store.names) node)
+
+  abbrev pub title_in_store : Node → Title
+  title_in_store node = title_of_node store.names node
+
+  -- the node is one of the store's
+  abbrev pub IsNodeIn : Node → Type 0
+  IsNodeIn node = IsNodeOf store.names node
+
+-- the node uses the name with this number, which has a piece
+pub record UsesPiece (project : Project) (store : StoreRead) (node : Node) (id : ℕ) : Type 0 where
+  pub inside : id < length store.names
+  pub uses : Uses project (title_in_store store node) (slice_index_or store.names id [])
+  pub has_piece : project (Named (slice_index_or store.names id [])) ≢ []
+
+-- what is kept of each name with a piece that the node uses is what the name expands to
+abbrev pub KeepsUsed : Project → StoreRead → Kept → Node → Type 0
+KeepsUsed project store kept node =
+    (id : ℕ) → UsesPiece project store node id → kept_at kept (node_kind.Name id) ≡ Some (flat_of project (Named (slice_index_or store.names id [])))
+
+-- The store is that of the project: what it says of each node is what holds of the node's title. Of a node that it does not have it says
+-- what holds of one without a piece.
+pub record IsStoreOf (project : Project) (store : StoreRead) : Type 0 where
+  -- each title is that of one node, and each name with a piece has a node
+  pub once : (a b : Node) → IsNodeIn store a → IsNodeIn store b → title_in_store store a ≡ title_in_store store b → a ≡ b
+  pub known : (name : List ℕ) → project (Named name) ≢ [] → (a : Node) × IsNodeIn store a × (title_in_store store a ≡ Named name)
+  pub has_piece : (a : Node) → IsNodeIn store a → ((has_piece_at store a ≡ true) ↔ (project (title_in_store store a) ≢ []))
+  pub uses : (a b : Node) → IsNodeIn store a → (Contains (uses_at store a) b ↔ (IsNodeIn store b × UsesTitle project (title_in_store store a) (title_in_store store b)))
+  pub users : (a b : Node) → IsNodeIn store a → (Contains (users_at store a) b ↔ (IsNodeIn store b × UsesTitle project (title_in_store store b) (title_in_store store a)))
+  pub uses_once : (a : Node) → IsNodeIn store a → AllPairs (λ b c. b ≢ c) (uses_at store a)
+  pub users_once : (a : Node) → IsNodeIn store a → AllPairs (λ b c. b ≢ c) (users_at store a)
+  pub contains_itself : (a : Node) → IsNodeIn store a → ((contains_itself_at store a ≡ true) ↔ ContainsItself project (title_in_store store a))
+  pub weights : (a : Node) → IsNodeIn store a → weight_at store a ≡ weight_of project (title_in_store store a)
+  pub depths : (a : Node) → IsNodeIn store a → depth_at store a ≡ depth_of project (title_in_store store a)
+  pub expandable : (a : Node) → IsNodeIn store a → ((is_expandable_at store a ≡ true) ↔ IsExpandableNode project (title_in_store store a))
+  -- a plan uses names with a piece alone, and where each of these has its parts, the plan has the node's
+  pub plan_uses : (a : Node) (id : ℕ) → IsNodeIn store a → Contains (plan_uses_at store a) id → UsesPiece project store a id
+  pub plans : (a : Node) (parts : ℕ → List Part) → IsNodeIn store a → depth_of project (title_in_store store a) < levels
+      → ((id : ℕ) → UsesPiece project store a id → parts id ≡ flat_of project (Named (slice_index_or store.names id [])))
+      → filled parts (slots_at store a) ≡ flat_of project (title_in_store store a)
+
+-- a flag for each node: whether it has a piece, and its weight and depth are within the limits
+pub record AreWithin (pieces : List (List ℕ)) (weights depths : List ℕ) (flags : List Bool) : Type 0 where
+  pub size : length flags ≡ length pieces
+  pub flag : (n : ℕ) → n < length pieces
+      → slice_index_or flags n false ≡ (is_filled (slice_index_or pieces n []) && (nat_lt (slice_index depths n) levels && nat_le (slice_index weights n) heaviest))

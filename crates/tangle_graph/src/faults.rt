@@ -1,0 +1,338 @@
+//! The faults of the graph of names: what is undefined, never used, contains itself, is too large or has the main file's name.
+ghost use Rattle.std.specs.Prelude.{◌≡◌, ◌<◌, ◌≤◌, ◌++◌, ◌+◌, ◌∷◌, [], ℕ, None, IfOk, OnOk, length, map, slice_index_or, if◌then◌else◌};
+ghost use Rattle.tangle_lines.specs.Faults.{fault_unplaced};
+ghost use Rattle.tangle_lexer.specs.Occurrences.{OccurrenceRead};
+ghost use Rattle.tangle_scan.specs.Web.{WebRead};
+ghost use Rattle.tangle_names.specs.declared.Resolved.{Resolved};
+ghost use Rattle.tangle_names.specs.NameTable.{TableRead, table_of};
+ghost use Rattle.tangle_names.specs.Numbers.{NotesNumber};
+ghost use Rattle.tangle_names.specs.Resolving.{resolve};
+ghost use Rattle.tangle_expansion.specs.Projects.{project};
+ghost use Rattle.digraph.specs.Graph.{InRange, rows_of};
+ghost use Rattle.tangle_graph.specs.Groups.{IsGraphOf};
+ghost use Rattle.tangle_graph.specs.Nodes.{title_at};
+ghost use Rattle.tangle_graph.specs.Outputs.{is_expandable};
+ghost use Rattle.tangle_graph.specs.Stores.{is_filled};
+ghost use Rattle.tangle_graph.specs.FaultFlags.{AreNodeFlags, flag_at, first_use_by_number};
+ghost use Rattle.tangle_graph.specs.Faults.{AreGraphFaults, fault_of, fault_place, faults_of_names, first_use, is_too_large, is_use};
+
+use digraph::{reaching_cycles, self_containing};
+use std::alloc::{AllocError, Global};
+use tangle_lines::{Fault, FaultKind, NoMemory};
+use tangle_names::{NameTable, Resolved};
+use tangle_scan::{Occurrence, OccurrenceRole, Web};
+
+/// A flag for each node: whether it has a piece, contains itself, reaches a name that does, and is expandable.
+#[derive(Drop)]
+pub(crate) struct NodeFlags {
+    pub(crate) defined: Vec<bool>,
+    pub(crate) self_containing: Vec<bool>,
+    pub(crate) reaching: Vec<bool>,
+    pub(crate) expandable: Vec<bool>,
+}
+
+/// Whether each row has a number.
+fn filled(alloc: Global, rows: &[Vec<usize>]) -> Result<Vec<bool>, AllocError>
+    ensures { IfOk result (λ flags. flags.items ≡ map is_filled (rows_of rows.now)) }
+{
+    let mut flags = Vec::with_capacity(alloc, rows.len())?;
+    for row in rows {
+        flags.push(!row.is_empty())?;
+    }
+    Ok(flags)
+}
+
+impl NodeFlags {
+    /// The flags of the nodes of a graph, given those of the nodes that are expandable.
+    pub(crate) fn gather(
+        alloc: Global,
+        pieces: &[Vec<usize>],
+        uses: &[Vec<usize>],
+        users: &[Vec<usize>],
+        expandable: &[bool],
+    ) -> Result<NodeFlags, AllocError>
+        requires { InRange uses.now }
+        ensures { IfOk result (λ flags. (web : WebRead) (table : TableRead) → IsGraphOf web table pieces.now uses.now
+            → length expandable.now ≡ length table.names + 1
+            → ((n : ℕ) → n < length expandable.now → flag_at expandable.now n ≡ is_expandable (project web table) (title_at table.names n))
+            → AreNodeFlags web table flags) }
+    {
+        let defined = filled(alloc, pieces)?;
+        let self_containing = self_containing(alloc, uses, users)?;
+        let reaching = reaching_cycles(alloc, uses, users, &self_containing)?;
+        let expandable = Vec::from_slice(alloc, expandable)?;
+        Ok(NodeFlags {
+            defined,
+            self_containing,
+            reaching,
+            expandable,
+        })
+    }
+}
+
+/// Whether it is a use.
+fn is_use(occurrence: &Occurrence) -> bool
+    ensures { result ≡ is_use occurrence.now.role }
+{
+    match occurrence.role() {
+        OccurrenceRole::Use => true,
+        OccurrenceRole::Definition | OccurrenceRole::Mention => false,
+    }
+}
+
+/// Gives the name that is resolved to this number, if the occurrence is wanted.
+fn note(numbers: &mut Vec<usize>, is_wanted: bool, number: usize, resolved: Resolved)
+    ensures { NotesNumber numbers.old.items numbers.new.items is_wanted number resolved }
+{
+    if let Resolved::Name(id) = resolved {
+        if is_wanted && id < numbers.len() {
+            numbers[id] = number;
+        }
+    }
+}
+
+/// Of each name the number of the first use that resolves to it. It is the count of occurrences where there is none.
+// From the last occurrence to the first, so that an earlier number takes the place of a later one.
+fn first_uses(alloc: Global, web: &Web, table: &NameTable) -> Result<Vec<usize>, AllocError>
+    requires { length table.now.resolved ≡ length web.now.occurrences }
+    ensures size { IfOk result (λ v. length v.items ≡ length table.now.names) }
+    ensures numbers { IfOk result (λ v. (f : OccurrenceRead → Resolved)
+        → table.now.resolved ≡ map f web.now.occurrences → (id : ℕ) → id < length table.now.names
+        → slice_index_or v.items id 0 ≡ first_use_by_number f web.now.occurrences id) }
+{
+    let occurrences = web.occurrences();
+    let mut numbers = vec![in alloc; occurrences.len(); table.count()]?;
+    let mut i = occurrences.len();
+    while i > 0 {
+        i -= 1;
+        let wanted = is_use(&occurrences[i]);
+        note(&mut numbers, wanted, i, table.resolve(i));
+    }
+    Ok(numbers)
+}
+
+/// The number of the first use that resolves to the name, if there is one.
+fn first_use(web: &Web, table: &NameTable, first_uses: &[usize], id: usize) -> Option<usize>
+    requires size { id < length first_uses.now }
+    requires number { slice_index_or first_uses.now id 0 ≡ first_use_by_number (resolve web.now.occurrences) web.now.occurrences id }
+    ensures { result ≡ first_use web.now table.now id }
+{
+    let number = first_uses[id];
+    if number < web.occurrences().len() {
+        Some(number)
+    } else {
+        None
+    }
+}
+
+/// Whether the node has a piece, reaches no name that contains itself, and is beyond a limit.
+fn is_too_large(web: &Web, table: &NameTable, flags: &NodeFlags, n: usize) -> bool
+    requires node { n ≤ length table.now.names }
+    requires flags { AreNodeFlags web.now table.now flags.now }
+    ensures { result ≡ is_too_large web.now table.now (flag_at flags.now.reaching.items) n }
+{
+    flags.defined[n] && (!flags.reaching[n] && !flags.expandable[n])
+}
+
+/// The number, if it is wanted.
+fn where_wanted(wanted: bool, number: Option<usize>) -> Option<usize>
+    ensures { result ≡ (if wanted then number else None) }
+{
+    if wanted { number } else { None }
+}
+
+/// At which occurrence the name has a fault of this kind, if it has one.
+fn fault_place(
+    kind: FaultKind,
+    web: &Web,
+    table: &NameTable,
+    out: &[u8],
+    flags: &NodeFlags,
+    use_number: Option<usize>,
+    id: usize,
+) -> Option<usize>
+    requires name { id < length table.now.names }
+    requires flags { AreNodeFlags web.now table.now flags.now }
+    requires used { use_number ≡ first_use web.now table.now id }
+    ensures { result ≡ fault_place web.now table.now out.now (flag_at flags.now.self_containing.items) (flag_at flags.now.reaching.items) kind id }
+{
+    let first = Some(table.first_occurrence(id));
+    let is_defined = flags.defined[id];
+    match kind {
+        FaultKind::Undefined => where_wanted(!is_defined, use_number),
+        FaultKind::Unused => {
+            where_wanted(
+                is_defined && (!table.is_file(id) && !use_number.is_some()),
+                first,
+            )
+        }
+        FaultKind::SelfContaining => where_wanted(flags.self_containing[id], first),
+        FaultKind::TooLarge => where_wanted(is_too_large(web, table, flags, id), first),
+        FaultKind::FileClash => where_wanted(
+            is_defined && table.text(id) == out,
+            table.first_file_occurrence(id),
+        ),
+        _ => None,
+    }
+}
+
+/// Puts a fault about the name last, at the occurrence with this number if there is one.
+fn add_fault(
+    alloc: Global,
+    faults: &mut Vec<Fault>,
+    web: &Web,
+    table: &NameTable,
+    kind: FaultKind,
+    id: usize,
+    number: Option<usize>,
+) -> Result<(), NoMemory>
+    requires { id < length table.now.names }
+    ensures { OnOk result (faults.new.items ≡ faults.old.items ++ fault_of web.now table.now kind id number) }
+{
+    if let Some(number) = number {
+        if let Some(occurrence) = web.occurrences().get(number) {
+            let place = occurrence.place();
+            let file = web.file_name(place);
+            faults.push(Fault::about(alloc, kind, file, place.line, table.text(id))?)?;
+        }
+    }
+    Ok(())
+}
+
+/// Puts the faults of this kind about names last, in the order of the names.
+fn add_faults(
+    alloc: Global,
+    faults: &mut Vec<Fault>,
+    kind: FaultKind,
+    web: &Web,
+    table: &NameTable,
+    out: &[u8],
+    flags: &NodeFlags,
+    first_uses: &[usize],
+) -> Result<(), NoMemory>
+    requires flags { AreNodeFlags web.now table.now flags.now }
+    requires size { length first_uses.now ≡ length table.now.names }
+    requires numbers { (id : ℕ) → id < length table.now.names
+        → slice_index_or first_uses.now id 0 ≡ first_use_by_number (resolve web.now.occurrences) web.now.occurrences id }
+    ensures { OnOk result (faults.new.items ≡ faults.old.items
+        ++ faults_of_names web.now table.now out.now (flag_at flags.now.self_containing.items) (flag_at flags.now.reaching.items) kind) }
+{
+    for id in 0..table.count() {
+        let use_number = first_use(web, table, first_uses, id);
+        let number = fault_place(kind, web, table, out, flags, use_number, id);
+        add_fault(alloc, faults, web, table, kind, id, number)?;
+    }
+    Ok(())
+}
+
+/// Puts a fault without a place last, if there is one.
+fn add_unplaced(
+    alloc: Global,
+    faults: &mut Vec<Fault>,
+    kind: FaultKind,
+    is_there: bool,
+) -> Result<(), NoMemory>
+    ensures { OnOk result (faults.new.items ≡ faults.old.items ++ (if is_there then fault_unplaced kind ∷ [] else [])) }
+{
+    if is_there {
+        faults.push(Fault::unplaced(alloc, kind))?;
+    }
+    Ok(())
+}
+
+/// The faults of the graph of names, for a main file of this name.
+pub(crate) fn faults(
+    alloc: Global,
+    web: &Web,
+    table: &NameTable,
+    out: &[u8],
+    flags: &NodeFlags,
+) -> Result<Vec<Fault>, NoMemory>
+    requires table { table.now ≡ table_of web.now }
+    requires flags { AreNodeFlags web.now table.now flags.now }
+    ensures { IfOk result (λ faults. AreGraphFaults web.now table.now out.now faults.items) }
+{
+    let uses = first_uses(alloc, web, table)?;
+    let program = table.count();
+    let is_large = is_too_large(web, table, flags, program);
+    let mut faults = Vec::new(alloc);
+    add_faults(
+        alloc,
+        &mut faults,
+        FaultKind::Undefined,
+        web,
+        table,
+        out,
+        flags,
+        &uses,
+    )?;
+    add_faults(
+        alloc,
+        &mut faults,
+        FaultKind::Unused,
+        web,
+        table,
+        out,
+        flags,
+        &uses,
+    )?;
+    add_faults(
+        alloc,
+        &mut faults,
+        FaultKind::SelfContaining,
+        web,
+        table,
+        out,
+        flags,
+        &uses,
+    )?;
+    add_faults(
+        alloc,
+        &mut faults,
+        FaultKind::TooLarge,
+        web,
+        table,
+        out,
+        flags,
+        &uses,
+    )?;
+    add_unplaced(alloc, &mut faults, FaultKind::TooLarge, is_large)?;
+    add_faults(
+        alloc,
+        &mut faults,
+        FaultKind::FileClash,
+        web,
+        table,
+        out,
+        flags,
+        &uses,
+    )?;
+    add_unplaced(
+        alloc,
+        &mut faults,
+        FaultKind::NoProgram,
+        !flags.defined[program],
+    )?;
+    Ok(faults)
+}
+
+/// The faults of the graph of names with these pieces, uses and users, for a main file of this name.
+pub(crate) fn graph_faults(
+    alloc: Global,
+    web: &Web,
+    table: &NameTable,
+    out: &[u8],
+    pieces: &[Vec<usize>],
+    uses: &[Vec<usize>],
+    users: &[Vec<usize>],
+    expandable: &[bool],
+) -> Result<Vec<Fault>, NoMemory>
+    requires table { table.now ≡ table_of web.now }
+    requires graph { IsGraphOf web.now table.now pieces.now uses.now }
+    requires size { length expandable.now ≡ length table.now.names + 1 }
+    requires flags { (n : ℕ) → n < length expandable.now → flag_at expandable.now n ≡ is_expandable (project web.now table.now) (title_at table.now.names n) }
+    ensures { IfOk result (λ faults. AreGraphFaults web.now table.now out.now faults.items) }
+{
+    let flags = NodeFlags::gather(alloc, pieces, uses, users, expandable)?;
+    faults(alloc, web, table, out, &flags)
+}

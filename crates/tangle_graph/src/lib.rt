@@ -1,0 +1,15 @@
+//! The graph of names: which node uses which, how heavy and deep each is, which can be expanded, and the output files.
+#![tactic(auto)]
+
+mod faults;
+mod graph;
+mod laws;
+mod measures;
+mod nodes;
+mod outputs;
+mod pieces;
+mod store;
+mod texts;
+
+pub use laws::graph_faults_are_one_list;
+pub use store::{Store, expand_one};

@@ -1,0 +1,59 @@
+//! Nodes by number: the names in their order, and then the program.
+ghost use Rattle.std.specs.Prelude.{◌≡◌, ◌<◌, ℕ, List, IfOk, map, length};
+ghost use Rattle.digraph.specs.Graph.{rows_of};
+ghost use Rattle.tangle_graph.specs.Nodes.{node_at, number_in};
+ghost use Rattle.tangle_graph.specs.Rows.{node_rows};
+
+use std::alloc::{AllocError, Global};
+use tangle_expansion::Node;
+
+/// The node with this number, where so many names come before the program.
+pub(crate) fn node_of(names: usize, n: usize) -> Node
+    ensures { result ≡ node_at names n }
+{
+    if n < names {
+        Node::Name(n)
+    } else {
+        Node::Program
+    }
+}
+
+/// The number of the node, if it is one of so many names or the program.
+pub(crate) fn number_of(names: usize, node: Node) -> Option<usize>
+    ensures { result ≡ number_in names node }
+{
+    match node {
+        Node::Program => Some(names),
+        Node::Name(id) => { if id < names { Some(id) } else { None } }
+    }
+}
+
+/// The nodes with these numbers.
+pub(crate) fn nodes_of(
+    alloc: Global,
+    names: usize,
+    numbers: &[usize],
+) -> Result<Vec<Node>, AllocError>
+    ensures { IfOk result (λ nodes. nodes.items ≡ map (node_at names) numbers.now) }
+{
+    let mut nodes = Vec::with_capacity(alloc, numbers.len())?;
+    for n in numbers {
+        nodes.push(node_of(names, *n))?;
+    }
+    Ok(nodes)
+}
+
+/// Rows of nodes for these rows of numbers.
+pub(crate) fn nodes_by_node(
+    alloc: Global,
+    names: usize,
+    rows: &[Vec<usize>],
+) -> Result<Vec<Vec<Node>>, AllocError>
+    ensures { IfOk result (λ nodes. node_rows nodes.items ≡ map (map (node_at names)) (rows_of rows.now)) }
+{
+    let mut nodes = Vec::with_capacity(alloc, rows.len())?;
+    for row in rows {
+        nodes.push(nodes_of(alloc, names, row)?)?;
+    }
+    Ok(nodes)
+}

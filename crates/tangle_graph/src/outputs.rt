@@ -1,0 +1,152 @@
+//! The output files.
+ghost use Rattle.std.specs.Prelude.{◌≡◌, ℕ, List, [], ◌∷◌, ◌++◌, IfOk, OnOk, length, All, flat_map, option_to_list, if◌then◌else◌, not, ◌&&◌, ◌||◌, ◌<◌, ◌+◌, slice_index_or, false};
+ghost use Rattle.std.specs.Str.{bytes_eq};
+ghost use Rattle.digraph.specs.Users.{places};
+ghost use Rattle.tangle_expansion.specs.Shapes.{Program};
+ghost use Rattle.tangle_expansion.specs.declared.nodes.Node.TheVariants as node_kind;
+ghost use Rattle.tangle_expansion.specs.Projects.{ResolvesInside, resolved_at, project};
+ghost use Rattle.tangle_graph.specs.Grouping.{number_of_name};
+ghost use Rattle.tangle_graph.specs.Nodes.{title_at};
+ghost use Rattle.tangle_graph.specs.Outputs.{firsts, file_names, has_pieces, is_expandable, name_text, named_file, outputs};
+
+use crate::pieces::number_of_name;
+use std::alloc::{AllocError, Global};
+use tangle_expansion::{Node, Output};
+use tangle_names::NameTable;
+use tangle_scan::{Occurrence, Web};
+
+/// Puts the number last if the flag says so.
+fn push_where(numbers: &mut Vec<usize>, flag: bool, n: usize) -> Result<(), AllocError>
+    ensures { OnOk result (numbers.new.items ≡ numbers.old.items ++ (if flag then n ∷ [] else [])) }
+{
+    if flag {
+        numbers.push(n)?;
+    }
+    Ok(())
+}
+
+/// The numbers of the occurrences that are marked as a file.
+fn file_occurrences(alloc: Global, occurrences: &[Occurrence]) -> Result<Vec<usize>, AllocError>
+    ensures { IfOk result (λ numbers. numbers.items ≡ places (λ o. o.is_file) 0 occurrences.now) }
+{
+    let mut numbers = Vec::new(alloc);
+    for (i, occurrence) in occurrences.iter().enumerate() {
+        push_where(&mut numbers, occurrence.is_file(), i)?;
+    }
+    Ok(numbers)
+}
+
+/// The names that these occurrences resolve to.
+fn names_of(
+    alloc: Global,
+    table: &NameTable,
+    occurrences: &[usize],
+) -> Result<Vec<usize>, AllocError>
+    requires inside { ResolvesInside table.now }
+    requires occurrences { All (λ occurrence. occurrence < length table.now.resolved) occurrences.now }
+    ensures names { IfOk result (λ names. names.items ≡ flat_map (λ occurrence. option_to_list (number_of_name (resolved_at table.now occurrence))) occurrences.now) }
+    ensures inside { IfOk result (λ names. All (λ id. id < length table.now.names) names.items) }
+{
+    let mut names = Vec::new(alloc);
+    for occurrence in occurrences {
+        if let Some(name) = number_of_name(table.resolve(*occurrence)) {
+            names.push(name)?;
+        }
+    }
+    Ok(names)
+}
+
+/// Each number where it comes first.
+fn firsts(alloc: Global, count: usize, numbers: &[usize]) -> Result<Vec<usize>, AllocError>
+    requires { All (λ n. n < count) numbers.now }
+    ensures firsts { IfOk result (λ v. v.items ≡ firsts numbers.now) }
+    ensures below { IfOk result (λ v. All (λ n. n < count) v.items) }
+{
+    let mut seen = vec![in alloc; false; count]?;
+    let mut firsts = Vec::new(alloc);
+    for n in numbers {
+        push_where(&mut firsts, !seen[*n], *n)?;
+        seen[*n] = true;
+    }
+    Ok(firsts)
+}
+
+/// The names that are marked as a file, in the order of their first marks.
+pub(crate) fn file_names(
+    alloc: Global,
+    web: &Web,
+    table: &NameTable,
+) -> Result<Vec<usize>, AllocError>
+    requires inside { ResolvesInside table.now }
+    requires ours { length table.now.resolved ≡ length web.now.occurrences }
+    ensures names { IfOk result (λ names. names.items ≡ file_names web.now table.now) }
+    ensures inside { IfOk result (λ names. All (λ id. id < length table.now.names) names.items) }
+{
+    let occurrences = file_occurrences(alloc, web.occurrences())?;
+    let names = names_of(alloc, table, &occurrences)?;
+    firsts(alloc, table.count(), &names)
+}
+
+/// The main file, if the program has no piece or is expandable.
+fn main_file(
+    alloc: Global,
+    web: &Web,
+    out: &[u8],
+    has_piece: bool,
+    expandable: bool,
+) -> Result<Vec<Output>, AllocError>
+    ensures { IfOk result (λ files. files.items
+        ≡ (if not has_piece || expandable
+        then record { name = out.now; node = node_kind.Program; has_macros = not web.now.has_defs_code; has_piece = has_piece } ∷ [] else [])) }
+{
+    let mut files = Vec::new(alloc);
+    if !has_piece || expandable {
+        let name = Vec::from_slice(alloc, out)?;
+        files.push(Output::new(name, Node::Program, !web.has_defs_code(), has_piece))?;
+    }
+    Ok(files)
+}
+
+/// Puts the file of a name last, if it has one of its own.
+fn add_named_file(
+    alloc: Global,
+    table: &NameTable,
+    out: &[u8],
+    expandable: bool,
+    id: usize,
+    files: &mut Vec<Output>,
+) -> Result<(), AllocError>
+    requires { id < length table.now.names }
+    ensures { OnOk result (files.new.items ≡ files.old.items
+        ++ (if expandable && not (bytes_eq (name_text table.now id) out.now) then named_file table.now id ∷ [] else [])) }
+{
+    if expandable && table.text(id) != out {
+        let name = Vec::from_slice(alloc, table.text(id))?;
+        files.push(Output::new(name, Node::Name(id), false, true))?;
+    }
+    Ok(())
+}
+
+/// The output files, the main file first, of a web whose nodes have these flags: whether each is expandable.
+pub(crate) fn outputs(
+    alloc: Global,
+    web: &Web,
+    table: &NameTable,
+    out: &[u8],
+    has_piece: bool,
+    expandable: &[bool],
+) -> Result<Vec<Output>, AllocError>
+    requires inside { ResolvesInside table.now }
+    requires ours { length table.now.resolved ≡ length web.now.occurrences }
+    requires size { length expandable.now ≡ length table.now.names + 1 }
+    requires program { has_piece ≡ has_pieces (project web.now table.now Program) }
+    requires flags { (n : ℕ) → n < length expandable.now → slice_index_or expandable.now n false ≡ is_expandable (project web.now table.now) (title_at table.now.names n) }
+    ensures { IfOk result (λ files. files.items ≡ outputs web.now table.now out.now) }
+{
+    let names = file_names(alloc, web, table)?;
+    let mut files = main_file(alloc, web, out, has_piece, expandable[table.count()])?;
+    for id in &names {
+        add_named_file(alloc, table, out, expandable[*id], *id, &mut files)?;
+    }
+    Ok(files)
+}

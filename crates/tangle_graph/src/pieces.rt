@@ -1,0 +1,135 @@
+//! The pieces of each node, and the names that it uses.
+ghost use Rattle.std.specs.Prelude.{◌≡◌, ◌<◌, ◌+◌, ◌++◌, ◌∷◌, [], ℕ, List, IfOk, OnOk, IfSome, length, flat_map, if◌then◌else◌, All};
+ghost use Rattle.digraph.specs.Graph.{rows_of};
+ghost use Rattle.digraph.specs.Rows.{IsRowsOf, GrowsBy};
+ghost use Rattle.tangle_scan.specs.WellFormed.{IsUseBelow};
+ghost use Rattle.tangle_expansion.specs.Projects.{ResolvesInside};
+ghost use Rattle.tangle_graph.specs.Grouping.{number_of_name, number_of, is_number, used_by, places_of, used_numbers};
+
+use digraph::{empty_rows, push_to};
+use std::alloc::{AllocError, Global};
+use tangle_names::{NameTable, Resolved};
+use tangle_scan::{Item, Piece};
+
+/// The number of the name that is resolved to.
+pub(crate) fn number_of_name(resolved: Resolved) -> Option<usize>
+    ensures { result ≡ number_of_name resolved }
+{
+    match resolved {
+        Resolved::Name(id) => Some(id),
+        Resolved::NoFullName | Resolved::Ambiguous => None,
+    }
+}
+
+/// The number of the node that has the pieces with this name.
+fn number_of(table: &NameTable, name: Option<usize>) -> Option<usize>
+    requires inside { ResolvesInside table.now }
+    requires name { IfSome name (λ occurrence. occurrence < length table.now.resolved) }
+    ensures node { result ≡ number_of table.now name }
+    ensures within { IfSome result (λ n. n < length table.now.names + 1) }
+{
+    match name {
+        None => Some(table.count()),
+        Some(occurrence) => number_of_name(table.resolve(occurrence)),
+    }
+}
+
+/// Puts a number last in the row of the node, if there is one.
+fn push_at(rows: &mut Vec<Vec<usize>>, node: Option<usize>, x: usize) -> Result<(), AllocError>
+    requires { IfSome node (λ n. n < length rows.old.items) }
+    ensures { OnOk result (GrowsBy (λ n. if is_number n node then x ∷ [] else []) (rows_of rows.old.items) (rows_of rows.new.items)) }
+{
+    match node {
+        None => Ok(()),
+        Some(n) => push_to(rows, n, x),
+    }
+}
+
+/// Where the pieces of each node stand, in the order of the source.
+pub(crate) fn pieces_by_node(
+    alloc: Global,
+    pieces: &[Piece],
+    table: &NameTable,
+) -> Result<Vec<Vec<usize>>, AllocError>
+    requires inside { ResolvesInside table.now }
+    requires names { All (λ p. IfSome p.name (λ name. name < length table.now.resolved)) pieces.now }
+    ensures { IfOk result (λ rows. IsRowsOf (length table.now.names + 1) (places_of table.now pieces.now) (rows_of rows.items)) }
+{
+    let mut rows = rows_for(alloc, table)?;
+    for (i, piece) in pieces.iter().enumerate() {
+        push_at(&mut rows, number_of(table, piece.name()), i)?;
+    }
+    Ok(rows)
+}
+
+/// An empty row for each name, and one for the program.
+fn rows_for(alloc: Global, table: &NameTable) -> Result<Vec<Vec<usize>>, AllocError>
+    ensures { IfOk result (λ rows. IsRowsOf (length table.now.names + 1) (λ _. []) (rows_of rows.items)) }
+{
+    let mut rows = empty_rows(alloc, table.count())?;
+    rows.push(Vec::new(alloc))?;
+    Ok(rows)
+}
+
+/// Puts the name last that an item uses, if it uses one.
+fn add_use(table: &NameTable, item: Item, row: &mut Vec<usize>) -> Result<(), AllocError>
+    requires { IsUseBelow (length table.now.resolved) item }
+    ensures { OnOk result (row.new.items ≡ row.old.items ++ used_by table.now item) }
+{
+    if let Item::UseOf(occurrence) = item {
+        if let Some(name) = number_of_name(table.resolve(occurrence)) {
+            row.push(name)?;
+        }
+    }
+    Ok(())
+}
+
+/// Puts the names last that the items use.
+fn add_uses(table: &NameTable, items: &[Item], row: &mut Vec<usize>) -> Result<(), AllocError>
+    requires { All (IsUseBelow (length table.now.resolved)) items.now }
+    ensures { OnOk result (row.new.items ≡ row.old.items ++ flat_map (used_by table.now) items.now) }
+{
+    for item in items {
+        add_use(table, *item, row)?;
+    }
+    Ok(())
+}
+
+/// Puts the names last that the items use, in the row of the node, if there is one.
+fn add_uses_at(
+    table: &NameTable,
+    items: &[Item],
+    rows: &mut Vec<Vec<usize>>,
+    node: Option<usize>,
+) -> Result<(), AllocError>
+    requires items { All (IsUseBelow (length table.now.resolved)) items.now }
+    requires node { IfSome node (λ n. n < length rows.old.items) }
+    ensures { OnOk result (GrowsBy (λ n. if is_number n node then flat_map (used_by table.now) items.now else []) (rows_of rows.old.items) (rows_of rows.new.items)) }
+{
+    match node {
+        None => Ok(()),
+        Some(n) => {
+            add_uses(table, items, &mut rows[n])?;
+            Ok(())
+        }
+    }
+}
+
+/// The names that the pieces of each node use, each as often as it is used.
+pub(crate) fn uses_by_node(
+    alloc: Global,
+    pieces: &[Piece],
+    table: &NameTable,
+) -> Result<Vec<Vec<usize>>, AllocError>
+    requires inside { ResolvesInside table.now }
+    requires uses { All (λ p. All (IsUseBelow (length table.now.resolved)) p.items) pieces.now }
+    requires names { All (λ p. IfSome p.name (λ name. name < length table.now.resolved)) pieces.now }
+    ensures { IfOk result (λ rows. IsRowsOf (length table.now.names + 1) (used_numbers table.now pieces.now) (rows_of rows.items)) }
+{
+    let mut rows = rows_for(alloc, table)?;
+    for piece in pieces {
+        let node = number_of(table, piece.name());
+        add_uses_at(table, piece.items(), &mut rows, node)?;
+    }
+    Ok(rows)
+}

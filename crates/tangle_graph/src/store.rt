@@ -1,0 +1,297 @@
+//! The store of a web's graph of names.
+ghost use Rattle.std.specs.Prelude.{◌≡◌, ◌++◌, ◌∷◌, [], ℕ, IfOk, OnOk, OnErr, IsSome, Contains, true, length};
+ghost use Rattle.tangle_names.specs.NameTable.{table_of};
+ghost use Rattle.tangle_expansion.specs.Kept.{kept_at, used_parts};
+ghost use Rattle.tangle_expansion.specs.Limits.{flat_of};
+ghost use Rattle.tangle_expansion.specs.Nodes.{IsGroupedBy};
+ghost use Rattle.tangle_expansion.specs.Projects.{project};
+ghost use Rattle.tangle_expansion.specs.Shapes.{Project};
+ghost use Rattle.tangle_expansion.specs.Slots.{filled};
+ghost use Rattle.tangle_expansion.specs.declared.nodes.Node.TheVariants as node_kind;
+ghost use Rattle.tangle_graph.specs.Faults.{AreGraphFaults};
+ghost use Rattle.tangle_graph.specs.Nodes.{number_in};
+ghost use Rattle.tangle_graph.specs.Ordering.{IsOrderIn};
+ghost use Rattle.tangle_graph.specs.Outputs.{outputs};
+ghost use Rattle.tangle_graph.specs.Rows.{texts_of};
+ghost use Rattle.tangle_graph.specs.Stores.{IsStoreOf, KeepsUsed, plan_uses_at, slots_at, title_in_store, contains_itself_at, is_expandable_at, weight_at, depth_at, uses_at, users_at, has_piece_at, pieces_of_node};
+
+use crate::faults::graph_faults;
+use crate::graph::Graph;
+use crate::measures::{depths, expandable, is_filled, weights};
+use crate::nodes::{nodes_by_node, nodes_of, number_of};
+use crate::outputs::outputs;
+use crate::texts::{filled_rows, texts_by_node};
+use digraph::self_containing;
+use std::alloc::{AllocError, Global};
+use std::marker::Model;
+use std::rc::Rc;
+use tangle_expansion::{
+    Expansion, Kept, Node, NodeText, Output, PiecesByNode, Work, expand, filled_plans_are_right,
+    names_resolve_inside,
+};
+use tangle_lines::{Fault, NoMemory};
+use tangle_names::{NameTable, names_are_the_full_names};
+use tangle_scan::Web;
+
+/// What is known of each node of a web: its pieces, which names it uses and what uses it, its weight and depth, whether it contains itself
+/// and whether it is expandable; and the output files.
+///
+/// A node is a full name or the unnamed program. It uses a name if one of its pieces has a use that resolves to the name. A node beyond a
+/// store's names counts there as one without a piece.
+#[derive(Drop)]
+pub struct Store {
+    names: Vec<Vec<u8>>,
+    pieces: Vec<Vec<usize>>,
+    uses: Vec<Vec<Node>>,
+    users: Vec<Vec<Node>>,
+    self_containing: Vec<bool>,
+    weights: Vec<u32>,
+    depths: Vec<u16>,
+    expandable: Vec<bool>,
+    outputs: Vec<Output>,
+    texts: Vec<Rc<NodeText>>,
+    faults: Vec<Fault>,
+    order: Vec<Node>,
+}
+
+impl Model for Store {
+    ghost use Rattle.tangle_graph.specs.Ordering.{IsOrderIn};
+    ghost use Rattle.tangle_graph.specs.StoreKept.{store_read};
+    ghost use Rattle.tangle_graph.specs.Stores.{StoreRead};
+
+    ghost Value = { StoreRead };
+
+    ghost view = { store_read };
+
+    ghost invariant = { λ s. IsOrderIn (store_read s) s.order.items };
+}
+
+/// The texts of the names.
+fn texts(alloc: Global, table: &NameTable) -> Result<Vec<Vec<u8>>, AllocError>
+    ensures { IfOk result (λ names. texts_of names.items ≡ table.now.names) }
+{
+    let mut names = Vec::with_capacity(alloc, table.count())?;
+    for id in 0..table.count() {
+        names.push(Vec::from_slice(alloc, table.text(id))?)?;
+    }
+    Ok(names)
+}
+
+impl Store {
+    /// The store of a web with its table of names, for a main file of this name.
+    ///
+    /// # Errors
+    ///
+    /// `NoMemory`, where a growth was refused.
+    pub fn build(alloc: Global, web: &Web, table: &NameTable, out: &[u8]) -> Result<Store, NoMemory>
+        requires { table.now ≡ table_of web.now }
+        ensures store { IfOk result (λ store. IsStoreOf (project web.now table.now) store) }
+        ensures names { IfOk result (λ store. store.names ≡ table.now.names) }
+        ensures outputs { IfOk result (λ store. store.outputs ≡ outputs web.now table.now out.now) }
+        ensures faults { IfOk result (λ store. AreGraphFaults web.now table.now out.now store.faults) }
+        ensures grouped { IfOk result (λ store. IsGroupedBy web.now table.now store.names (pieces_of_node store)) }
+    {
+        names_resolve_inside();
+        names_are_the_full_names();
+        filled_plans_are_right();
+        let graph = Graph::build(alloc, web, table)?;
+        let pieces: &[Vec<usize>] = &graph.pieces;
+        let uses: &[Vec<usize>] = &graph.uses;
+        let users: &[Vec<usize>] = &graph.users;
+        let order: &[usize] = &graph.order;
+        let weights = weights(alloc, web, table, pieces, uses, order)?;
+        let depths = depths(alloc, web, table, pieces, uses, order)?;
+        let expandable = expandable(alloc, pieces, &weights, &depths)?;
+        let has_piece = is_filled(&pieces[table.count()]);
+        let filled = filled_rows(alloc, pieces)?;
+        Ok(Store {
+            names: texts(alloc, table)?,
+            uses: nodes_by_node(alloc, table.count(), uses)?,
+            users: nodes_by_node(alloc, table.count(), users)?,
+            order: nodes_of(alloc, table.count(), order)?,
+            self_containing: self_containing(alloc, uses, users)?,
+            outputs: outputs(alloc, web, table, out, has_piece, &expandable)?,
+            texts: texts_by_node(alloc, web, table, &filled, pieces)?,
+            faults: graph_faults(alloc, web, table, out, pieces, uses, users, &expandable)?,
+            weights,
+            depths,
+            expandable,
+            pieces: graph.pieces,
+        })
+    }
+
+    /// The number of the node, if the store has it.
+    fn number(&self, node: Node) -> Option<usize>
+        ensures { result ≡ number_in (length self.now.names) node }
+    {
+        number_of(self.names.len(), node)
+    }
+
+    /// Whether the node has a piece.
+    pub fn has_piece(&self, node: Node) -> bool
+        ensures { result ≡ has_piece_at self.now node }
+    {
+        match self.number(node) {
+            Some(n) => match self.pieces.get(n) {
+                Some(row) => !row.is_empty(),
+                None => false,
+            },
+            None => false,
+        }
+    }
+
+    /// Whether the node contains itself: it reaches itself by one use or more.
+    pub fn self_containing(&self, node: Node) -> bool
+        ensures { result ≡ contains_itself_at self.now node }
+    {
+        match self.number(node) {
+            Some(n) => self.self_containing.get(n) == Some(&true),
+            None => false,
+        }
+    }
+
+    /// Whether the node is expandable: it has a piece, reaches no name that contains itself, weighs at most 16,777,216 and is at most 1,000
+    /// deep.
+    pub fn expandable(&self, node: Node) -> bool
+        ensures { result ≡ is_expandable_at self.now node }
+    {
+        match self.number(node) {
+            Some(n) => self.expandable.get(n) == Some(&true),
+            None => false,
+        }
+    }
+
+    /// The weight of the node: each byte of an item counts 1, and so do an opening, a closing, a mark, a use and the macros; a use counts the
+    /// weight of its name besides. What weighs more than 16,777,216, or reaches a name that contains itself, has 16,777,217.
+    pub fn weight(&self, node: Node) -> u32
+        ensures { result ≡ weight_at self.now node }
+    {
+        match self.number(node) {
+            Some(n) => match self.weights.get(n) {
+                Some(weight) => *weight,
+                None => 0,
+            },
+            None => 0,
+        }
+    }
+
+    /// The depth of the node: 0 without a piece, else one more than the greatest depth among the names that it uses. What is deeper than
+    /// 1,000, or reaches a name that contains itself, has 1,001.
+    pub fn depth(&self, node: Node) -> u16
+        ensures { result ≡ depth_at self.now node }
+    {
+        match self.number(node) {
+            Some(n) => match self.depths.get(n) {
+                Some(depth) => *depth,
+                None => 0,
+            },
+            None => 0,
+        }
+    }
+
+    /// The names that the node uses, each once.
+    pub fn uses(&self, node: Node) -> &[Node]
+        ensures { result.now ≡ uses_at self.now node }
+    {
+        match self.number(node) {
+            Some(n) => match self.uses.get(n) {
+                Some(row) => row.as_slice(),
+                None => &[],
+            },
+            None => &[],
+        }
+    }
+
+    /// The nodes that use this one, each once.
+    pub fn users(&self, node: Node) -> &[Node]
+        ensures { result.now ≡ users_at self.now node }
+    {
+        match self.number(node) {
+            Some(n) => match self.users.get(n) {
+                Some(row) => row.as_slice(),
+                None => &[],
+            },
+            None => &[],
+        }
+    }
+
+    /// The output files: the main file first, if the program has no piece or is expandable, and then each other file name with a piece that
+    /// is expandable, in the order of the first occurrences that are marked `@(`.
+    pub fn outputs(&self) -> &[Output]
+        ensures { result.now ≡ self.now.outputs }
+    {
+        self.outputs.as_slice()
+    }
+
+    /// The faults of the graph: names that are used and have no piece, names that are never used, names that contain themselves, nodes that
+    /// are too large, and names with `@(` that are the main file's, each kind in the order of the names with the program last; and at the end
+    /// that the program has no piece. A use in a piece that is dropped counts, an abbreviation too.
+    pub fn faults(&self) -> &[Fault]
+        ensures { result.now ≡ self.now.faults }
+    {
+        self.faults.as_slice()
+    }
+
+    /// Nodes of the store, each once and after the names that it uses; each that is expandable is among them.
+    pub fn order(&self) -> &[Node]
+        ensures { IsOrderIn self.now result.now }
+    {
+        self.order.as_slice()
+    }
+}
+
+impl PiecesByNode for Store {
+    ghost use Rattle.tangle_graph.specs.Stores.{pieces_of_node};
+
+    ghost names = { λ s. s.names };
+
+    ghost pieces = { pieces_of_node };
+
+    fn name_count(&self) -> usize {
+        self.names.len()
+    }
+
+    fn name_text(&self, id: usize) -> &[u8] {
+        self.names[id].as_slice()
+    }
+
+    fn piece_numbers(&self, node: Node) -> &[usize] {
+        match self.number(node) {
+            Some(n) => match self.pieces.get(n) {
+                Some(row) => row.as_slice(),
+                None => &[],
+            },
+            None => &[],
+        }
+    }
+}
+
+/// Expands a node: its own parts, with the expansions that are kept of the names with a piece that it uses where it uses them. The node goes
+/// last in the work's list.
+///
+/// # Errors
+///
+/// `NoMemory`, and then the work stays.
+pub fn expand_one(
+    alloc: Global,
+    store: &Store,
+    node: Node,
+    kept: &Kept,
+    work: &mut Work,
+) -> Result<Expansion, NoMemory>
+    requires expandable { is_expandable_at store.now node ≡ true }
+    requires kept { (id : ℕ) → Contains (plan_uses_at store.now node) id → IsSome (kept_at kept.now (node_kind.Name id)) }
+    ensures parts { IfOk result (λ e. e ≡ filled (used_parts kept.now) (slots_at store.now node)) }
+    ensures right { (project : Project) → IsStoreOf project store.now → KeepsUsed project store.now kept.now node
+        → IfOk result (λ e. e ≡ flat_of project (title_in_store store.now node)) }
+    ensures listed { OnOk result (work.new ≡ work.old ++ node ∷ []) }
+    ensures err { OnErr result (work.new ≡ work.old) }
+{
+    match store.number(node) {
+        Some(n) => match store.texts.get(n) {
+            Some(text) => expand(alloc, node, text, kept, work),
+            None => Err(NoMemory),
+        },
+        None => Err(NoMemory),
+    }
+}

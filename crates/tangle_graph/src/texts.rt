@@ -1,0 +1,84 @@
+//! The text and the plan of each node.
+ghost use Rattle.std.specs.Prelude.{◌≡◌, ◌<◌, IfOk, length, filter, All, slice_index_or, false};
+ghost use Rattle.digraph.specs.Graph.{rows_of};
+ghost use Rattle.tangle_expansion.specs.ItemCodes.{pieces_names};
+ghost use Rattle.tangle_expansion.specs.ItemSlots.{pieces_at, pieces_slots};
+ghost use Rattle.tangle_expansion.specs.Meaning.{title_of};
+ghost use Rattle.tangle_expansion.specs.NodeTexts.{plan_slots, plan_uses};
+ghost use Rattle.tangle_graph.specs.Nodes.{title_at};
+ghost use Rattle.tangle_graph.specs.Plans.{ArePlans, ArePiecesInside, AreFilled, slots_of, uses_of_plans};
+
+use crate::measures::is_filled;
+use std::alloc::{AllocError, Global};
+use std::rc::Rc;
+use tangle_expansion::{NodeText, plan_node};
+use tangle_lines::NoMemory;
+use tangle_names::NameTable;
+use tangle_scan::Web;
+
+/// A flag for each row: whether it has a number.
+pub(crate) fn filled_rows(alloc: Global, rows: &[Vec<usize>]) -> Result<Vec<bool>, AllocError>
+    ensures { IfOk result (λ flags. AreFilled (rows_of rows.now) flags.items) }
+{
+    let mut flags = Vec::new(alloc);
+    for row in rows {
+        flags.push(is_filled(row))?;
+    }
+    Ok(flags)
+}
+
+/// The name of the node with this number; the program has none.
+#[tactic(auto, using(crate::proofs::NodeLemmas::title_inside, crate::proofs::NodeLemmas::title_past))]
+fn name_of_node(alloc: Global, table: &NameTable, n: usize) -> Result<Option<Vec<u8>>, AllocError>
+    ensures { IfOk result (λ name. title_of name ≡ title_at table.now.names n) }
+{
+    if n < table.count() {
+        let name = Vec::from_slice(alloc, table.text(n))?;
+        Ok(Some(name))
+    } else {
+        Ok(None)
+    }
+}
+
+/// The text of the node with this number, which has the pieces with these numbers.
+fn text_of_node(
+    alloc: Global,
+    web: &Web,
+    table: &NameTable,
+    has_piece: &[bool],
+    n: usize,
+    numbers: &[usize],
+) -> Result<Rc<NodeText>, NoMemory>
+    requires numbers { All (λ i. i < length web.now.pieces) numbers.now }
+    requires ours { length table.now.resolved ≡ length web.now.occurrences }
+    ensures slots { IfOk result (λ text. plan_slots text.value
+        ≡ pieces_slots web.now.texts table.now (λ id. slice_index_or has_piece.now id false) (title_at table.now.names n) 0 (pieces_at web.now.pieces numbers.now)) }
+    ensures uses { IfOk result (λ text. plan_uses text.value
+        ≡ filter (λ id. slice_index_or has_piece.now id false) (pieces_names table.now (pieces_at web.now.pieces numbers.now))) }
+{
+    let name = name_of_node(alloc, table, n)?;
+    let text = plan_node(alloc, web, table, has_piece, name, numbers)?;
+    match Rc::new(alloc, text) {
+        Ok(text) => Ok(text),
+        Err(_) => Err(NoMemory),
+    }
+}
+
+/// The text of each node, by the numbers of its pieces.
+pub(crate) fn texts_by_node(
+    alloc: Global,
+    web: &Web,
+    table: &NameTable,
+    has_piece: &[bool],
+    pieces: &[Vec<usize>],
+) -> Result<Vec<Rc<NodeText>>, NoMemory>
+    requires inside { ArePiecesInside (length web.now.pieces) pieces.now }
+    requires ours { length table.now.resolved ≡ length web.now.occurrences }
+    ensures { IfOk result (λ texts. ArePlans web.now table.now (λ id. slice_index_or has_piece.now id false) (rows_of pieces.now) (slots_of texts.items) (uses_of_plans texts.items)) }
+{
+    let mut texts = Vec::with_capacity(alloc, pieces.len())?;
+    for (n, row) in pieces.iter().enumerate() {
+        texts.push(text_of_node(alloc, web, table, has_piece, n, row)?)?;
+    }
+    Ok(texts)
+}

@@ -1,0 +1,5 @@
+pub mod TableLemmas
+pub mod CommandLemmas
+pub mod TalkLemmas
+pub mod RunLemmas
+pub mod QuietTalk

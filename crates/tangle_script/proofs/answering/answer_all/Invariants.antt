@@ -1,0 +1,13 @@
+use Rattle.std.proofs.Common.{length}
+use Rattle.tangle_script.specs.Script.{telling}
+use Rattle.tangle_script.proofs.TalkLemmas.{IsUnder}
+use Rattle.tangle_script.proofs.answering.answer_all.Given as goal
+
+abbrev pub invariant-loop-found : goal.invariant-loop-found
+invariant-loop-found g l =
+    IsUnder g.P.Project.answers
+    (telling (g.P.Project.state l.initial.project) (g.S.Sink.stream l.initial.sink))
+    (telling (g.P.Project.state l.project) (g.S.Sink.stream l.sink)) l.bytes l.rest
+
+abbrev pub decreases-loop-found : goal.decreases-loop-found
+decreases-loop-found g l = length l.rest

@@ -1,0 +1,104 @@
+-- The table of script lines: what a command asks for.
+use Rattle.std.specs.Prelude.{ℕ, ◌+◌, ◌-◌, ◌*◌, ◌==◌, ◌&&◌, ◌||◌, Bool, true, false, nat_lt, nat_le, List, [], ◌∷◌, codes, length, take, drop, Option, None, Some, is_some, if◌then◌else◌}
+use Rattle.std.specs.Str.{bytes_eq}
+use Rattle.tangle_script.specs.declared.request.Request.{Request as Asked}
+use Rattle.tangle_script.specs.declared.request.Request.TheVariants as variant
+
+-- a script line, and the line after it where that is its text
+pub record Command : Type 0 where
+  pub line : List ℕ
+  pub text : Option (List ℕ)
+
+-- what it asks for
+pub data Request : Type 0 where
+  Insert : (at : ℕ) (file text : List ℕ) → Request
+  Replace : (at : ℕ) (file text : List ℕ) → Request
+  Remove : (at : ℕ) (file : List ℕ) → Request
+  Create : (file : List ℕ) → Request
+  Discard : (file : List ℕ) → Request
+  Show : (file : List ℕ) → Request
+  Faults : Request
+  Work : Request
+  Quit : Request
+  BadCommand : Request
+
+-- a request by the bytes of its file and text
+abbrev pub asked : Asked → Request
+asked (variant.Insert at file text) = Insert at file.now text.now
+asked (variant.Replace at file text) = Replace at file.now text.now
+asked (variant.Remove at file) = Remove at file.now
+asked (variant.Create file) = Create file.now
+asked (variant.Discard file) = Discard file.now
+asked (variant.Show file) = Show file.now
+asked variant.Faults = Faults
+asked variant.Work = Work
+asked variant.Quit = Quit
+asked variant.BadCommand = BadCommand
+
+-- what stands after a word at the front of a line
+abbrev pub after_word : List ℕ → List ℕ → Option (List ℕ)
+after_word word line = if bytes_eq (take (length word) line) word then Some (drop (length word) line) else None
+
+-- one to nine decimal digits and a space, and what stands after it; so many digits of this number came before
+abbrev pub number_and_file : ℕ → ℕ → List ℕ → Option (ℕ × List ℕ)
+number_and_file count number [] = None
+number_and_file count number (b ∷ bs) =
+    if nat_le 48 b && nat_le b 57 && nat_lt count 9 then number_and_file (count + 1) (number * 10 + (b - 48)) bs
+    else if (b == 32) && nat_lt 0 count then Some (number, bs)
+    else None
+
+-- the request of a row of the table, where the line begins with its word; else that of the rows after it
+abbrev pub row : Option (List ℕ) → (List ℕ → Request) → Request → Request
+row None request other = other
+row (Some rest) request other = request rest
+
+-- a number and a file after the word, or no row
+abbrev pub numbered : (ℕ → List ℕ → Request) → Option (ℕ × List ℕ) → Request
+numbered request None = BadCommand
+numbered request (Some p) = request p.0 p.1
+
+-- a line that is one word
+abbrev pub bare_request : List ℕ → Request
+bare_request line =
+    if bytes_eq line (codes "faults") then Faults
+    else if bytes_eq line (codes "work") then Work
+    else if bytes_eq line (codes "quit") then Quit
+    else BadCommand
+
+-- a line without a text
+abbrev pub file_request : List ℕ → Request
+file_request line =
+    row (after_word (codes "remove ") line) (λ rest. numbered Remove (number_and_file 0 0 rest))
+    (row (after_word (codes "create ") line) Create
+    (row (after_word (codes "discard ") line) Discard
+    (row (after_word (codes "show ") line) Show (bare_request line))))
+
+-- a line with a text
+abbrev pub text_request : List ℕ → List ℕ → Request
+text_request line text =
+    row (after_word (codes "insert ") line) (λ rest. numbered (λ at file. Insert at file text) (number_and_file 0 0 rest))
+    (row (after_word (codes "replace ") line) (λ rest. numbered (λ at file. Replace at file text) (number_and_file 0 0 rest)) BadCommand)
+
+abbrev pub request_with : List ℕ → Option (List ℕ) → Request
+request_with line None = file_request line
+request_with line (Some text) = text_request line text
+
+-- what a command asks for
+unfoldable pub request_of : Command → Request
+request_of c = request_with c.line c.text
+
+-- the next line is always the text of such a one
+abbrev pub takes_text : List ℕ → Bool
+takes_text line = is_some (after_word (codes "insert ") line) || is_some (after_word (codes "replace ") line)
+
+abbrev pub is_quit : Request → Bool
+is_quit Quit = true
+is_quit _ = false
+
+abbrev pub is_edit : Request → Bool
+is_edit (Insert at file text) = true
+is_edit (Replace at file text) = true
+is_edit (Remove at file) = true
+is_edit (Create file) = true
+is_edit (Discard file) = true
+is_edit _ = false

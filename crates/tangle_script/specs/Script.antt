@@ -1,0 +1,73 @@
+-- How a script is answered, and how a run of it ends.
+use Rattle.std.specs.Prelude.{◌≡◌, ◌<◌, ◌⊎◌, ℕ, Bool, true, false, List, [], ◌∷◌, ◌++◌, codes, length, take, Option}
+use Rattle.std.specs.List.{list_any}
+use Rattle.std.specs.Io.KnownBytes.{Appends}
+use Rattle.tangle_streams.specs.Streams.{Failed, Stream}
+use Rattle.tangle_script.specs.Requests.{Command, Request, is_edit, is_quit, request_of}
+
+-- a project and a writer at a moment
+pub record Telling (State : Type 0) : Type 0 where
+  pub state : State
+  pub stream : Stream
+
+abbrev pub telling : {State : Type 0} → State → Stream → Telling State
+telling state stream = record { state = state; stream = stream }
+
+-- and a reader
+pub record Talk (State : Type 0) : Type 0 where
+  pub telling : Telling State
+  pub coming : Option (List ℕ)
+  pub reader_failures : ℕ
+
+abbrev pub talk : {State : Type 0} → State → Stream → Option (List ℕ) → ℕ → Talk State
+talk state stream coming reader_failures = record { telling = telling state stream; coming = coming; reader_failures = reader_failures }
+
+-- some command ends the run
+abbrev pub has_quit : List Command → Bool
+has_quit commands = list_any (λ c. is_quit (request_of c)) commands
+
+-- A project says which text answers a request, and which state comes after it.
+module _ {State : Type 0} (answers : State → Request → List ℕ → State → Type 0) where
+  -- one answer: the project's own, or want of memory for an edit, which then changes nothing
+  abbrev pub Replies : State → Request → List ℕ → State → Type 0
+  Replies s r text t = answers s r text t ⊎ ((is_edit r ≡ true) × (text ≡ codes "no NoMemory\n") × (t ≡ s))
+
+  -- the answers to a list of commands, one after another
+  abbrev pub Dialogue : State → List Command → List ℕ → State → Type 0
+  Dialogue s [] text t = (text ≡ []) × (t ≡ s)
+  Dialogue s (c ∷ cs) text t =
+      (first rest : List ℕ) × (mid : State) × Replies s (request_of c) first mid × Dialogue mid cs rest t × (text ≡ first ++ rest)
+
+  -- these commands were answered, and the writer has just the answers and did not fail
+  pub record IsTold (old new : Telling State) (commands : List Command) : Type 0 where
+    pub text : List ℕ
+    pub answered : Dialogue old.state commands text new.state
+    pub told : Appends old.stream.taken new.stream.taken text
+    pub failures : new.stream.failures ≡ old.stream.failures
+
+  -- the writer failed, and has the answers to a front of the commands and a part of one more
+  pub record IsCut (old new : Telling State) (commands : List Command) : Type 0 where
+    pub front : List Command
+    pub last : Command
+    pub later : List Command
+    pub are : commands ≡ front ++ last ∷ later
+    pub unquit : has_quit front ≡ false
+    pub before : State
+    pub text : List ℕ
+    pub answer : List ℕ
+    pub answered : Dialogue old.state front text before
+    pub cut : Replies before (request_of last) answer new.state
+    pub count : ℕ
+    pub within : count < length answer
+    pub told : Appends old.stream.taken new.stream.taken (text ++ take count answer)
+    pub failed : Failed old.stream.failures new.stream.failures
+
+  -- the commands up to the first `quit` were answered
+  pub record IsQuit (old new : Telling State) (commands : List Command) : Type 0 where
+    pub front : List Command
+    pub last : Command
+    pub later : List Command
+    pub are : commands ≡ front ++ last ∷ later
+    pub unquit : has_quit front ≡ false
+    pub quit : is_quit (request_of last) ≡ true
+    pub told : IsTold old new (front ++ last ∷ [])

@@ -1,0 +1,48 @@
+-- The table of script lines, row by row.
+use Rattle.std.specs.Prelude.{◌≡◌, ◌<◌, ◌≤◌, ℕ, ◌+◌, ◌-◌, ◌*◌, ◌&&◌, Bool, true, nat_le, List, [], ◌∷◌, ◌++◌, codes, length, None, Some}
+use Rattle.std.specs.List.{list_all}
+use Rattle.tangle_script.specs.Requests.{Command, Request, request_of}
+use Rattle.tangle_script.specs.Requests.Request.{Insert, Replace, Remove, Create, Discard, Show, Faults, Work, Quit, BadCommand}
+
+abbrev pub is_digit : ℕ → Bool
+is_digit b = nat_le 48 b && nat_le b 57
+
+-- one to nine decimal digits
+pub record IsNumber (digits : List ℕ) : Type 0 where
+  pub some : 0 < length digits
+  pub few : length digits ≤ 9
+  pub decimal : list_all is_digit digits ≡ true
+
+-- the number that digits write, where the number before them is this
+abbrev pub value_after : ℕ → List ℕ → ℕ
+value_after n [] = n
+value_after n (d ∷ ds) = value_after (n * 10 + (d - 48)) ds
+
+-- a word, a number, one space and the name of a file, which may be empty
+pub record IsNumbered (word : List ℕ) (number : ℕ) (file line : List ℕ) : Type 0 where
+  pub digits : List ℕ
+  pub is_number : IsNumber digits
+  pub value : value_after 0 digits ≡ number
+  pub whole : line ≡ word ++ (digits ++ 32 ∷ file)
+
+-- a line, with its text if it takes one, is the row of the request
+abbrev pub IsRow : Command → Request → Type 0
+IsRow c (Insert at file text) = IsNumbered (codes "insert ") at file c.line × (c.text ≡ Some text)
+IsRow c (Replace at file text) = IsNumbered (codes "replace ") at file c.line × (c.text ≡ Some text)
+IsRow c (Remove at file) = IsNumbered (codes "remove ") at file c.line × (c.text ≡ None)
+IsRow c (Create file) = (c.line ≡ codes "create " ++ file) × (c.text ≡ None)
+IsRow c (Discard file) = (c.line ≡ codes "discard " ++ file) × (c.text ≡ None)
+IsRow c (Show file) = (c.line ≡ codes "show " ++ file) × (c.text ≡ None)
+IsRow c Faults = (c.line ≡ codes "faults") × (c.text ≡ None)
+IsRow c Work = (c.line ≡ codes "work") × (c.text ≡ None)
+IsRow c Quit = (c.line ≡ codes "quit") × (c.text ≡ None)
+IsRow c BadCommand = ⊥
+
+-- a command asks for the request of its row; one that is no row is a bad command
+abbrev pub Asks : Command → Request → Type 0
+Asks c BadCommand = (r : Request) → IsRow c r → ⊥
+Asks c r = IsRow c r
+
+-- a command asks for one request, which is the one that the table of answers is about
+abbrev pub AsksForItsRow : Command → Type 0
+AsksForItsRow c = Asks c (request_of c) × ((r : Request) → Asks c r → r ≡ request_of c)

@@ -1,0 +1,48 @@
+-- A run that goes on, turn by turn, and why one ends it.
+use Rattle.std.specs.Prelude.{◌≡◌, ◌<◌, ◌⊎◌, ℕ, Bool, true, false, List, [], ◌∷◌, length, Option, None, Some}
+use Rattle.std.specs.Io.KnownBytes.{Consumes, IsAtEnd, Keeps}
+use Rattle.tangle_streams.specs.Streams.{one_more_failure}
+use Rattle.tangle_script.specs.Requests.{Command, Request}
+use Rattle.tangle_script.specs.Commands.{ended_commands, kept}
+use Rattle.tangle_script.specs.Script.{IsCut, IsQuit, IsTold, Talk, Telling, has_quit}
+use Rattle.tangle_script.specs.Endings.{TalkEnds, status_of}
+use Rattle.tangle_script.specs.declared.answering.End.{End}
+use Rattle.tangle_script.specs.declared.answering.End.TheVariants.{Done, Failed as IsFailed}
+
+module _ {State : Type 0} (answers : State → Request → List ℕ → State → Type 0) where
+  -- the commands in some bytes were answered, up to a `quit` or a failure of the writer
+  abbrev pub Breaks : End → Telling State → Telling State → List Command → Type 0
+  Breaks Done old new commands = IsQuit answers old new commands
+  Breaks IsFailed old new commands = IsCut answers old new commands
+
+  -- and so, or no memory was left for the bytes that are kept
+  abbrev pub Stops : End → Telling State → Telling State → List ℕ → Type 0
+  Stops Done old new bytes = IsQuit answers old new (ended_commands bytes)
+  Stops IsFailed old new bytes =
+      IsCut answers old new (ended_commands bytes)
+      ⊎ (IsTold answers old new (ended_commands bytes) × (has_quit (ended_commands bytes) ≡ false) × (0 < length (kept bytes)))
+
+  -- so many bytes were read, the commands that ended in them are answered, and these bytes are kept
+  pub record Holds (old now : Talk State) (pending : List ℕ) (count : ℕ) : Type 0 where
+    pub read : List ℕ
+    pub given : Consumes old.coming now.coming read
+    pub counted : length read ≡ count
+    pub reader_failures : now.reader_failures ≡ old.reader_failures
+    pub unquit : has_quit (ended_commands read) ≡ false
+    pub told : IsTold answers old.telling now.telling (ended_commands read)
+    pub pending_is : pending ≡ kept read
+
+  -- why a run ends
+  abbrev pub EndsBy : (State → Bool) → End → Talk State → Talk State → Type 0
+  EndsBy has_error Done old new = TalkEnds answers has_error old new (status_of (has_error new.telling.state))
+  EndsBy has_error IsFailed old new = TalkEnds answers has_error old new 3
+
+-- whether more of a script comes
+abbrev pub Probes : Option (List ℕ) → Option (List ℕ) → Option Bool → Type 0
+Probes old new None = Keeps old new
+Probes old new (Some true) = Consumes old new [] × IsAtEnd new
+Probes old new (Some false) = (b : ℕ) × Consumes old new (b ∷ [])
+
+abbrev pub counted_probe : ℕ → Option Bool → ℕ
+counted_probe failures None = one_more_failure failures
+counted_probe failures (Some end) = failures

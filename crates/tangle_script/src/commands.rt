@@ -1,0 +1,77 @@
+//! The commands in some bytes of a script.
+ghost use Rattle.std.specs.Prelude.{◌≡◌, ◌<◌, ℕ, List, [], ◌∷◌, ◌++◌, length, nat_lt, IfSome, IfNone, Option, None, Some};
+ghost use Rattle.std.specs.Option.{option_copied};
+ghost use Rattle.tangle_script.specs.Requests.{takes_text};
+ghost use Rattle.tangle_script.specs.Commands.{OnlyWaits, all_commands, alone, ended, ended_commands, found_commands, kept, unended};
+
+use crate::request::wants_text;
+use memchr::memchr;
+
+/// A line, its text if it takes one, and the bytes after them.
+#[derive(Clone, Copy, Drop)]
+pub struct Found<'a> {
+    pub line: &'a [u8],
+    pub text: Option<&'a [u8]>,
+    pub rest: &'a [u8],
+}
+
+/// The first line, and the bytes after its line feed.
+fn split_line(bytes: &[u8]) -> Option<(&[u8], &[u8])>
+    ensures some { IfSome result (λ p. (ended [] bytes.now ≡ p.0.now ∷ ended [] p.1.now) × (unended [] bytes.now ≡ unended [] p.1.now) × (bytes.now ≡ p.0.now ++ 10 ∷ p.1.now)) }
+    ensures none { IfNone result ((ended [] bytes.now ≡ []) × (unended [] bytes.now ≡ bytes.now)) }
+{
+    match memchr(b'\n', bytes) {
+        Some(end) => Some((&bytes[..end], &bytes[end + 1..])),
+        None => None,
+    }
+}
+
+/// Whether a line ends in the bytes.
+pub fn ends_a_line(bytes: &[u8]) -> bool
+    ensures { result ≡ nat_lt 0 (length (ended [] bytes.now)) }
+{
+    match split_line(bytes) {
+        Some(_) => true,
+        None => false,
+    }
+}
+
+/// The first command that has ended.
+pub fn first_command(bytes: &[u8]) -> Option<Found<'_>>
+    ensures commands { IfSome result (λ f. ended_commands bytes.now ≡ found_commands f.line.now (option_copied f.text) ++ ended_commands f.rest.now) }
+    ensures kept { IfSome result (λ f. kept bytes.now ≡ kept f.rest.now) }
+    ensures rest { IfSome result (λ f. (front : List ℕ) × (bytes.now ≡ front ++ f.rest.now) × (0 < length front)) }
+    ensures none { IfNone result ((ended_commands bytes.now ≡ []) × (kept bytes.now ≡ bytes.now)) }
+{
+    let (line, rest) = split_line(bytes)?;
+    if !wants_text(line) {
+        return Some(Found {
+            line,
+            text: None,
+            rest,
+        });
+    }
+    let (text, rest) = split_line(rest)?;
+    Some(Found {
+        line,
+        text: Some(text),
+        rest,
+    })
+}
+
+/// The command at the end of a script: a line without a line feed, or one whose text has not ended.
+pub fn last_parts(bytes: &[u8]) -> (&[u8], Option<&[u8]>)
+    requires { OnlyWaits bytes.now }
+    ensures { all_commands bytes.now ≡ found_commands result.0.now (option_copied result.1) }
+{
+    match split_line(bytes) {
+        None => (bytes, None),
+        Some((line, text)) => {
+            if text.is_empty() {
+                (line, None)
+            } else {
+                (line, Some(text))
+            }
+        }
+    }
+}

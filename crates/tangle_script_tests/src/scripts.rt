@@ -1,0 +1,97 @@
+//! Runs over a script: what is answered, and the status.
+use crate::support::{Letters, Pieces};
+use std::alloc::Global;
+use std::process::Abort;
+use std::test::Fail;
+use tangle_script::run_script;
+use tangle_streams::{Feed, IoFeed, IoSink, Sink};
+
+/// Each row of the table, in malformed forms too: an empty line is nothing, but a text where one is taken.
+const SCRIPT: &[u8] =
+    b"work\n\ninsert 1 a.w\n\nshow a.c\nreplace 2 a.w\nquit\nremove 1 a.w\n\xff\x00\ncreate \ncreate\ndiscard a\ninsert x\nwork\nfaults\nquit\nwork\nrepl";
+
+/// Its answers.
+const ANSWERS: &[u8] = b"w\ni\ns\nr\nm\nb\nc\nb\nd\nb\nf\nq\n";
+
+// A run over these pieces writes the answers and ends with the status.
+fn check_pieces(rt: &impl Abort, alloc: Global, mut feed: Pieces<'_>, answers: &[u8], status: u8) {
+    let mut project = Letters::new();
+    let mut told: Vec<u8> = Vec::new(alloc);
+    let ended = {
+        let mut sink = IoSink::new(&mut told);
+        run_script(alloc, &mut project, &mut feed, &mut sink)
+    };
+    assert!(rt; told.as_slice() == answers);
+    assert_eq!(rt; ended, status);
+}
+
+#[test]
+fn answers_in_any_pieces(rt: HostRuntime) -> Result<(), Fail> {
+    for size in 1..SCRIPT.len() {
+        check_pieces(&rt, rt.alloc(), Pieces::new(SCRIPT, size), ANSWERS, 0);
+    }
+    Ok(())
+}
+
+#[test]
+fn ends_of_scripts(rt: HostRuntime) -> Result<(), Fail> {
+    let alloc = rt.alloc();
+    check_pieces(&rt, alloc, Pieces::new(b"", 9), b"", 0);
+    check_pieces(&rt, alloc, Pieces::new(b"\n\n", 9), b"", 0);
+    check_pieces(&rt, alloc, Pieces::new(b"work", 2), b"w\n", 0);
+    check_pieces(&rt, alloc, Pieces::new(b"quit", 9), b"q\n", 0);
+    check_pieces(&rt, alloc, Pieces::new(b"insert 1 a\n", 3), b"b\n", 0);
+    check_pieces(&rt, alloc, Pieces::new(b"insert 1 a", 3), b"b\n", 0);
+    check_pieces(&rt, alloc, Pieces::new(b"insert 1 a\n\n", 3), b"i\n", 1);
+    check_pieces(&rt, alloc, Pieces::new(b"insert 1 a\ny", 3), b"i\n", 1);
+    check_pieces(
+        &rt,
+        alloc,
+        Pieces::new(b"create a\ncreate b", 5),
+        b"c\nc\n",
+        0,
+    );
+    Ok(())
+}
+
+// A reader that gives these bytes and then fails.
+fn check_failing(rt: &impl Abort, alloc: Global, script: &[u8], answers: &[u8]) {
+    for size in 1..12 {
+        let mut feed = Pieces::new(script, size);
+        feed.fails = true;
+        check_pieces(rt, alloc, feed, answers, 3);
+    }
+}
+
+#[test]
+fn failing_readers(rt: HostRuntime) -> Result<(), Fail> {
+    let alloc = rt.alloc();
+    check_failing(&rt, alloc, b"", b"");
+    check_failing(&rt, alloc, b"work\nrepl", b"w\n");
+    check_failing(&rt, alloc, b"work\nreplace 1 a.w\nint y", b"w\n");
+    check_failing(&rt, alloc, b"work\nreplace 1 a.w\n", b"w\n");
+    check_failing(&rt, alloc, b"work\nquit", b"w\n");
+    Ok(())
+}
+
+// A run over the script, with a writer that takes so many bytes, writes a front of the answers.
+fn check_full_writer(rt: &impl Abort, alloc: Global, room: &mut [u8]) {
+    let mut project = Letters::new();
+    let mut feed = IoFeed::new(SCRIPT);
+    let (ended, failures) = {
+        let mut sink = IoSink::new(&mut *room);
+        let ended = run_script(alloc, &mut project, &mut feed, &mut sink);
+        (ended, sink.failures())
+    };
+    assert!(rt; ANSWERS.starts_with(room));
+    assert_eq!(rt; (ended, failures, feed.failures()), (3, 1, 0));
+}
+
+#[test]
+fn full_writers(rt: HostRuntime) -> Result<(), Fail> {
+    for size in 0..ANSWERS.len() {
+        let mut room = Vec::from_elem(rt.alloc(), 0u8, size)?;
+        check_full_writer(&rt, rt.alloc(), room.as_mut_slice());
+    }
+    Ok(())
+}

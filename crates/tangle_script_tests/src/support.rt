@@ -1,0 +1,155 @@
+//! A project that answers each request by its letter, and readers that give a script in pieces or fail.
+ghost use Rattle.std.specs.Prelude.{◌≡◌, ◌≤◌, ⊤, ℕ, ◌==◌, length, Some};
+ghost use Rattle.tangle_streams.specs.Feeds.{counted_read};
+
+use tangle_script::{Project, Request};
+use tangle_streams::{Feed, Sink, WriteFault, put};
+
+/// It counts its edits, and one edit is an error.
+#[derive(Debug, Drop)]
+pub struct Letters {
+    pub edits: u64,
+}
+
+impl Letters {
+    /// A project without edits.
+    pub fn new() -> Letters {
+        Letters { edits: 0 }
+    }
+}
+
+// The answer to the request.
+fn letter(request: &Request<'_>) -> &'static [u8]
+    ensures { length result.now ≡ 2 }
+{
+    match request {
+        Request::Insert { .. } => b"i\n",
+        Request::Replace { .. } => b"r\n",
+        Request::Remove { .. } => b"m\n",
+        Request::Create { .. } => b"c\n",
+        Request::Discard { .. } => b"d\n",
+        Request::Show { .. } => b"s\n",
+        Request::Faults => b"f\n",
+        Request::Work => b"w\n",
+        Request::Quit => b"q\n",
+        Request::BadCommand => b"b\n",
+    }
+}
+
+fn is_edit(request: &Request<'_>) -> bool {
+    matches!(
+        request,
+        Request::Insert { .. }
+            | Request::Replace { .. }
+            | Request::Remove { .. }
+            | Request::Create { .. }
+            | Request::Discard { .. }
+    )
+}
+
+impl Project for Letters {
+    ghost State = { ℕ };
+
+    ghost state = { λ project. project.edits };
+
+    ghost answers = { λ s r text t. ⊤ };
+
+    ghost has_error = { λ s. s == 1 };
+
+    fn answer<S: Sink>(&mut self, request: &Request<'_>, sink: &mut S) -> Result<u128, WriteFault> {
+        if is_edit(request) {
+            self.edits = self.edits.saturating_add(1);
+        }
+        put(sink, Ok(0), letter(request))
+    }
+
+    fn has_error(&self) -> bool {
+        self.edits == 1
+    }
+}
+
+/// A script in pieces of this size, after which the reader fails if it is so told.
+#[derive(Drop)]
+pub struct Pieces<'a> {
+    pub left: &'a [u8],
+    pub size: usize,
+    pub fails: bool,
+    pub failures: u64,
+}
+
+impl<'a> Pieces<'a> {
+    /// A script in pieces.
+    pub fn new(left: &'a [u8], size: usize) -> Pieces<'a> {
+        Pieces {
+            left,
+            size,
+            fails: false,
+            failures: 0,
+        }
+    }
+}
+
+impl<'a> Feed for Pieces<'a> {
+    ghost coming = { λ feed. Some feed.left.now };
+
+    ghost failures = { λ feed. feed.failures };
+
+    fn fill(&mut self, room: &mut [u8]) -> Option<usize> {
+        if self.left.is_empty() && self.fails {
+            self.failures = self.failures.saturating_add(1);
+            return None;
+        }
+        let count = self.size.max(1).min(self.left.len()).min(room.len());
+        let (front, back) = self.left.split_at(count);
+        room[..count].copy_from_slice(front);
+        self.left = back;
+        Some(count)
+    }
+
+    fn failures(&self) -> u64 {
+        self.failures
+    }
+}
+
+/// A front of a script, so many equal bytes, and a back, in pieces of this size.
+#[derive(Drop)]
+pub struct Long<'a> {
+    pub front: &'a [u8],
+    pub byte: u8,
+    pub count: usize,
+    pub back: &'a [u8],
+    pub size: usize,
+}
+
+// Gives the first bytes of the text, as many as there is room for, and leaves the others.
+fn give_front(text: &mut &[u8], room: &mut [u8]) -> usize
+    ensures within { result ≤ length room.old }
+    ensures length { length room.new ≡ length room.old }
+{
+    let count = text.len().min(room.len());
+    let (front, back) = text.split_at(count);
+    room[..count].copy_from_slice(front);
+    *text = back;
+    count
+}
+
+impl<'a> Feed for Long<'a> {
+    ghost failures = { λ _. 0 };
+
+    fn fill(&mut self, room: &mut [u8]) -> Option<usize> {
+        if !self.front.is_empty() {
+            return Some(give_front(&mut self.front, room));
+        }
+        if self.count == 0 {
+            return Some(give_front(&mut self.back, room));
+        }
+        let count = self.size.max(1).min(self.count).min(room.len());
+        room[..count].fill(self.byte);
+        self.count -= count;
+        Some(count)
+    }
+
+    fn failures(&self) -> u64 {
+        0
+    }
+}

@@ -1,0 +1,84 @@
+//! Expansions of a long nest of names.
+ghost use Rattle.std.specs.Prelude.{◌≡◌};
+ghost use Rattle.tangle_names.specs.NameTable.{table_of};
+
+use crate::support::{files_with, read};
+use std::alloc::Global;
+use std::rc::Rc;
+use std::test::Fail;
+use tangle_expansion::{Expansion, Kept, Node, Numbers, Work, are_uses_kept, expand, plan_node};
+use tangle_folders::MemorySink;
+use tangle_names::NameTable;
+use tangle_scan::{Web, scan};
+
+// A web of so many sections: each but the last uses the name of the next.
+fn nested(alloc: Global, count: usize) -> Result<Vec<u8>, Fail> {
+    let mut text = Vec::new(alloc);
+    for number in 1..count {
+        let section = format!(in alloc; "@ @<n{}@>=\n@<n{}@>\n", number - 1, number)?;
+        text.extend_from_slice(section.as_bytes())?;
+    }
+    let last = format!(in alloc; "@ @<n{}@>=\n1\n", count.saturating_sub(1))?;
+    text.extend_from_slice(last.as_bytes())?;
+    Ok(text)
+}
+
+// Expands the name that has the piece of the same number, and keeps the expansion.
+fn expand_name(
+    alloc: Global,
+    web: &Web,
+    table: &NameTable,
+    has_piece: &[bool],
+    id: usize,
+    kept: &mut Kept,
+    work: &mut Work,
+) -> Result<(), Fail>
+    requires { table.now ≡ table_of web.now }
+{
+    if id >= web.pieces().len() {
+        return Err(Fail::from("there is no such piece"));
+    }
+    let text = plan_node(alloc, web, table, has_piece, None, &[id])?;
+    if !are_uses_kept(&text, kept) {
+        return Err(Fail::from("a use is not kept"));
+    }
+    let node = Rc::new(alloc, text)?;
+    let expansion = expand(alloc, Node::name(id), &node, kept, work)?;
+    kept.put(Node::name(id), expansion)?;
+    Ok(())
+}
+
+// The expansion of the first name of the nest; the expansions of the others are let go.
+fn nest(alloc: Global, count: usize) -> Result<Expansion, Fail> {
+    let text = nested(alloc, count)?;
+    let files = files_with(alloc, &[(b"a.w", &text)])?;
+    let source = read(alloc, &files, None)?;
+    let web = scan(alloc, &source)?;
+    let table = NameTable::build(alloc, &web)?;
+    let has_piece = vec![in alloc; true; count]?;
+    let mut kept = Kept::new(alloc);
+    let mut work = Work::new(alloc);
+    for id in 0..count {
+        let id = count - 1 - id;
+        expand_name(alloc, &web, &table, &has_piece, id, &mut kept, &mut work)?;
+    }
+    match kept.get(Node::name(0)) {
+        Some(expansion) => Ok(expansion.share()?),
+        None => Err(Fail::from("the first name is not expanded")),
+    }
+}
+
+// of the last node 27 bytes, and of each other one 39
+#[test]
+fn a_nest_of_4000_uses_is_expanded_shared_written_and_let_go(rt: HostRuntime) -> Result<(), Fail> {
+    let alloc = rt.alloc();
+    let expansion = nest(alloc, 4001)?;
+    let shared = expansion.share()?;
+    drop(expansion);
+    let numbers = Numbers::none(alloc);
+    let mut sink = MemorySink::new(alloc, 1_000_000);
+    let written = shared.put_text(&numbers, &mut sink, Ok(0));
+    assert!(rt; written == Ok(4000 * 39 + 27));
+    assert_eq!(rt; sink.bytes().len(), 4000 * 39 + 27);
+    Ok(())
+}
