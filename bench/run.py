@@ -90,18 +90,6 @@ def count_by_valgrind(command, folder, told='/dev/full'):
     return int(found.group(1).replace(',', '')) if found else None
 
 
-def count_inside(function, command, folder):
-    """The instructions spent in a function of the program and in what it calls."""
-    if not shutil.which('callgrind_annotate'):
-        return None
-    with tempfile.NamedTemporaryFile('r') as log, open('/dev/full', 'w') as full:
-        valgrind = ['valgrind', '--tool=callgrind', '--callgrind-out-file=' + log.name]
-        subprocess.run(valgrind + ['-q'] + command, cwd=folder, stdout=subprocess.DEVNULL, stderr=full)
-        report = subprocess.run(['callgrind_annotate', '--inclusive=yes', log.name], capture_output=True, text=True)
-    found = re.search(r'^\s*([\d,]+) .*:' + re.escape(function) + r' ', report.stdout, re.M)
-    return int(found.group(1).replace(',', '')) if found else None
-
-
 def find_counter():
     for tool, counter in (('perf', count_by_perf), ('valgrind', count_by_valgrind)):
         if shutil.which(tool) and counter(['true'], '.'):
@@ -181,17 +169,16 @@ def per(total, count, unit):
 
 
 def bench_names(bench):
-    # The table of names is built, and the text written, in one function once the web is scanned. What names take of
-    # memory is told from a web with control texts in their place.
+    # What names take, in time and memory, is told from a web with control texts in their place. A run whose faults can't be
+    # told ends when the session is started: the table of names, the graph and the expansions are made, and no text.
     rows = []
     for count in (1000, 10000, 50000, 100000):
         named, plain = (bench.folder({'a.w': webs.names(count, as_names) + [UNTOLD]}) for as_names in (True, False))
-        inside = count_inside('ctangle_cli::tangling::tangle_web', [bench.program, 'a'], named)
+        with_names, without = bench.instructions(named, ['a']), bench.instructions(plain, ['a'])
         run, scanned = bench.measure(named, ['a'], runs=1), bench.measure(plain, ['a'], runs=1)
-        rows.append(['{:,} names'.format(count), per(inside, 2 * count, 1), run.seconds,
+        rows.append(['{:,} names'.format(count), per(with_names and with_names - without, 2 * count, 1), run.seconds,
                      (run.kilobytes - scanned.kilobytes) / 1024])
-    table('Names, each defined once and used once by an abbreviation: their table, and the text written '
-          '(wanted: at most 3,000 instructions an occurrence and 32 MB at 50,000 names)',
+    table('Names, each defined once and used once by an abbreviation: their table, their graph and expansions',
           ['', 'instructions an occurrence', 'seconds of the run', 'MB of names'], rows)
 
 
@@ -205,9 +192,12 @@ def bench_whole(bench):
         folder = bench.folder({'a.w': lines})
         ours = bench.whole(folder, bench.program, len(lines))
         theirs = bench.whole(folder, other, len(lines)) if other else None
-        rows.append([name] + ours.cells() + (theirs.cells() if theirs else ['-'] * 4) + ours.ratios(theirs))
-    table('Whole runs; the other is %s' % (other or 'none on the path'),
-          ['', 'seconds', 'instructions per 1,000 lines', 'KB', 'status', 'other: seconds', 'instructions', 'KB', 'status',
+        size = sum(len(line) + 1 for line in lines)
+        held = (ours.run.kilobytes - bench.least) * 1024 / size
+        rows.append([name] + ours.cells() + [held] + (theirs.cells() if theirs else ['-'] * 4) + ours.ratios(theirs))
+    table('Whole runs (wanted: at most 2,200,000 instructions per 1,000 lines, flat; at most 7.5 bytes of memory a byte); '
+          'the other is %s' % (other or 'none on the path'),
+          ['', 'seconds', 'instructions per 1,000 lines', 'KB', 'status', 'memory per byte', 'other: seconds', 'instructions', 'KB', 'status',
            'seconds, ctangle to it', 'instructions, to it'], rows)
 
 

@@ -4,26 +4,50 @@
 @* Primes. This program prints the primes below |LIMIT|, a line of them, and how many there are.
 A number is prime if the sieve of the included file leaves it standing.
 
+What stands in angle brackets is the name of a part that is told in sections of its own. Its text
+goes where the name stands. A name that begins like one other may be cut short with three dots.
+
 @c
 #include <stdio.h>
+#include "primes.h"
 
+@<Bound of the search@>
+@<Numbers that...@>
+
+int print_primes(void)
+{
+    int count = 0;
+    @<Cross out the multiples of each prime@>
+    @<Print the numbers that are left, and count them@>
+    return count;
+}
+
+int main(void)
+{
+    int count = print_primes();
+    printf("%d primes below %d\n", count, LIMIT);
+    return 0;
+}
+
+@ The bound stands alone, so that a change file can put another in its place.
+
+@<Bound of the search@>=
 enum { LIMIT = 50 };
 
 @i sieve.w
 
-@ The main program goes through the numbers that the sieve left, and counts them as it prints them.
-
-@c
-int main(void)
-{
-    int count = 0;
-    cross_out_multiples();
-    for (int n = 2; n < LIMIT; n++) {
-        if (is_composite[n])
-            continue;
-        printf("%d ", n);
-        count++;
-    }
-    printf("\n%d primes below %d\n", count, LIMIT);
-    return 0;
+@ @<Print the numbers that are left, and count them@>=
+for (int n = 2; n < LIMIT; n++) {
+    if (is_composite[n])
+        continue;
+    printf("%d ", n);
+    count++;
 }
+printf("\n");
+
+@ A name that begins with an at sign and a parenthesis is that of a file, which is made beside the
+main file. Other programs can take the function from it.
+
+@(out/primes.h@>=
+/* prints the primes below the bound on one line, and gives their number */
+int print_primes(void);

@@ -22,7 +22,7 @@ count() { # LOG
 rt ci 2>&1 | tee bin/gate.log
 count bin/gate.log
 
-cp crates/ctangle/out/ctangle bin/
+cp crates/ctangle/out/ctangle crates/retangle/out/retangle bin/
 tests/run.sh 2>&1 | tee bin/tests.log
 count bin/tests.log
 

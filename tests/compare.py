@@ -8,7 +8,7 @@ usage: compare.py generated STAGE CTANGLE FIRST COUNT      generated webs, by th
 STAGE is front or whole. A program at front reads, scans and resolves names: the main file has the unnamed pieces
 alone, and the faults are those that need no graph of names. Whole is all that ctangle does: every output file, all
 faults and the status.
-RETANGLE is a program that reads scripts; the crates here have none.
+RETANGLE is a program that reads scripts.
 --no-lists: retangle knows no lists of edits and no setting for line marks.
 --all-work: the last work is the number of all nodes that can be expanded.
 The last line is 'N passed, M failed'.

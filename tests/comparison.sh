@@ -1,4 +1,4 @@
-# 2,100 generated webs (and two that are too large), short webs, and webs cut after every byte, against the reference tangler. The file tests/stage says how much the
+# 2,100 generated webs (and two that are too large), short webs, webs cut after every byte, and 4,000 projects with scripts, against the reference tangler. The file tests/stage says how much the
 # built ctangle does: front or whole (tests/compare.py).
 
 compare() { # NAME WORD..
@@ -14,4 +14,5 @@ test_comparison() {
     for group in scanning names; do
         compare "cut webs of $group" cut "$stage" "$room/ctangle" "$top/tests/cases/$group"/*/in/a.w
     done
+    compare 'scripts' scripts "${RETANGLE:-$top/bin/retangle}" 0 4000 --no-lists
 }

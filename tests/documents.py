@@ -99,19 +99,20 @@ def check_map(crates, text):
 # ------------------------------------------------------------------ the conversation
 
 def check_conversation(top):
-    """What stands behind '$ programs.py retangle . a': lines that begin with > are typed, over the file shown before."""
+    """What stands behind '$ retangle a': lines that begin with > are typed, over the file shown before."""
     path = os.path.join(top, 'docs', 'sessions.md')
     if not os.path.exists(path):
         return
     with open(path, encoding='utf-8') as source:
         blocks = re.findall(r'(?:^(?:    .*)?\n)*^    .*\n', source.read(), re.M)
-    at = next(number for number, block in enumerate(blocks) if '$ programs.py retangle . a\n' in block)
+    at = next(number for number, block in enumerate(blocks) if '$ retangle a\n' in block)
     web, talk = (re.sub('^    ', '', block, flags=re.M).strip('\n') + '\n' for block in blocks[at - 1:at + 1])
     lines = talk.splitlines(True)[1:]
     typed = ''.join(line[2:] for line in lines if line.startswith('> '))
     answered = ''.join(line for line in lines if not line.startswith('> '))
     session = Session(add([], b'a.w', web.encode()), Roles(b'a.w', None, b'a.c'))
-    check(Script(session, typed.encode()).written == answered.encode(), 'docs/sessions.md', 'another conversation')
+    done = Script(session, typed.encode(), has_lists=False)
+    check(done.written == answered.encode(), 'docs/sessions.md', 'another conversation')
 
 
 def check_readme(top):

@@ -12,6 +12,7 @@ test_limits() {
     test_long_name
     test_depth
     test_weight
+    test_graphs
 }
 
 repeated() { # COUNT TEXT
@@ -266,4 +267,20 @@ test_many() {
     [ "$stage" = front ] || must_end 1 'error: too large: the unnamed program'
     [ "$stage" = front ] || rm "$case/want/a.c"
     run_case '19,500,000 bytes of C in one part' "$case"
+}
+
+# Webs whose names use each other in ways that a careless tangler takes forever for, or a stack without end.
+test_graphs() {
+    python3 -B "$top/tests/hostile.py" >"$room/graphs"
+    while IFS= read -r graph; do
+        begin_case a
+        python3 -B "$top/tests/hostile.py" "$graph" "$case"
+        run_case "$graph" "$case" measured
+        microseconds=$(cut -d ' ' -f 1 "$room/used")
+        if [ "$microseconds" -lt 5000000 ]; then
+            pass
+        else
+            fail "$graph" "$microseconds microseconds, not under 5 s"
+        fi
+    done <"$room/graphs"
 }

@@ -6,7 +6,8 @@ test_memory() {
         return
     fi
     for name in reading/one-web-makes-one-c-file reading/change-past-the-end-of-an-included-file \
-        programs/longer-output-is-replaced; do
+        programs/longer-output-is-replaced output/name-over-two-sections-and-a-named-file \
+        output/names-that-contain-each-other-have-no-output; do
         refuse_each_growth "${name#*/}" "$top/tests/cases/$name"
     done
     test_crates
@@ -36,8 +37,8 @@ refuse_each_growth() { # NAME CASE
     if [ "$refused" -gt 0 ]; then pass; else fail "$1" 'no refused growth ended a run'; fi
 }
 
-# Whether a run with a refused growth ended with status 3, at most the line that says so, and at most
-# prefixes of its files, or did without that memory and ended as ever.
+# Whether a run with a refused growth ended with status 3, at most the line that says so, alone or behind those of the
+# faults, and at most prefixes of its files, or did without that memory and ended as ever.
 survived() { # CASE
     if [ "$status" != 3 ]; then
         ended_so "$1"
@@ -46,7 +47,9 @@ survived() { # CASE
     problem=
     echo 'ctangle: NoMemory' >"$room/no_memory"
     [ ! -s "$room/stdout" ] || problem="something on standard output"
-    [ ! -s "$room/stderr" ] || cmp -s "$room/stderr" "$room/no_memory" || problem="another standard error"
+    cat "$1/stderr" "$room/no_memory" >"$room/told_before"
+    [ ! -s "$room/stderr" ] || cmp -s "$room/stderr" "$room/no_memory" || cmp -s "$room/stderr" "$room/told_before" \
+        || problem="another standard error"
     for file in "$room/run"/*; do
         survived_as "$file" "$1/in/${file##*/}" "$room/want/${file##*/}" || problem="${file##*/} is no prefix of its output"
     done

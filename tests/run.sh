@@ -1,12 +1,12 @@
 #!/bin/sh
-# Runs the built ctangle on small folders and shows what the gate does not see: the files that a run creates,
+# Runs the built ctangle on small folders, talks to the built retangle, and shows what the gate does not see: the files that a run creates,
 # standard error, the status, and what a run leaves where the machine refuses something.
 #
 # usage: tests/run.sh [PART..]
 #
-# The parts are documents, example, cases, machine, limits, memory and comparison; without a word all are run.
+# The parts are documents, example, cases, talks, machine, limits, memory and comparison; without a word all are run.
 #
-# CTANGLE=PATH takes another program.
+# CTANGLE=PATH and RETANGLE=PATH take other programs.
 # The last line is 'N passed, M failed'.
 set -u
 LC_ALL=C
@@ -31,12 +31,13 @@ chmod 755 "$room/ctangle"
 . "$top/tests/documents.sh"
 . "$top/tests/example.sh"
 . "$top/tests/cases.sh"
+. "$top/tests/talks.sh"
 . "$top/tests/machine.sh"
 . "$top/tests/limits.sh"
 . "$top/tests/memory.sh"
 . "$top/tests/comparison.sh"
 
-[ $# -gt 0 ] || set -- documents example cases machine limits memory comparison
+[ $# -gt 0 ] || set -- documents example cases talks machine limits memory comparison
 for part; do
     "test_$part"
 done

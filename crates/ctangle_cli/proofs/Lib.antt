@@ -3,5 +3,8 @@ mod MissingLemmas
 mod Quiet
 mod RunLemmas
 mod WriteLemmas
-mod GapLemmas
+mod OutputLemmas
 mod WorkedWebs
+mod RetangleLemmas
+mod WorkedWords
+mod AnswerLemmas

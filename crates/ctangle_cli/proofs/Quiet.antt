@@ -10,7 +10,7 @@ use Rattle.tangle_folders.specs.declared.folder.FolderFault.TheVariants.{Missing
 use Rattle.ctangle_cli.specs.Loading.{Ending}
 use Rattle.ctangle_cli.specs.Loading.Ending.{Unreadable, Refuses, Memory}
 use Rattle.ctangle_cli.specs.Messages.{TakesAll, TakesFront, ending_line, fault_lines, no_memory_line, status_of, unwritten_line}
-use Rattle.ctangle_cli.specs.Tangle.{Tangling}
+use Rattle.tangle_session.specs.Tangle.{Tangling}
 use Rattle.ctangle_cli.specs.Run.{NamedEnds, RunEnds, TangledEnds, TriesToWrite, quiet}
 use Rattle.ctangle_cli.specs.Run.RunEnds.{IsMisused, IsMisusedUnheard, IsUnnamed, IsNamed}
 use Rattle.ctangle_cli.specs.Run.NamedEnds.{IsUnloaded, IsUntangled, IsTangled}
@@ -59,12 +59,12 @@ tangled_quiet : (t : Tangling) → TangledEnds t quiet quiet 3 → ⊥
 tangled_quiet t (IsDone told created unfailed status) = let h = small_status t.faults in omega arith
 tangled_quiet t (IsUnheard told created status) = no_failure told.3
 tangled_quiet t (IsUnwritten stop status) =
-    unheard stop.between.stream (fault_lines t.faults) (unwritten_line stop.fault stop.stops.file.0) (stop_some stop.fault stop.stops.file.0) stop.faults_told stop.output_told
+    unheard stop.between.stream (fault_lines t.faults) (unwritten_line stop.fault stop.name) (stop_some stop.fault stop.name) stop.faults_told stop.output_told
 
 named_quiet : (names : RoleNames) → NamedEnds names quiet quiet 3 → ⊥
 named_quiet names (IsUnloaded ending why told created status) = silent (ending_line (codes "ctangle") ending) (ending_some ending) told
 named_quiet names (IsUntangled files loaded told created status) = silent no_memory_line (ending_some Memory) told
-named_quiet names (IsTangled files loaded ends) = tangled_quiet _ ends
+named_quiet names (IsTangled files loaded ends) = tangled_quiet ends.tangling ends.ends
 
 pub run_quiet : (words : List (List ℕ)) → RunEnds words quiet quiet 3 → ⊥
 run_quiet words (IsMisused none told created status) = omega arith

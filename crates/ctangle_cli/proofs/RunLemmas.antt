@@ -1,24 +1,21 @@
 -- What is written on a stream, one text after another.
-use Rattle.std.proofs.Common.{◌≡◌, ◌∙◌, ◌⊎◌, inl, inr, ℕ, ◌+◌, ◌<◌, ◌≤◌, List, [], ◌∷◌, ◌++◌, Option, Some, Result, Ok, Err, ap, subst, sym, refl, length, take, suc, length-append, arith, append_assoc, append-nil}
+use Rattle.std.proofs.Common.{◌≡◌, ◌∙◌, ◌⊎◌, inl, inr, ℕ, ◌+◌, ◌<◌, ◌≤◌, List, [], ◌∷◌, ◌++◌, Option, Result, Ok, Err, ap, subst, sym, refl, length, take, suc, length-append, arith, append_assoc, append-nil}
 use Rattle.std.proofs.lemmas.List.{take-append-le}
 use Rattle.tangle_streams.proofs.StreamLemmas.{Appends-append, Appends-none}
 use Rattle.tangle_streams.specs.Streams.{Stream, Failed, PutsOut}
 use Rattle.tangle_streams.specs.declared.failures.WriteFault.{WriteFault}
 use Rattle.std.proofs.Common.{zero, ◌≢◌, slice_index_or, drop}
-use Rattle.std.specs.Prelude.{slice_get}
 use Rattle.std.proofs.lemmas.List.{take-append-drop}
 use Rattle.tangle_lines.specs.Faults.{Finding}
 use Rattle.tangle_lines.specs.FaultText.{fault_line}
 use Rattle.tangle_lines.specs.Lines.{FileTable}
 use Rattle.tangle_lines.specs.Roles.{RoleNames}
-use Rattle.tangle_folders.specs.Folder.{File, with_created}
-use Rattle.ctangle_cli.specs.Writing.{AddsPart}
+use Rattle.tangle_folders.specs.Folder.{File}
 use Rattle.tangle_folders.specs.declared.folder.FolderFault.{FolderFault}
-use Rattle.tangle_folders.specs.declared.folder.FolderFault.TheVariants.{Missing, NoMemory, TooBig, Failed as IsFailed}
-use Rattle.ctangle_cli.proofs.WriteLemmas.{with_created-append}
+use Rattle.tangle_folders.specs.declared.folder.FolderFault.TheVariants.{NoMemory}
 use Rattle.ctangle_cli.specs.Loading.{LoadsTo, load_of}
-use Rattle.ctangle_cli.specs.Tangle.{Tangling, tangle_of}
-use Rattle.ctangle_cli.specs.Run.{Moment, NamedEnds, StopsAt, TangledEnds}
+use Rattle.tangle_session.specs.Tangle.{Tangling, AreFaultsOf, outputs_of}
+use Rattle.ctangle_cli.specs.Run.{Moment, NamedEnds, SessionEnds, StopsAt, TangledEnds}
 use Rattle.ctangle_cli.specs.Run.TangledEnds.{IsUnwritten}
 use Rattle.ctangle_cli.specs.Run.NamedEnds.{IsTangled}
 use Rattle.ctangle_cli.specs.Messages.{TakesFront, TakesAll, fault_lines, unwritten_line}
@@ -85,74 +82,42 @@ faults_cut a b c d xs i x lt e p q =
     ap (λ l. l ++ fault_lines (drop (suc i) xs)) (sym (lines_next xs i x lt e)) ∙ sym (lines-append (take (suc i) xs) (drop (suc i) xs)) ∙ ap fault_lines (take-append-drop (suc i) xs) in
     subst (TakesFront a c) whole (cut_more a c _ (fault_lines (drop (suc i) xs)) (whole_then_cut a b c _ (fault_line x) p (cut_from b c d (fault_line x) q)))
 
--- an item by its number
-found_at : (xs : List File) (n : ℕ) (f : File) → n < length xs → f ≡ slice_index_or xs n f → slice_get xs n ≡ Some f
-found_at [] n f lt e = absurd (omega arith)
-found_at (x ∷ xs) zero f lt e = ap Some (sym e)
-found_at (x ∷ xs) (suc n) f lt e = let less : n < length xs = omega arith in found_at xs n f less e
-
-same_found : (xs : List File) (n : ℕ) (f d : File) → slice_get xs n ≡ Some f → d ≡ slice_index_or xs n d → d ≡ f
-same_found [] n f d found e = absurd (cc)
-same_found (x ∷ xs) zero f d found e = let h : x ≡ f = cc in e ∙ h
-same_found (x ∷ xs) (suc n) f d found e = same_found xs n f d found e
-
 -- writing stopped for want of memory, or because the folder failed
-stops_short : (outputs : List File) (old mid new : Option (List File)) (at : ℕ) (fault : FolderFault) (file : File) → slice_get outputs at ≡ Some file
-    → mid ≡ with_created old (take at outputs) → new ≡ mid → StopsAt outputs old new at fault
-stops_short outputs old mid new at fault file found before nothing = record {
-  file = file;
-  found = found;
-  part = [];
-  is_part = inl refl;
-  no_part = λ _. refl;
-  created = nothing ∙ before ∙ ap (with_created old) (sym (append-nil (take at outputs)));
+pub tangled_stops : (t : Tangling) (old new : Moment) (mid : Stream) (name : List ℕ) (fault : FolderFault) (r : Result ℕ WriteFault)
+    → StopsAt t.outputs old.created new.created name fault → (fault ≢ NoMemory → Failed old.folder_failures new.folder_failures)
+    → (fault ≡ NoMemory → new.folder_failures ≡ old.folder_failures) → TakesAll old.stream mid (fault_lines t.faults) → PutsOut mid new.stream (unwritten_line fault name) r
+    → TangledEnds t old new 3
+tangled_stops t old new mid name fault r stops why calm told put = IsUnwritten (record {
+  name = name;
+  stops = stops;
+  fault = fault;
+  why = why;
+  no_failure = calm;
+  between = record old { stream = mid };
+  nothing_yet = refl;
+  faults_told = told;
+  output_told = tries_from mid new.stream r (unwritten_line fault name) put;
+}) refl
+
+-- the tangling of which these are the faults
+abbrev pub tangling_with : FileTable → RoleNames → List Finding → Tangling
+tangling_with files names faults = record { faults = faults; outputs = outputs_of files names }
+
+pub ends_with_faults : (files : FileTable) (names : RoleNames) (faults : List Finding) (old new : Moment) (status : ℕ) → AreFaultsOf files names faults
+    → TangledEnds (tangling_with files names faults) old new status → SessionEnds files names old new status
+ends_with_faults files names faults old new status are ends = record {
+  tangling = tangling_with files names faults;
+  is = record { faults = are; outputs = refl };
+  ends = ends;
 }
-
-stops_with : (outputs : List File) (old mid new : Option (List File)) (at : ℕ) (fault : FolderFault) (file : File) → slice_get outputs at ≡ Some file
-    → mid ≡ with_created old (take at outputs) → AddsPart mid new file → fault ≢ NoMemory → StopsAt outputs old new at fault
-stops_with outputs old mid new at fault file found before added failed = record {
-  file = file;
-  found = found;
-  part = added.0;
-  is_part = added.1;
-  no_part = λ e. absurd (failed e);
-  created = added.2 ∙ (ap (λ m. with_created m added.0) before ∙ with_created-append old (take at outputs) added.0);
-}
-
-pub stops_at : (outputs : List File) (old mid new : Option (List File)) (at : ℕ) (fault : FolderFault) (file : File) → at < length outputs → file ≡ slice_index_or outputs at file
-    → mid ≡ with_created old (take at outputs) → AddsPart mid new file → (fault ≡ NoMemory → new ≡ mid) → StopsAt outputs old new at fault
-stops_at outputs old mid new at NoMemory file lt is before added nothing = stops_short outputs old mid new at NoMemory file (found_at outputs at file lt is) before (nothing refl)
-stops_at outputs old mid new at Missing file lt is before added nothing = stops_with outputs old mid new at Missing file (found_at outputs at file lt is) before added (λ e. cc)
-stops_at outputs old mid new at IsFailed file lt is before added nothing = stops_with outputs old mid new at IsFailed file (found_at outputs at file lt is) before added (λ e. cc)
-stops_at outputs old mid new at TooBig file lt is before added nothing = stops_with outputs old mid new at TooBig file (found_at outputs at file lt is) before added (λ e. cc)
-
-pub tangled_stops : (t : Tangling) (old new : Moment) (mid : Stream) (at : ℕ) (fault : FolderFault) (item : File) (r : Result ℕ WriteFault)
-    → StopsAt t.outputs old.created new.created at fault → (fault ≢ NoMemory → Failed old.folder_failures new.folder_failures)
-    → (fault ≡ NoMemory → new.folder_failures ≡ old.folder_failures) → TakesAll old.stream mid (fault_lines t.faults) → PutsOut mid new.stream (unwritten_line fault item.0) r
-    → item ≡ slice_index_or t.outputs at item → TangledEnds t old new 3
-tangled_stops t old new mid at fault item r stops why calm told put is =
-    let line : unwritten_line fault item.0 ≡ unwritten_line fault stops.file.0 = ap (λ (f : File). unwritten_line fault f.0) (same_found t.outputs at stops.file item stops.found is) in
-    IsUnwritten (record {
-      at = at;
-      stops = stops;
-      fault = fault;
-      why = why;
-      no_failure = calm;
-      between = record old { stream = mid };
-      nothing_yet = refl;
-      faults_told = told;
-      output_told = tries_from mid new.stream r (unwritten_line fault stops.file.0) (subst (λ l. PutsOut mid new.stream l r) line put);
-    }) refl
 
 abbrev at_moment : Option (List File) → Option (List File) → ℕ → Stream → Moment
 at_moment files created refusals stream = record { files = files; created = created; folder_failures = refusals; stream = stream }
 
-pub named_tangled : (names : RoleNames) (files : FileTable) (t : Tangling) (all all' made made' : Option (List File)) (n n' : ℕ) (stream : Stream) (new : Moment) (status : ℕ)
-    → LoadsTo all (λ xs. load_of xs names) n n' files → t ≡ tangle_of files names → all' ≡ all → made' ≡ made
-    → TangledEnds t (record { files = all'; created = made'; folder_failures = n'; stream = stream }) new status
+pub named_tangled : (names : RoleNames) (files : FileTable) (all all' made made' : Option (List File)) (n n' : ℕ) (stream : Stream) (new : Moment) (status : ℕ)
+    → LoadsTo all (λ xs. load_of xs names) n n' files → all' ≡ all → made' ≡ made
+    → SessionEnds files names (record { files = all'; created = made'; folder_failures = n'; stream = stream }) new status
     → NamedEnds names (record { files = all; created = made; folder_failures = n; stream = stream }) new status
-named_tangled names files t all all' made made' n n' stream new status loaded is same_files same_made ends =
+named_tangled names files all all' made made' n n' stream new status loaded same_files same_made ends =
     let same : at_moment all' made' n' stream ≡ at_moment all made n stream = λ i. at_moment (same_files i) (same_made i) (loaded.1 i) stream in
-    IsTangled files loaded.0
-    (subst (λ (a : Moment). TangledEnds (tangle_of files names) a new status) same
-    (subst (λ (u : Tangling). TangledEnds u (at_moment all' made' n' stream) new status) is ends))
+    IsTangled files loaded.0 (subst (λ (a : Moment). SessionEnds files names a new status) same ends)

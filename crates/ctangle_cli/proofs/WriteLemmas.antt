@@ -3,7 +3,20 @@ use Rattle.std.proofs.Common.{◌≡◌, ◌∙◌, ◌++◌, inr, ℕ, List, []
 use Rattle.std.specs.Io.KnownBytes.{Appends}
 use Rattle.tangle_folders.specs.declared.folder.FolderFault.{FolderFault}
 use Rattle.tangle_folders.specs.Folder.{Begins, Closes, ClosesWithin, File, with_created, with_last}
+use Rattle.std.specs.Prelude.{Bool, true, false, cond, map, unwrap_or, is_some, IsSome}
+use Rattle.std.specs.List.{AllByRecursion, IsDistinct}
+use Rattle.std.specs.Map.{lookup}
+use Rattle.std.specs.Str.{bytes_eq}
+use Rattle.std.proofs.Common.{◌≢◌, sym, inl}
+use Rattle.std.proofs.lemmas.Slice.Eq.{bytes_eq-Decides}
+use Rattle.std.proofs.lemmas.Map.Keys.{IsDistinct-head, IsDistinct-tail}
+use Rattle.tangle_streams.specs.Streams.{Stream}
+use Rattle.tangle_lines.specs.declared.refusal.Refusal.{Refusal}
+use Rattle.tangle_lines.specs.declared.refusal.Refusal.TheVariants as refusal
+use Rattle.tangle_session.specs.Writes.{WritesOutput}
+use Rattle.tangle_folders.specs.declared.folder.FolderFault.TheVariants.{Missing, NoMemory, TooBig, Failed as IsFailed}
 use Rattle.ctangle_cli.specs.Writing.{AddsPart}
+use Rattle.ctangle_cli.specs.Run.{StopsAt}
 
 with_last-push : (files : List File) (f : File) (bytes : List ℕ) → with_last (files ++ f ∷ []) bytes ≡ files ++ (f.0, bytes) ∷ []
 with_last-push [] f bytes = refl
@@ -59,3 +72,120 @@ wrote_part (Err fault) a b c s t name bytes m first added put whole part =
     let w = wrote_within a b c s t name (take m bytes) first added put part in
     let k = front_of_front w.0 m bytes in
     ((name, take k.0 bytes) ∷ [], inr (k.0, refl), w.1 ∙ ap (λ l. with_created a ((name, l) ∷ [])) k.1)
+
+-- what the sink took of an output that a session wrote: all of it, or a front
+pub took : (o : Option (List ℕ)) (a b : Stream) (n : ℕ) → IsSome o → WritesOutput o a b (Ok n) → Appends a.taken b.taken (unwrap_or o [])
+took None a b n some h = absurd (cc)
+took (Some text) a b n some h = h.1
+
+pub took_front : (o : Option (List ℕ)) (a b : Stream) (e : Refusal) → IsSome o → WritesOutput o a b (Err e) → (m : ℕ) × Appends a.taken b.taken (take m (unwrap_or o []))
+took_front None a b e some h = absurd (cc)
+took_front (Some text) a b (refusal.WriteFault n) some h = (n, h.1)
+took_front (Some text) a b _ some h = absurd h
+
+-- So far some of the outputs are created, and these are the names of the others.
+pub record HasWritten (outputs : List File) (old new : Option (List File)) (names : List (List ℕ)) : Type 0 where
+  pub done : List File
+  pub others : List File
+  pub all : outputs ≡ done ++ others
+  pub created : new ≡ with_created old done
+  pub names_are : names ≡ map (λ f. f.0) others
+
+pub wrote_none : (outputs : List File) (old : Option (List File)) (names : List (List ℕ)) → names ≡ map (λ f. f.0) outputs → HasWritten outputs old old names
+wrote_none outputs old names is = record { done = []; others = outputs; all = refl; created = sym (with_created-none old); names_are = is }
+
+pub wrote_all : (outputs : List File) (old new : Option (List File)) (names : List (List ℕ)) → names ≡ [] → HasWritten outputs old new names → new ≡ with_created old outputs
+wrote_all outputs old new names none h = by h.others (sym none ∙ h.names_are) h.all
+  where
+    by : (others : List File) → [] ≡ map (λ f. f.0) others → outputs ≡ h.done ++ others → new ≡ with_created old outputs
+    by [] is all = h.created ∙ ap (with_created old) (sym (all ∙ append-nil h.done))
+    by (f ∷ others) is all = absurd (cc)
+
+-- the output of the next name is the first of those that are left
+lookup_here : (done others : List File) (f : File) → IsDistinct bytes_eq (map (λ f. f.0) (done ++ f ∷ others)) → lookup (bytes_eq f.0) (done ++ f ∷ others) ≡ Some f.1
+lookup_here [] others f distinct = ap (λ b. cond b (Some f.1) (lookup (bytes_eq f.0) others)) ((bytes_eq-Decides f.0 f.0).1 refl)
+lookup_here (g ∷ done) others f distinct =
+    let apart : bytes_eq f.0 g.0 ≡ false = other done (IsDistinct-head bytes_eq g.0 (map (λ f. f.0) (done ++ f ∷ others)) distinct) in
+    ap (λ b. cond b (Some g.1) (lookup (bytes_eq f.0) (done ++ f ∷ others))) apart ∙ lookup_here done others f (IsDistinct-tail bytes_eq g.0 (map (λ f. f.0) (done ++ f ∷ others)) distinct)
+  where
+    turned : (b c : Bool) → bytes_eq g.0 f.0 ≡ b → bytes_eq f.0 g.0 ≡ c → b ≡ false → c ≡ false
+    turned b false p q e = refl
+    turned b true p q e = absurd (let same : g.0 ≡ f.0 = sym ((bytes_eq-Decides f.0 g.0).0 q) in let bad : true ≡ false = sym ((bytes_eq-Decides g.0 f.0).1 same) ∙ (p ∙ e) in cc)
+
+    other : (xs : List File) → AllByRecursion (λ y. bytes_eq g.0 y ≡ false) (map (λ f. f.0) (xs ++ f ∷ others)) → bytes_eq f.0 g.0 ≡ false
+    other [] h = turned (bytes_eq g.0 f.0) (bytes_eq f.0 g.0) refl refl h.0
+    other (x ∷ xs) h = other xs h.1
+
+pub record IsNext (outputs : List File) (old new : Option (List File)) (name : List ℕ) (names : List (List ℕ)) : Type 0 where
+  pub done : List File
+  pub others : List File
+  pub all : outputs ≡ done ++ (name, unwrap_or (lookup (bytes_eq name) outputs) []) ∷ others
+  pub is_there : IsSome (lookup (bytes_eq name) outputs)
+  pub created : new ≡ with_created old done
+  pub names_are : names ≡ map (λ f. f.0) others
+
+pub next_output : (outputs : List File) (old new : Option (List File)) (before : List (List ℕ)) (name : List ℕ) (names : List (List ℕ)) → before ≡ name ∷ names
+    → IsDistinct bytes_eq (map (λ f. f.0) outputs) → HasWritten outputs old new before → IsNext outputs old new name names
+next_output outputs old new before name names is distinct h = by h.others (sym is ∙ h.names_are) h.all
+  where
+    by : (others : List File) → name ∷ names ≡ map (λ f. f.0) others → outputs ≡ h.done ++ others → IsNext outputs old new name names
+    by [] e all = absurd (cc)
+    by (f ∷ others) e all =
+        let same : name ≡ f.0 = cc in
+        let found : lookup (bytes_eq name) outputs ≡ Some f.1 =
+        ap (λ k. lookup (bytes_eq k) outputs) same
+        ∙ (ap (lookup (bytes_eq f.0)) all ∙ lookup_here h.done others f (subst (λ l. IsDistinct bytes_eq (map (λ f. f.0) l)) all distinct)) in
+        let whole : f ≡ (name, unwrap_or (lookup (bytes_eq name) outputs) []) = λ i. (sym same i, ap (λ o. unwrap_or o []) (sym found) i) in
+        record {
+          done = h.done;
+          others = others;
+          all = all ∙ ap (λ g. h.done ++ g ∷ others) whole;
+          is_there = ap is_some found;
+          created = h.created;
+          names_are = cc;
+        }
+
+pub wrote_next : (outputs : List File) (old mid new : Option (List File)) (name : List ℕ) (names : List (List ℕ)) → IsNext outputs old mid name names
+    → new ≡ with_created mid ((name, unwrap_or (lookup (bytes_eq name) outputs) []) ∷ []) → HasWritten outputs old new names
+wrote_next outputs old mid new name names next is = record {
+  done = next.done ++ (name, unwrap_or (lookup (bytes_eq name) outputs) []) ∷ [];
+  others = next.others;
+  all = next.all ∙ sym (append_assoc next.done ((name, unwrap_or (lookup (bytes_eq name) outputs) []) ∷ []) next.others);
+  created = is ∙ (ap (λ m. with_created m ((name, unwrap_or (lookup (bytes_eq name) outputs) []) ∷ [])) next.created
+      ∙ with_created-append old next.done ((name, unwrap_or (lookup (bytes_eq name) outputs) []) ∷ []));
+  names_are = next.names_are;
+}
+
+-- writing stopped at the next output: for want of memory, or because the folder failed
+stops_without : (outputs : List File) (old mid new : Option (List File)) (name : List ℕ) (names : List (List ℕ)) (fault : FolderFault) → IsNext outputs old mid name names
+    → new ≡ mid → StopsAt outputs old new name fault
+stops_without outputs old mid new name names fault next nothing = record {
+  before = next.done;
+  bytes = unwrap_or (lookup (bytes_eq name) outputs) [];
+  after = next.others;
+  split = next.all;
+  part = [];
+  is_part = inl refl;
+  no_part = λ _. refl;
+  created = nothing ∙ next.created ∙ ap (with_created old) (sym (append-nil next.done));
+}
+
+stops_with : (outputs : List File) (old mid new : Option (List File)) (name : List ℕ) (names : List (List ℕ)) (fault : FolderFault) → IsNext outputs old mid name names
+    → AddsPart mid new (name, unwrap_or (lookup (bytes_eq name) outputs) []) → fault ≢ NoMemory → StopsAt outputs old new name fault
+stops_with outputs old mid new name names fault next added failed = record {
+  before = next.done;
+  bytes = unwrap_or (lookup (bytes_eq name) outputs) [];
+  after = next.others;
+  split = next.all;
+  part = added.0;
+  is_part = added.1;
+  no_part = λ e. absurd (failed e);
+  created = added.2 ∙ (ap (λ m. with_created m added.0) next.created ∙ with_created-append old next.done added.0);
+}
+
+pub stops_at_next : (outputs : List File) (old mid new : Option (List File)) (name : List ℕ) (names : List (List ℕ)) (fault : FolderFault) → IsNext outputs old mid name names
+    → AddsPart mid new (name, unwrap_or (lookup (bytes_eq name) outputs) []) → (fault ≡ NoMemory → new ≡ mid) → StopsAt outputs old new name fault
+stops_at_next outputs old mid new name names NoMemory next added nothing = stops_without outputs old mid new name names NoMemory next (nothing refl)
+stops_at_next outputs old mid new name names Missing next added nothing = stops_with outputs old mid new name names Missing next added (λ e. cc)
+stops_at_next outputs old mid new name names IsFailed next added nothing = stops_with outputs old mid new name names IsFailed next added (λ e. cc)
+stops_at_next outputs old mid new name names TooBig next added nothing = stops_with outputs old mid new name names TooBig next added (λ e. cc)

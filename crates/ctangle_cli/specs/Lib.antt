@@ -1,8 +1,7 @@
 pub mod Words
+pub mod RetangleWords
 pub mod Writing
 pub mod Loading
-pub mod TangleText
-pub mod TangleItems
-pub mod Tangle
 pub mod Messages
 pub mod Run
+pub mod Conversation

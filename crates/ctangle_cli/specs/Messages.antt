@@ -1,5 +1,5 @@
 -- The lines that the programs write on the error stream.
-use Rattle.std.specs.Prelude.{◌≡◌, ◌<◌, length, take, Option, ℕ, List, [], ◌∷◌, ◌++◌, codes, if◌then◌else◌}
+use Rattle.std.specs.Prelude.{◌≡◌, ◌<◌, length, take, ℕ, List, [], ◌∷◌, ◌++◌, codes, if◌then◌else◌}
 use Rattle.std.specs.Io.KnownBytes.{Appends}
 use Rattle.tangle_lines.specs.declared.refusal.Refusal.{Refusal}
 use Rattle.tangle_lines.specs.declared.refusal.Refusal.TheVariants.{BadName, FileExists, TooManyFiles, LineTooLong, TooManyLines, NoMemory, UnknownFile, NoSuchLine, BadLine, NoWeb, NoChange, RoleFile, NoOutput, WriteFault}

@@ -1,8 +1,9 @@
 -- How a run of ctangle ends, by what the folder and the error stream tell before and after it.
-use Rattle.std.specs.Prelude.{◌≡◌, ◌≢◌, slice_get, ◌⊎◌, ℕ, List, [], ◌++◌, codes, take, Option, None, Some, IfSome, Ok}
+use Rattle.std.specs.Prelude.{◌≡◌, ◌≢◌, ◌⊎◌, ℕ, List, [], ◌∷◌, ◌++◌, codes, Option, None, Some, IfSome, Ok}
 use Rattle.tangle_streams.specs.Streams.{Stream, Failed}
 use Rattle.tangle_lines.specs.Lines.{FileTable}
 use Rattle.tangle_lines.specs.Roles.{RoleNames}
+use Rattle.tangle_session.specs.Tangle.{Tangling, IsTanglingOf}
 use Rattle.tangle_folders.specs.declared.folder.FolderFault.{FolderFault}
 use Rattle.tangle_folders.specs.declared.folder.FolderFault.TheVariants.{NoMemory}
 use Rattle.tangle_folders.specs.Folder.{File, with_created}
@@ -10,7 +11,6 @@ use Rattle.ctangle_cli.specs.Writing.{IsPart}
 use Rattle.ctangle_cli.specs.Words.{names_of}
 use Rattle.ctangle_cli.specs.Loading.{Ending, LoadsTo, StopsFor, load_of}
 use Rattle.ctangle_cli.specs.Messages.{TakesAll, TakesFront, usage_line, ending_line, no_memory_line, unwritten_line, fault_lines, status_of}
-use Rattle.ctangle_cli.specs.Tangle.{Tangling, tangle_of}
 
 -- What is known of the folder and of the error stream at a moment: the folder's files, those created in it, and how often
 -- it failed; the bytes that the stream took, and how often it failed.
@@ -35,29 +35,31 @@ TriesToWrite old new text = Writes old new text ⊎ IsCutOff old new text
 abbrev pub CreatesNothing : Moment → Moment → Type 0
 CreatesNothing old new = new.created ≡ old.created
 
--- The outputs before one are created whole, and of that one this part: no file, or a front of its bytes; where memory was
--- wanting, no file. No output after it is created.
-pub record StopsAt (outputs : List File) (old new : Option (List File)) (at : ℕ) (fault : FolderFault) : Type 0 where
-  pub file : File
-  pub found : slice_get outputs at ≡ Some file
+-- The outputs before the one of this name are created whole, and of that one this part: no file, or a front of its bytes; where
+-- memory was wanting, no file. No output after it is created.
+pub record StopsAt (outputs : List File) (old new : Option (List File)) (name : List ℕ) (fault : FolderFault) : Type 0 where
+  pub before : List File
+  pub bytes : List ℕ
+  pub after : List File
+  pub split : outputs ≡ before ++ (name, bytes) ∷ after
   pub part : List File
-  pub is_part : IsPart file part
+  pub is_part : IsPart (name, bytes) part
   pub no_part : fault ≡ NoMemory → part ≡ []
-  pub created : new ≡ with_created old (take at outputs ++ part)
+  pub created : new ≡ with_created old (before ++ part)
 
 -- Writing the outputs stopped at one of them: the folder failed, or a growth was refused. The lines of the faults were
 -- written before, and then the line of that output, or a front of it.
 pub record IsStopped (tangling : Tangling) (old new : Moment) : Type 0 where
-  pub at : ℕ
+  pub name : List ℕ
   pub fault : FolderFault
-  pub stops : StopsAt tangling.outputs old.created new.created at fault
+  pub stops : StopsAt tangling.outputs old.created new.created name fault
   pub why : fault ≢ NoMemory → Failed old.folder_failures new.folder_failures
   pub no_failure : fault ≡ NoMemory → new.folder_failures ≡ old.folder_failures
   -- when the lines of the faults are written, and no file is created yet
   pub between : Moment
   pub nothing_yet : CreatesNothing old between
   pub faults_told : Writes old between (fault_lines tangling.faults)
-  pub output_told : TriesToWrite between new (unwritten_line fault stops.file.0)
+  pub output_told : TriesToWrite between new (unwritten_line fault name)
 
 -- how a run ends that has tangled
 pub data TangledEnds (tangling : Tangling) (old new : Moment) (status : ℕ) : Type 0 where
@@ -69,6 +71,12 @@ pub data TangledEnds (tangling : Tangling) (old new : Moment) (status : ℕ) : T
   -- 3: an output can't be written
   IsUnwritten : IsStopped tangling old new → status ≡ 3 → TangledEnds tangling old new status
 
+-- how a run ends that has started a session of these files
+pub record SessionEnds (files : FileTable) (names : RoleNames) (old new : Moment) (status : ℕ) : Type 0 where
+  pub tangling : Tangling
+  pub is : IsTanglingOf files names tangling
+  pub ends : TangledEnds tangling old new status
+
 -- how a run ends whose words give these names
 pub data NamedEnds (names : RoleNames) (old new : Moment) (status : ℕ) : Type 0 where
   -- 3: a file can't be read, or is refused, or memory is wanting
@@ -77,9 +85,9 @@ pub data NamedEnds (names : RoleNames) (old new : Moment) (status : ℕ) : Type 
   -- 3: the files are loaded, and memory is wanting to tangle them
   IsUntangled : (files : FileTable) → LoadsTo old.files (λ all. load_of all names) old.folder_failures new.folder_failures files
       → TriesToWrite old new no_memory_line → CreatesNothing old new → status ≡ 3 → NamedEnds names old new status
-  -- they are loaded and tangled: 0, 1 or 3
+  -- they are loaded, and the session is started that tangles them: 0, 1 or 3
   IsTangled : (files : FileTable) → IfSome old.files (λ all. load_of all names ≡ Ok files)
-      → TangledEnds (tangle_of files names) old new status → NamedEnds names old new status
+      → SessionEnds files names old new status → NamedEnds names old new status
 
 -- how a run ends
 pub data RunEnds (words : List (List ℕ)) (old new : Moment) (status : ℕ) : Type 0 where

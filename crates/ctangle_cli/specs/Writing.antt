@@ -1,6 +1,13 @@
--- What of an output was created.
-use Rattle.std.specs.Prelude.{◌≡◌, ◌⊎◌, ℕ, List, [], ◌∷◌, Option, take}
+-- The files of a session in the folder, and what of one was created.
+use Rattle.std.specs.Prelude.{◌≡◌, ◌⊎◌, ℕ, List, [], ◌∷◌, Option, take, unwrap_or}
+use Rattle.tangle_lines.specs.Lines.{FileTable}
+use Rattle.tangle_lines.specs.Roles.{RoleNames}
+use Rattle.tangle_session.specs.Tangle.{output_at}
 use Rattle.tangle_folders.specs.Folder.{File, with_created}
+
+-- the output of this name, where tangling of the files gives one
+abbrev pub output_file : FileTable → RoleNames → List ℕ → File
+output_file files roles name = (name, unwrap_or (output_at files roles name) [])
 
 -- of this file nothing was created, or it has a front of its bytes
 abbrev pub IsPart : File → List File → Type 0

@@ -1,10 +1,16 @@
-//! Laws of loading, which hold of each folder that tells its files.
-ghost use Rattle.std.specs.Prelude.{◌≡◌, ◌≢◌, ◌⊎◌, ℕ, List, None, Ok, Err, Contains, length, false};
+//! Laws of loading, which hold of each folder that tells its files, and of the names of outputs.
+ghost use Rattle.std.specs.Prelude.{◌≡◌, ◌≢◌, ◌⊎◌, ℕ, List, None, Ok, Err, Contains, length, map, false};
 ghost use Rattle.tangle_folders.specs.Folder.{File, bytes_of};
 ghost use Rattle.tangle_lines.specs.Adding.{has_file, is_name};
 ghost use Rattle.tangle_lines.specs.Lines.{FileTable};
 ghost use Rattle.tangle_lines.specs.Roles.{RoleNames};
+ghost use Rattle.std.specs.List.{IsDistinct};
+ghost use Rattle.std.specs.Str.{bytes_eq};
+ghost use Rattle.tangle_session.specs.Tangle.{outputs_of};
 ghost use Rattle.ctangle_cli.specs.Loading.{Ending, load_of, missing_of, rounds_from, with_round};
+
+use tangle_expansion::names_resolve_inside;
+use tangle_names::names_are_the_full_names;
 
 /// Loading goes round by round: a round that adds a file is followed by the rounds from there, one that adds none is the
 /// last, and where one ends loading, it ends so. So the bound on the rounds is no part of what loading gives.
@@ -24,3 +30,11 @@ pub fn missing_names_are_not_there()
         → (name : List ℕ) → Contains (missing_of files names) name → has_file files name ≡ false
         → (is_name name ≡ false) ⊎ (bytes_of all name ≡ None) }
 {}
+
+/// No two outputs of files have one name, so none is written over another in a run.
+pub fn output_names_differ()
+    ensures { (files : FileTable) (roles : RoleNames) → IsDistinct bytes_eq (map (λ output. output.0) (outputs_of files roles)) }
+{
+    names_resolve_inside();
+    names_are_the_full_names();
+}

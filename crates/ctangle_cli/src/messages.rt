@@ -9,8 +9,8 @@ use crate::loading::LoadFault;
 use tangle_folders::FolderFault;
 use tangle_lines::{Fault, Refusal, Sink, WriteFault, put, write_fault};
 
-// A refusal's name.
-fn name_of(refusal: Refusal) -> &'static [u8]
+/// A refusal's name.
+pub fn name_of(refusal: Refusal) -> &'static [u8]
     ensures { result.now ≡ refusal_name refusal }
 {
     match refusal {

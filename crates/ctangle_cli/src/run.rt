@@ -1,16 +1,17 @@
 //! A run of `ctangle`.
 ghost use Rattle.std.specs.Prelude.{◌≡◌, ℕ, List, map};
 ghost use Rattle.ctangle_cli.specs.Messages.{status_of};
-ghost use Rattle.ctangle_cli.specs.Run.{NamedEnds, RunEnds, TangledEnds, quiet};
+ghost use Rattle.ctangle_cli.specs.Run.{NamedEnds, RunEnds, SessionEnds, quiet};
 
+use crate::laws::output_names_differ;
 use crate::loading::{LoadFault, load};
 use crate::messages::{write_faults, write_load, write_unwritten, write_usage};
-use crate::tangling::{Tangled, tangle};
 use crate::words::{WordFault, Words, read_words};
 use crate::writing::write_outputs;
 use std::alloc::Global;
 use tangle_folders::Folder;
 use tangle_lines::{Fault, Sink};
+use tangle_session::Session;
 
 fn status(faults: &[Fault]) -> u8
     ensures { result ≡ status_of faults.now }
@@ -23,14 +24,14 @@ fn status(faults: &[Fault]) -> u8
     0
 }
 
-// Writes the lines of the faults, and then the outputs.
-fn run_tangled<F: Folder, E: Sink>(
+// Writes the lines of the session's faults, and then its outputs.
+fn run_session<F: Folder, E: Sink>(
     alloc: Global,
-    tangled: &Tangled,
+    session: &Session,
     folder: &mut F,
     err: &mut E,
 ) -> u8
-    ensures { TangledEnds tangled.now
+    ensures { SessionEnds session.now.files session.now.roles
         (record {
           files = F.files folder.old;
           created = F.created folder.old;
@@ -44,20 +45,21 @@ fn run_tangled<F: Folder, E: Sink>(
           stream = E.stream err.new;
         }) result }
 {
-    match write_faults(tangled.faults(), err) {
+    output_names_differ();
+    let faults = session.faults();
+    match write_faults(faults, err) {
         Err(_) => 3,
-        Ok(()) => match write_outputs(alloc, folder, tangled.outputs()) {
-            Ok(()) => status(tangled.faults()),
+        Ok(()) => match write_outputs(alloc, session, folder) {
+            Ok(()) => status(faults),
             Err(stop) => {
-                let outputs = tangled.outputs();
-                let _ = write_unwritten(outputs[stop.at].name(), stop.fault, err);
+                let _ = write_unwritten(stop.name, stop.fault, err);
                 3
             }
         },
     }
 }
 
-// Loads the files of these names, and tangles them.
+// Loads the files of these names, and starts a session of them.
 fn run_named<F: Folder, E: Sink>(alloc: Global, words: &Words, folder: &mut F, err: &mut E) -> u8
     ensures { NamedEnds words.now
         (record {
@@ -78,20 +80,21 @@ fn run_named<F: Folder, E: Sink>(alloc: Global, words: &Words, folder: &mut F, e
             let _ = write_load(b"ctangle", &fault, err);
             3
         }
-        Ok((files, roles)) => match tangle(alloc, &files, &roles) {
+        // The files have the web and the change file that is named, so memory alone can be wanting.
+        Ok((files, roles)) => match Session::start(alloc, files, roles) {
             Err(_) => {
                 let _ = write_load(b"ctangle", &LoadFault::NoMemory, err);
                 3
             }
-            Ok(tangled) => run_tangled(alloc, &tangled, folder, err),
+            Ok(session) => run_session(alloc, &session, folder, err),
         },
     }
 }
 
 /// Runs `ctangle` with these words, in a folder and with an error stream, and gives its status.
 ///
-/// It loads the files, writes the line of each fault on the error stream, and then each output into the folder, the
-/// main file first. The status is 0, or 1 where an error is among the faults. It is 2 where the words give no names,
+/// It loads the files, starts a session of them, writes the line of each fault on the error stream, and then each output
+/// into the folder, the main file first. The status is 0, or 1 where an error is among the faults. It is 2 where the words give no names,
 /// with the usage line. It is 3, with a line that says why, where a file can't be read or written or is refused, or
 /// memory is wanting, and where the error stream fails.
 ///

@@ -143,8 +143,8 @@ fn out_for(alloc: Global, web: &[u8], word: Option<&[u8]>) -> Result<Vec<u8>, Al
     }
 }
 
-// The names that a web, a change file and a main file complete to.
-fn complete(
+/// The names that a web, a change file and a main file complete to.
+pub fn complete(
     alloc: Global,
     web: &[u8],
     change: Option<&[u8]>,

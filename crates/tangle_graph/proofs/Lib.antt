@@ -1,4 +1,4 @@
-mod NodeLemmas
+pub mod NodeLemmas
 mod GroupLemmas
 mod RowLemmas
 mod MeasureLemmas
@@ -6,9 +6,11 @@ mod OrderLemmas
 mod StepLemmas
 mod FirstLemmas
 mod GraphLemmas
-mod StoreLemmas
+pub mod StoreLemmas
 mod LimitLemmas
 mod PlanLemmas
+mod TextLemmas
+pub mod ShapeLemmas
 mod PushLemmas
 mod ExpandLemmas
 mod StoreIs

@@ -59,7 +59,7 @@ item_same table item.LineEnd = refl
 item_same table (item.LineMark place) = refl
 item_same table item.Defs = refl
 
-names_same : (table : TableRead) (pieces : List PieceRead) → pieces_names table pieces ≡ flat_map (used_in table) pieces
+pub names_same : (table : TableRead) (pieces : List PieceRead) → pieces_names table pieces ≡ flat_map (used_in table) pieces
 names_same table pieces = λ i. flat_map (λ (p : PieceRead). flat_map (λ x. item_same table x i) p.items) pieces
 
 empty_shape : (s : Shape) → length s ≡ 0 → s ≡ []

@@ -3,6 +3,8 @@ use Rattle.std.proofs.Common.{◌≡◌, ◌∙◌, ◌<◌, ◌+◌, ℕ, Bool,
 use Rattle.std.specs.Global.{Global}
 use Rattle.std.specs.declared.rc.Rc.{Rc}
 use Rattle.std.proofs.Math.Decide.{dec_lt}
+use Rattle.std.specs.Prelude.{slice_get, Some}
+use Rattle.std.proofs.lemmas.Option.{slice_get-get_or, get_or_from_slice_get}
 use Rattle.std.proofs.lemmas.List.{take_more, map-append, get_or_append_left, get_or_push, length-take-le, length-map}
 use Rattle.tangle_scan.specs.Web.{WebRead}
 use Rattle.tangle_names.specs.NameTable.{TableRead}
@@ -13,7 +15,7 @@ use Rattle.tangle_expansion.specs.Slots.{Slot}
 use Rattle.tangle_expansion.specs.declared.expansion.NodeText.{NodeText}
 use Rattle.digraph.specs.Graph.{Graph, rows_of}
 use Rattle.tangle_graph.specs.Nodes.{title_at}
-use Rattle.tangle_graph.specs.Plans.{AreFilled, ArePlans, slots_of, uses_of_plans}
+use Rattle.tangle_graph.specs.Plans.{AreFilled, ArePlans, AreTexts, IsTextOf, node_texts, slots_of, uses_of_plans}
 use Rattle.tangle_graph.specs.Stores.{is_filled}
 
 -- what is so at each place of two lists is so with one more
@@ -64,3 +66,35 @@ module _ (web : WebRead) (table : TableRead) (has : ℕ → Bool) where
       subst (λ xs. ArePlans web table has xs (slots_of (texts ++ text ∷ [])) (uses_of_plans (texts ++ text ∷ []))) (sym (row_taken rows i row h read))
       (subst (λ ss. ArePlans web table has (rows_of (take i rows) ++ row.items ∷ []) ss (uses_of_plans (texts ++ text ∷ []))) (sym (map-append (λ (t : Rc NodeText Global). plan_slots t.value) texts (text ∷ [])))
       (subst (λ us. ArePlans web table has (rows_of (take i rows) ++ row.items ∷ []) (slots_of texts ++ plan_slots text.value ∷ []) us) (sym (map-append (λ (t : Rc NodeText Global). plan_uses t.value) texts (text ∷ []))) pushed_all))
+
+module _ (web : WebRead) (table : TableRead) where
+  texts_push : (xs : List (List ℕ)) (ts : List NodeText) (r : List ℕ) (t : NodeText) → AreTexts web table xs ts → IsTextOf web table r t → AreTexts web table (xs ++ r ∷ []) (ts ++ t ∷ [])
+  texts_push xs ts r t is one = record {
+    size = omega (arith, is.size, length-append xs (r ∷ []), length-append ts (t ∷ []));
+    each = λ n h. told n h;
+  }
+    where
+      told : (n : ℕ) → n < length (xs ++ r ∷ []) → (text : NodeText) × (slice_get (ts ++ t ∷ []) n ≡ Some text) × IsTextOf web table (get_or (xs ++ r ∷ []) n []) text
+      told n h = elim (dec_lt n (length xs)) [
+        | yes low ↦ (let old = is.each n low in
+            let room : n < length ts = omega (arith, low, is.size) in
+            let within : n < length (ts ++ t ∷ []) = omega (arith, room, length-append ts (t ∷ [])) in (
+              old.0,
+              slice_get-get_or (ts ++ t ∷ []) n old.0 within ∙ ap Some (get_or_append_left ts (t ∷ []) old.0 n room ∙ get_or_from_slice_get ts n old.0 old.0 old.1),
+              subst (λ x. IsTextOf web table x old.0) (sym (get_or_append_left xs (r ∷ []) [] n low)) old.2,
+            ))
+        | no past ↦ (let end : length xs ≡ n = omega (arith, past, h, length-append xs (r ∷ [])) in
+            let within : n < length (ts ++ t ∷ []) = omega (arith, h, is.size, length-append xs (r ∷ []), length-append ts (t ∷ [])) in (
+              t,
+              slice_get-get_or (ts ++ t ∷ []) n t within ∙ ap Some (get_or_push ts t t n (is.size ∙ end)),
+              subst (λ x. IsTextOf web table x t) (sym (get_or_push xs r [] n end)) one,
+            ))
+      ]
+
+  pub texts_more : (rows : Graph) (texts : List (Rc NodeText Global)) (i : ℕ) (row : Vec ℕ Global) (text : Rc NodeText Global) → i < length rows → row ≡ get_or rows i row
+      → AreTexts web table (rows_of (take i rows)) (node_texts texts) → IsTextOf web table row.items text.value
+      → AreTexts web table (rows_of (take (i + 1) rows)) (node_texts (texts ++ text ∷ []))
+  texts_more rows texts i row text h read is one =
+      subst (λ xs. AreTexts web table xs (node_texts (texts ++ text ∷ []))) (sym (row_taken rows i row h read))
+      (subst (λ ts. AreTexts web table (rows_of (take i rows) ++ row.items ∷ []) ts) (sym (map-append (λ (t : Rc NodeText Global). t.value) texts (text ∷ [])))
+      (texts_push (rows_of (take i rows)) (node_texts texts) row.items text.value is one))

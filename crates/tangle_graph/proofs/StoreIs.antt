@@ -12,11 +12,13 @@ use Rattle.tangle_scan.specs.Web.{WebRead, PieceRead}
 use Rattle.tangle_names.specs.NameTable.{TableRead}
 use Rattle.tangle_expansion.specs.Shapes.{Title, Named, Uses, ContainsItself}
 use Rattle.tangle_expansion.specs.Flat.{Part, flat, depth}
-use Rattle.tangle_expansion.specs.ItemCodes.{pieces_names}
+use Rattle.tangle_expansion.specs.ItemCodes.{pieces_names, shape_of}
+use Rattle.tangle_expansion.specs.NodeTexts.{HoldsShape}
 use Rattle.tangle_expansion.specs.Slots.{Slot, filled}
 use Rattle.tangle_expansion.specs.ItemSlots.{pieces_at, pieces_slots}
 use Rattle.tangle_expansion.specs.Limits.{levels, flat_of, weight_of, depth_of, IsExpandableNode}
 use Rattle.tangle_expansion.specs.Projects.{ResolvesInside, pieces_of, project, shape_item}
+use Rattle.tangle_expansion.specs.declared.expansion.NodeText.{NodeText}
 use Rattle.tangle_expansion.specs.declared.nodes.Node.{Node}
 use Rattle.tangle_expansion.specs.declared.nodes.Node.TheVariants.{Name}
 use Rattle.digraph.specs.Flags.{FlagsJust}
@@ -26,17 +28,17 @@ use Rattle.digraph.specs.Rows.{IsConverse}
 use Rattle.digraph.proofs.GraphLemmas.{use_in, rows_size, node_in}
 use Rattle.digraph.proofs.TitleLemmas.{contains_alike}
 use Rattle.tangle_graph.specs.Groups.{IsGraphOf}
-use Rattle.tangle_graph.specs.Nodes.{title_at, title_of_node, IsNodeOf, node_at, number_in, entry, UsesTitle}
+use Rattle.tangle_graph.specs.Nodes.{title_at, title_of_node, IsNodeOf, node_at, number_in, entry, entry_if, UsesTitle}
 use Rattle.tangle_expansion.specs.Outputs.{OutputRead}
 use Rattle.tangle_graph.specs.Outputs.{is_expandable}
 use Rattle.tangle_graph.specs.Stores.{StoreRead, IsStoreOf, UsesPiece, is_filled}
-use Rattle.tangle_graph.specs.Plans.{ArePlans}
+use Rattle.tangle_graph.specs.Plans.{ArePlans, AreTexts}
 use Rattle.tangle_graph.proofs.PlanLemmas.{UsesWithPiece, plan_uses_pieces, parts_fit}
 use Rattle.tangle_graph.proofs.NodeLemmas.{numbered, title-node, node_is, once_titled, title_inside}
 use Rattle.tangle_graph.proofs.LimitLemmas.{shape_size}
 use Rattle.tangle_graph.proofs.StoreLemmas.{same_number, contains_mapped, mapped_contains, filled_row, there, contains_by_titles, expandable_is}
 
-module _ (web : WebRead) (table : TableRead) (rows uses users : Graph) (flags : List Bool) (weights depths : List ℕ) (expandable : List Bool) (outputs : List OutputRead) (faults : List Finding) (slots : List (List Slot)) (plan_uses : List (List ℕ)) (has : ℕ → Bool)
+module _ (web : WebRead) (table : TableRead) (rows uses users : Graph) (flags : List Bool) (weights depths : List ℕ) (expandable : List Bool) (outputs : List OutputRead) (faults : List Finding) (slots : List (List Slot)) (plan_uses : List (List ℕ)) (texts : List NodeText) (has : ℕ → Bool)
     (distinct : IsDistinct bytes_eq table.names) (inside : ResolvesInside table) (is : IsGraphOf web table rows uses) (converse : IsConverse uses users)
     (increasing : (n : ℕ) → IsStrictlyIncreasing (row_at (rows_of uses) n)) (same_size : length users ≡ length uses)
     (flagged : FlagsJust uses flags (graph.ContainsItself (HasUse uses)))
@@ -44,7 +46,7 @@ module _ (web : WebRead) (table : TableRead) (rows uses users : Graph) (flags : 
     (measured : (n : ℕ) → n < length uses → get_or depths n 0 ≡ depth_of (project web table) (title_at table.names n))
     (limited : (n : ℕ) → n < length uses → get_or expandable n false ≡ is_expandable (project web table) (title_at table.names n))
     (has_is : (id : ℕ) → id < length table.names → has id ≡ is_filled (row_at (rows_of rows) id))
-    (planned : ArePlans web table has (rows_of rows) slots plan_uses)
+    (planned : ArePlans web table has (rows_of rows) slots plan_uses) (shaped : AreTexts web table (rows_of rows) texts)
     (law : (parts : ℕ → List Part) (node : Title) → depth levels (project web table) node < levels
     → ((id : ℕ) → id < length table.names → Uses (project web table) node (get_or table.names id [])
     → (if has id then parts id else []) ≡ flat levels (project web table) (Named (get_or table.names id [])))
@@ -63,6 +65,7 @@ module _ (web : WebRead) (table : TableRead) (rows uses users : Graph) (flags : 
     faults = faults;
     slots = slots;
     plan_uses = plan_uses;
+    texts = texts;
   }
 
   -- a node by its number
@@ -242,10 +245,28 @@ module _ (web : WebRead) (table : TableRead) (rows uses users : Graph) (flags : 
       ∙ law parts (title_at table.names m.n) low (parts_fit web table rows uses is inside has has_is parts m.n (λ id u. right id (used_piece a m id u)))
       ∙ ap (flat_of (project web table)) (sym m.titled)
 
+  known_used : (a : Node) (name : List ℕ) → IsNodeOf table.names a → Uses (project web table) (title_of_node table.names a) name
+      → (b : Node) × IsNodeOf table.names b × (title_of_node table.names b ≡ Named name)
+  known_used a name ha u =
+      let m = number_of_node a ha in
+      let found = is.titled.complete m.n (Named name) m.here (subst (λ t. Uses (project web table) t name) m.titled u) in
+      let low : found.0 ≤ length table.names = omega (arith, found.2, is.uses_size) in
+      (node_at (length table.names) found.0, node_is table.names found.0 low, title-node table.names found.0 low ∙ found.3)
+
+  shapes_are : (a : Node) → IsNodeOf table.names a
+      → (text : NodeText) × (entry_if texts (number_in (length table.names) a) ≡ Some text) × HoldsShape table.names (project web table (title_of_node table.names a)) text
+  shapes_are a ha =
+      let m = number_of_node a ha in
+      let told = shaped.each m.n (omega (arith, m.here, is.uses_size, is.rows_size, rows_size rows)) in
+      let same : shape_of web.texts table (pieces_at web.pieces (row_at (rows_of rows) m.n)) ≡ project web table (title_of_node table.names a) =
+      ap (shape_of web.texts table) (pieces_are m.n m.here) ∙ ap (project web table) (sym m.titled) in
+      (told.0, ap (entry_if texts) m.number ∙ told.1, subst (λ s. HoldsShape table.names s told.0) same told.2.shape)
+
   pub store_is : IsStoreOf (project web table) made
   store_is = record {
     once = once_is;
     known = known_is;
+    used = known_used;
     has_piece = piece_is;
     uses = related uses refl (UsesTitle (project web table)) used_sound used_complete increasing;
     users = related users same_size IsUsedBy users_sound users_complete converse.increasing;
@@ -257,6 +278,7 @@ module _ (web : WebRead) (table : TableRead) (rows uses users : Graph) (flags : 
     expandable = expandable_at;
     plan_uses = plan_uses_is;
     plans = plans_are;
+    shapes = shapes_are;
   }
 
   -- with the names and the rows of nodes as they are made
@@ -275,8 +297,9 @@ module _ (web : WebRead) (table : TableRead) (rows uses users : Graph) (flags : 
         faults = faults;
         slots = slots;
         plan_uses = plan_uses;
+        texts = texts;
       })
   store_made names used using e f g =
-      subst (λ (x : List (List ℕ)). IsStoreOf (project web table) (record { names = x; pieces = rows_of rows; uses = used; users = using; self_containing = flags; weights = weights; depths = depths; expandable = expandable; outputs = outputs; faults = faults; slots = slots; plan_uses = plan_uses })) (sym e)
-      (subst (λ (x : List (List Node)). IsStoreOf (project web table) (record { names = table.names; pieces = rows_of rows; uses = x; users = using; self_containing = flags; weights = weights; depths = depths; expandable = expandable; outputs = outputs; faults = faults; slots = slots; plan_uses = plan_uses })) (sym f)
-      (subst (λ (x : List (List Node)). IsStoreOf (project web table) (record { names = table.names; pieces = rows_of rows; uses = map (map (node_at (length table.names))) (rows_of uses); users = x; self_containing = flags; weights = weights; depths = depths; expandable = expandable; outputs = outputs; faults = faults; slots = slots; plan_uses = plan_uses })) (sym g) store_is))
+      subst (λ (x : List (List ℕ)). IsStoreOf (project web table) (record { names = x; pieces = rows_of rows; uses = used; users = using; self_containing = flags; weights = weights; depths = depths; expandable = expandable; outputs = outputs; faults = faults; slots = slots; plan_uses = plan_uses; texts = texts })) (sym e)
+      (subst (λ (x : List (List Node)). IsStoreOf (project web table) (record { names = table.names; pieces = rows_of rows; uses = x; users = using; self_containing = flags; weights = weights; depths = depths; expandable = expandable; outputs = outputs; faults = faults; slots = slots; plan_uses = plan_uses; texts = texts })) (sym f)
+      (subst (λ (x : List (List Node)). IsStoreOf (project web table) (record { names = table.names; pieces = rows_of rows; uses = map (map (node_at (length table.names))) (rows_of uses); users = x; self_containing = flags; weights = weights; depths = depths; expandable = expandable; outputs = outputs; faults = faults; slots = slots; plan_uses = plan_uses; texts = texts })) (sym g) store_is))

@@ -1,6 +1,6 @@
 -- Nodes by name, by number and by title: the names of a table in their order, and then the program.
-use Rattle.std.specs.Prelude.{◌<◌, ℕ, nat_lt, if◌then◌else◌, List, length, slice_get, slice_index_or, Option, None, Some}
-use Rattle.tangle_expansion.specs.Shapes.{Title, Named, Project, Uses}
+use Rattle.std.specs.Prelude.{◌<◌, ℕ, nat_lt, if◌then◌else◌, List, [], length, slice_get, slice_index_or, Option, None, Some}
+use Rattle.tangle_expansion.specs.Shapes.{Title, Named, Shape, Project, Uses}
 use Rattle.tangle_expansion.specs.Shapes as title
 use Rattle.tangle_expansion.specs.declared.nodes.Node.{Node}
 use Rattle.tangle_expansion.specs.declared.nodes.Node.TheVariants.{Program, Name}
@@ -35,6 +35,21 @@ number_in names (Name id) = if nat_lt id names then Some id else None
 abbrev pub entry : {X : Type 0} → X → List X → Option ℕ → X
 entry none entries None = none
 entry none entries (Some n) = slice_index_or entries n none
+
+-- the entry for the node with this number, if there is one
+abbrev pub entry_if : {X : Type 0} → List X → Option ℕ → Option X
+entry_if entries None = None
+entry_if entries (Some n) = slice_get entries n
+
+-- the shape of the name with this text; without a text there is no piece
+abbrev pub shape_of_name : Project → Option (List ℕ) → Shape
+shape_of_name project None = []
+shape_of_name project (Some text) = project (Named text)
+
+-- the shape of a node; a node beyond the names has no piece
+abbrev pub shape_of_node : Project → List (List ℕ) → Node → Shape
+shape_of_node project names Program = project title.Program
+shape_of_node project names (Name id) = shape_of_name project (slice_get names id)
 
 -- one title uses another; the program is used by none
 abbrev pub UsesTitle : Project → Title → Title → Type 0

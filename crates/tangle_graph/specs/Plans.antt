@@ -1,12 +1,12 @@
 -- The plans of the nodes of a web.
-use Rattle.std.specs.Prelude.{◌≡◌, ◌<◌, ℕ, Bool, false, List, [], length, map, filter, All, slice_index_or, Vec}
+use Rattle.std.specs.Prelude.{◌≡◌, ◌<◌, ℕ, Bool, false, List, [], length, map, filter, All, slice_get, slice_index_or, Some, Vec}
 use Rattle.std.specs.Global.{Global}
 use Rattle.std.specs.declared.rc.Rc.{Rc}
 use Rattle.tangle_scan.specs.Web.{WebRead}
 use Rattle.tangle_names.specs.NameTable.{TableRead}
-use Rattle.tangle_expansion.specs.ItemCodes.{pieces_names}
+use Rattle.tangle_expansion.specs.ItemCodes.{pieces_names, shape_of}
 use Rattle.tangle_expansion.specs.ItemSlots.{pieces_at, pieces_slots}
-use Rattle.tangle_expansion.specs.NodeTexts.{plan_slots, plan_uses}
+use Rattle.tangle_expansion.specs.NodeTexts.{HoldsShape, node_uses, plan_slots, plan_uses}
 use Rattle.tangle_expansion.specs.Slots.{Slot}
 use Rattle.tangle_expansion.specs.declared.expansion.NodeText.{NodeText}
 use Rattle.tangle_graph.specs.Nodes.{title_at}
@@ -19,6 +19,10 @@ slots_of texts = map (λ (text : Rc NodeText Global). plan_slots text.value) tex
 -- of each node, the names with a piece that its plan uses
 abbrev pub uses_of_plans : List (Rc NodeText Global) → List (List ℕ)
 uses_of_plans texts = map (λ (text : Rc NodeText Global). plan_uses text.value) texts
+
+-- what is kept of each node
+abbrev pub node_texts : List (Rc NodeText Global) → List NodeText
+node_texts texts = map (λ (text : Rc NodeText Global). text.value) texts
 
 -- the numbers of all rows are those of so many pieces
 abbrev pub ArePiecesInside : ℕ → List (Vec ℕ Global) → Type 0
@@ -36,3 +40,13 @@ pub record ArePlans (web : WebRead) (table : TableRead) (has_piece : ℕ → Boo
   pub slots_right : (n : ℕ) → n < length rows
       → slice_index_or slots n [] ≡ pieces_slots web.texts table has_piece (title_at table.names n) 0 (pieces_at web.pieces (slice_index_or rows n []))
   pub uses_right : (n : ℕ) → n < length rows → slice_index_or uses n [] ≡ filter has_piece (pieces_names table (pieces_at web.pieces (slice_index_or rows n [])))
+
+-- what is kept of a node with the pieces of these numbers tells its shape, by the names that its items use
+pub record IsTextOf (web : WebRead) (table : TableRead) (numbers : List ℕ) (text : NodeText) : Type 0 where
+  pub shape : HoldsShape table.names (shape_of web.texts table (pieces_at web.pieces numbers)) text
+  pub names : node_uses text ≡ pieces_names table (pieces_at web.pieces numbers)
+
+-- so it is of each node
+pub record AreTexts (web : WebRead) (table : TableRead) (rows : List (List ℕ)) (texts : List NodeText) : Type 0 where
+  pub size : length texts ≡ length rows
+  pub each : (n : ℕ) → n < length rows → (text : NodeText) × (slice_get texts n ≡ Some text) × IsTextOf web table (slice_index_or rows n []) text

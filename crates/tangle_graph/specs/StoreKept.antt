@@ -1,6 +1,10 @@
 -- A store as it lies in memory.
+use Rattle.std.specs.Prelude.{◌<◌, All, length}
 use Rattle.digraph.specs.Graph.{rows_of}
-use Rattle.tangle_graph.specs.Plans.{slots_of, uses_of_plans}
+use Rattle.tangle_expansion.specs.NodeTexts.{node_uses}
+use Rattle.tangle_expansion.specs.declared.expansion.NodeText.{NodeText}
+use Rattle.tangle_graph.specs.Plans.{node_texts, slots_of, uses_of_plans}
+use Rattle.tangle_graph.specs.Ordering.{IsOrderIn}
 use Rattle.tangle_graph.specs.Rows.{node_rows, texts_of}
 use Rattle.tangle_graph.specs.Stores.{StoreRead}
 use Rattle.tangle_graph.specs.declared.store.Store.TheInside.{Inside}
@@ -18,5 +22,11 @@ store_read s = record {
   outputs = s.outputs.items;
   slots = slots_of s.texts.items;
   plan_uses = uses_of_plans s.texts.items;
+  texts = node_texts s.texts.items;
   faults = s.faults.items;
 }
+
+-- its order is one, and the items of each node use names of the store
+pub record IsWellKept (s : Inside) : Type 0 where
+  pub order : IsOrderIn (store_read s) s.order.items
+  pub uses : All (λ (text : NodeText). All (λ id. id < length s.names.items) (node_uses text)) (node_texts s.texts.items)

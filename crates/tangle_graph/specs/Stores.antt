@@ -1,16 +1,18 @@
 -- What a store says of a project: of each node its pieces, its uses and users, its weight and depth, and whether it contains itself.
-use Rattle.std.specs.Prelude.{◌≡◌, ◌≢◌, ◌<◌, ◌↔◌, ℕ, Bool, true, false, ◌&&◌, nat_lt, nat_le, slice_index, slice_index_or, List, [], ◌∷◌, length, AllPairs, Contains, Some}
+use Rattle.std.specs.Prelude.{◌≡◌, ◌≢◌, ◌<◌, ◌↔◌, ℕ, Bool, true, false, ◌&&◌, nat_lt, nat_le, slice_index, slice_index_or, List, [], ◌∷◌, length, AllPairs, Contains, Option, Some}
 use Rattle.tangle_lines.specs.Faults.{Finding}
-use Rattle.tangle_expansion.specs.Shapes.{Title, Named, Project, Uses, ContainsItself}
+use Rattle.tangle_expansion.specs.Shapes.{Title, Named, Shape, Project, Uses, ContainsItself}
 use Rattle.tangle_expansion.specs.Flat.{Part}
 use Rattle.tangle_expansion.specs.Kept.{kept_at}
+use Rattle.tangle_expansion.specs.NodeTexts.{HoldsShape}
 use Rattle.tangle_expansion.specs.Slots.{Slot, filled}
 use Rattle.tangle_expansion.specs.Limits.{levels, heaviest, flat_of, weight_of, depth_of, IsExpandableNode}
 use Rattle.tangle_expansion.specs.Outputs.{OutputRead}
+use Rattle.tangle_expansion.specs.declared.expansion.NodeText.{NodeText}
 use Rattle.tangle_expansion.specs.declared.kept.Kept.{Kept}
 use Rattle.tangle_expansion.specs.declared.nodes.Node.{Node}
 use Rattle.tangle_expansion.specs.declared.nodes.Node.TheVariants as node_kind
-use Rattle.tangle_graph.specs.Nodes.{title_of_node, IsNodeOf, number_in, entry, UsesTitle}
+use Rattle.tangle_graph.specs.Nodes.{title_of_node, IsNodeOf, number_in, entry, entry_if, shape_of_node, UsesTitle}
 
 -- the texts of the names, and lists with an entry for each node: the names in their order, and then the program
 pub record StoreRead : Type 0 where
@@ -28,6 +30,8 @@ pub record StoreRead : Type 0 where
   -- its own parts and where it uses which names, and the names with a piece that this uses
   pub slots : List (List Slot)
   pub plan_uses : List (List ℕ)
+  -- what is kept of it
+  pub texts : List NodeText
 
 abbrev pub is_filled : List ℕ → Bool
 is_filled [] = false
@@ -64,8 +68,14 @@ module _ (store : StoreRead) where
   abbrev pub plan_uses_at : Node → List ℕ
   plan_uses_at node = entry [] store.plan_uses (number_in (length store.names) node)
 
+  abbrev pub text_at : Node → Option NodeText
+  text_at node = entry_if store.texts (number_in (length store.names) node)
+
   abbrev pub title_in_store : Node → Title
   title_in_store node = title_of_node store.names node
+
+  abbrev pub shape_in_store : Project → Node → Shape
+  shape_in_store project node = shape_of_node project store.names node
 
   -- the node is one of the store's
   abbrev pub IsNodeIn : Node → Type 0
@@ -85,9 +95,10 @@ KeepsUsed project store kept node =
 -- The store is that of the project: what it says of each node is what holds of the node's title. Of a node that it does not have it says
 -- what holds of one without a piece.
 pub record IsStoreOf (project : Project) (store : StoreRead) : Type 0 where
-  -- each title is that of one node, and each name with a piece has a node
+  -- each title is that of one node, and each name that has a piece or is used has a node
   pub once : (a b : Node) → IsNodeIn store a → IsNodeIn store b → title_in_store store a ≡ title_in_store store b → a ≡ b
   pub known : (name : List ℕ) → project (Named name) ≢ [] → (a : Node) × IsNodeIn store a × (title_in_store store a ≡ Named name)
+  pub used : (a : Node) (name : List ℕ) → IsNodeIn store a → Uses project (title_in_store store a) name → (b : Node) × IsNodeIn store b × (title_in_store store b ≡ Named name)
   pub has_piece : (a : Node) → IsNodeIn store a → ((has_piece_at store a ≡ true) ↔ (project (title_in_store store a) ≢ []))
   pub uses : (a b : Node) → IsNodeIn store a → (Contains (uses_at store a) b ↔ (IsNodeIn store b × UsesTitle project (title_in_store store a) (title_in_store store b)))
   pub users : (a b : Node) → IsNodeIn store a → (Contains (users_at store a) b ↔ (IsNodeIn store b × UsesTitle project (title_in_store store b) (title_in_store store a)))
@@ -102,6 +113,8 @@ pub record IsStoreOf (project : Project) (store : StoreRead) : Type 0 where
   pub plans : (a : Node) (parts : ℕ → List Part) → IsNodeIn store a → depth_of project (title_in_store store a) < levels
       → ((id : ℕ) → UsesPiece project store a id → parts id ≡ flat_of project (Named (slice_index_or store.names id [])))
       → filled parts (slots_at store a) ≡ flat_of project (title_in_store store a)
+  -- what is kept of a node tells its shape
+  pub shapes : (a : Node) → IsNodeIn store a → (text : NodeText) × (text_at store a ≡ Some text) × HoldsShape store.names (project (title_in_store store a)) text
 
 -- a flag for each node: whether it has a piece, and its weight and depth are within the limits
 pub record AreWithin (pieces : List (List ℕ)) (weights depths : List ℕ) (flags : List Bool) : Type 0 where

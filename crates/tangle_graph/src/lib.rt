@@ -8,8 +8,10 @@ mod measures;
 mod nodes;
 mod outputs;
 mod pieces;
+mod shapes;
 mod store;
 mod texts;
 
 pub use laws::graph_faults_are_one_list;
+pub use shapes::same_shape;
 pub use store::{Store, expand_one};

@@ -1,8 +1,10 @@
 //! The store of a web's graph of names.
-ghost use Rattle.std.specs.Prelude.{◌≡◌, ◌++◌, ◌∷◌, [], ℕ, IfOk, OnOk, OnErr, IsSome, Contains, true, length};
+ghost use Rattle.std.specs.Prelude.{◌≡◌, ◌++◌, ◌∷◌, [], ℕ, IfOk, OnOk, OnErr, IfSome, IsSome, Contains, All, true, ◌<◌, length};
+ghost use Rattle.std.specs.Option.{option_copied};
 ghost use Rattle.tangle_names.specs.NameTable.{table_of};
 ghost use Rattle.tangle_expansion.specs.Kept.{kept_at, used_parts};
 ghost use Rattle.tangle_expansion.specs.Limits.{flat_of};
+ghost use Rattle.tangle_expansion.specs.NodeTexts.{node_uses};
 ghost use Rattle.tangle_expansion.specs.Nodes.{IsGroupedBy};
 ghost use Rattle.tangle_expansion.specs.Projects.{project};
 ghost use Rattle.tangle_expansion.specs.Shapes.{Project};
@@ -13,7 +15,7 @@ ghost use Rattle.tangle_graph.specs.Nodes.{number_in};
 ghost use Rattle.tangle_graph.specs.Ordering.{IsOrderIn};
 ghost use Rattle.tangle_graph.specs.Outputs.{outputs};
 ghost use Rattle.tangle_graph.specs.Rows.{texts_of};
-ghost use Rattle.tangle_graph.specs.Stores.{IsStoreOf, KeepsUsed, plan_uses_at, slots_at, title_in_store, contains_itself_at, is_expandable_at, weight_at, depth_at, uses_at, users_at, has_piece_at, pieces_of_node};
+ghost use Rattle.tangle_graph.specs.Stores.{IsStoreOf, KeepsUsed, plan_uses_at, slots_at, title_in_store, contains_itself_at, is_expandable_at, weight_at, depth_at, uses_at, users_at, has_piece_at, pieces_of_node, text_at};
 
 use crate::faults::graph_faults;
 use crate::graph::Graph;
@@ -24,6 +26,7 @@ use crate::texts::{filled_rows, texts_by_node};
 use digraph::self_containing;
 use std::alloc::{AllocError, Global};
 use std::marker::Model;
+use std::mem::replace;
 use std::rc::Rc;
 use tangle_expansion::{
     Expansion, Kept, Node, NodeText, Output, PiecesByNode, Work, expand, filled_plans_are_right,
@@ -55,15 +58,14 @@ pub struct Store {
 }
 
 impl Model for Store {
-    ghost use Rattle.tangle_graph.specs.Ordering.{IsOrderIn};
-    ghost use Rattle.tangle_graph.specs.StoreKept.{store_read};
+    ghost use Rattle.tangle_graph.specs.StoreKept.{IsWellKept, store_read};
     ghost use Rattle.tangle_graph.specs.Stores.{StoreRead};
 
     ghost Value = { StoreRead };
 
     ghost view = { store_read };
 
-    ghost invariant = { λ s. IsOrderIn (store_read s) s.order.items };
+    ghost invariant = { λ s. IsWellKept s };
 }
 
 /// The texts of the names.
@@ -125,6 +127,23 @@ impl Store {
         ensures { result ≡ number_in (length self.now.names) node }
     {
         number_of(self.names.len(), node)
+    }
+
+    /// What is kept of the node, if the store has it.
+    pub(crate) fn text(&self, node: Node) -> Option<&NodeText>
+        ensures text { option_copied result ≡ text_at self.now node }
+        ensures uses { IfSome result (λ text. All (λ id. id < length self.now.names) (node_uses text.now)) }
+    {
+        match self.number(node) {
+            Some(n) => match self.texts.get(n) {
+                Some(text) => {
+                    let text: &NodeText = text;
+                    Some(text)
+                }
+                None => None,
+            },
+            None => None,
+        }
     }
 
     /// Whether the node has a piece.
@@ -230,6 +249,15 @@ impl Store {
         ensures { result.now ≡ self.now.faults }
     {
         self.faults.as_slice()
+    }
+
+    /// The faults of the graph, for one who keeps them with others. The store has none from then on.
+    pub fn take_faults(&mut self) -> Vec<Fault>
+        ensures taken { result.items ≡ self.old.faults }
+        ensures others { self.new ≡ record self.old { faults = [] } }
+    {
+        let alloc = *self.faults.allocator();
+        replace(&mut self.faults, Vec::new(alloc))
     }
 
     /// Nodes of the store, each once and after the names that it uses; each that is expandable is among them.

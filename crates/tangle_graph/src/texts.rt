@@ -6,7 +6,7 @@ ghost use Rattle.tangle_expansion.specs.ItemSlots.{pieces_at, pieces_slots};
 ghost use Rattle.tangle_expansion.specs.Meaning.{title_of};
 ghost use Rattle.tangle_expansion.specs.NodeTexts.{plan_slots, plan_uses};
 ghost use Rattle.tangle_graph.specs.Nodes.{title_at};
-ghost use Rattle.tangle_graph.specs.Plans.{ArePlans, ArePiecesInside, AreFilled, slots_of, uses_of_plans};
+ghost use Rattle.tangle_graph.specs.Plans.{ArePlans, ArePiecesInside, AreFilled, AreTexts, IsTextOf, node_texts, slots_of, uses_of_plans};
 
 use crate::measures::is_filled;
 use std::alloc::{AllocError, Global};
@@ -53,6 +53,7 @@ fn text_of_node(
     requires ours { length table.now.resolved ≡ length web.now.occurrences }
     ensures slots { IfOk result (λ text. plan_slots text.value
         ≡ pieces_slots web.now.texts table.now (λ id. slice_index_or has_piece.now id false) (title_at table.now.names n) 0 (pieces_at web.now.pieces numbers.now)) }
+    ensures text { IfOk result (λ text. IsTextOf web.now table.now numbers.now text.value) }
     ensures uses { IfOk result (λ text. plan_uses text.value
         ≡ filter (λ id. slice_index_or has_piece.now id false) (pieces_names table.now (pieces_at web.now.pieces numbers.now))) }
 {
@@ -74,7 +75,8 @@ pub(crate) fn texts_by_node(
 ) -> Result<Vec<Rc<NodeText>>, NoMemory>
     requires inside { ArePiecesInside (length web.now.pieces) pieces.now }
     requires ours { length table.now.resolved ≡ length web.now.occurrences }
-    ensures { IfOk result (λ texts. ArePlans web.now table.now (λ id. slice_index_or has_piece.now id false) (rows_of pieces.now) (slots_of texts.items) (uses_of_plans texts.items)) }
+    ensures texts { IfOk result (λ texts. AreTexts web.now table.now (rows_of pieces.now) (node_texts texts.items)) }
+    ensures plans { IfOk result (λ texts. ArePlans web.now table.now (λ id. slice_index_or has_piece.now id false) (rows_of pieces.now) (slots_of texts.items) (uses_of_plans texts.items)) }
 {
     let mut texts = Vec::with_capacity(alloc, pieces.len())?;
     for (n, row) in pieces.iter().enumerate() {

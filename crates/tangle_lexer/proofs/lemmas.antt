@@ -1,4 +1,5 @@
 pub mod AheadLemmas
+pub mod ByteLemmas
 pub mod CutLemmas
 pub mod HeadLemmas
 pub mod LexemeLemmas

@@ -49,6 +49,7 @@ impl<'s, 'a> Model for Reader<'s, 'a> {
 }
 
 /// The byte at a column of a line, or none at its end.
+#[inline(always)]
 fn byte_of(text: &[u8], column: usize) -> Option<u8>
     ensures { result ≡ slice_get text.now column }
 {
@@ -69,6 +70,7 @@ fn at_sign_from(text: &[u8], column: usize) -> usize
 }
 
 /// The column where the word bytes from this column on end.
+#[inline(always)]
 fn word_end(text: &[u8], from: usize) -> usize
     requires { from ≤ length text.now }
     ensures end { result ≡ from + run_length byte.is_word_byte (drop from text.now) }
@@ -81,11 +83,32 @@ fn word_end(text: &[u8], from: usize) -> usize
     end
 }
 
+/// Whether each byte has no meaning in comments, control texts, quoted and verbatim texts.
+const ORDINARY_BYTES: [bool; 256] = [
+    true, true, true, true, true, true, true, true, true, true, true, true, true, true, true, true,
+    true, true, true, true, true, true, true, true, true, true, true, true, true, true, true, true,
+    true, true, false, true, true, true, true, false, true, true, false, true, true, true, true,
+    true, true, true, true, true, true, true, true, true, true, true, true, true, true, true,
+    false, true, false, true, true, true, true, true, true, true, true, true, true, true, true,
+    true, true, true, true, true, true, true, true, true, true, true, true, true, true, true,
+    false, true, true, true, true, true, true, true, true, true, true, true, true, true, true,
+    true, true, true, true, true, true, true, true, true, true, true, true, true, true, true, true,
+    true, true, true, true, true, true, true, true, true, true, true, true, true, true, true, true,
+    true, true, true, true, true, true, true, true, true, true, true, true, true, true, true, true,
+    true, true, true, true, true, true, true, true, true, true, true, true, true, true, true, true,
+    true, true, true, true, true, true, true, true, true, true, true, true, true, true, true, true,
+    true, true, true, true, true, true, true, true, true, true, true, true, true, true, true, true,
+    true, true, true, true, true, true, true, true, true, true, true, true, true, true, true, true,
+    true, true, true, true, true, true, true, true, true, true, true, true, true, true, true, true,
+    true, true, true, true, true, true, true, true, true, true, true, true, true, true, true, true,
+    true, true, true, true, true,
+];
+
 /// A byte without a meaning in comments, control texts, quoted and verbatim texts.
 fn is_ordinary(byte: u8) -> bool
     ensures { result ≡ regions.is_ordinary byte }
 {
-    byte != b'@' && byte != b'*' && byte != b'\\' && byte != b'"' && byte != b'\'' && byte != b'>'
+    ORDINARY_BYTES[byte as usize]
 }
 
 /// The column where such bytes from this column on end.
@@ -102,6 +125,7 @@ fn ordinary_end(text: &[u8], from: usize) -> usize
 }
 
 /// The column where the white space from this column on ends.
+#[inline(always)]
 fn white_end(text: &[u8], from: usize) -> usize
     requires { from ≤ length text.now }
     ensures end { result ≡ from + run_length lines.is_white (drop from text.now) }
@@ -166,6 +190,7 @@ impl<'s, 'a> Reader<'s, 'a> {
     }
 
     /// The byte that stands here; none at a line end, and none behind the last line.
+    #[inline(always)]
     pub fn byte(&self) -> Option<u8>
         ensures { result ≡ byte_at 0 self.now }
     {
@@ -176,6 +201,7 @@ impl<'s, 'a> Reader<'s, 'a> {
     }
 
     /// Nothing is ahead any more.
+    #[inline(always)]
     pub fn is_at_end(&self) -> bool
         ensures end { result ≡ true → self.now ≡ [] }
         ensures inside { result ≡ false → 0 < length self.now }
@@ -184,6 +210,7 @@ impl<'s, 'a> Reader<'s, 'a> {
     }
 
     /// Goes on by one byte or line end.
+    #[inline(always)]
     pub fn advance(&mut self)
         ensures { self.new ≡ drop 1 self.old }
     {
@@ -202,6 +229,7 @@ impl<'s, 'a> Reader<'s, 'a> {
     }
 
     /// The number of the line; behind the last line, the number handed in.
+    #[inline(always)]
     pub fn line(&self, last: u32) -> u32
         ensures { result ≡ line_at last self.now }
     {
@@ -226,6 +254,7 @@ impl<'s, 'a> Reader<'s, 'a> {
     }
 
     /// The span of the byte that stands here.
+    #[inline(always)]
     pub fn sign_span(&self) -> Span
         requires { IsSome (byte_at 0 self.now) }
         ensures { result ≡ span_at 1 self.now }
@@ -272,6 +301,7 @@ impl<'s, 'a> Reader<'s, 'a> {
     }
 
     /// The same text, to look further on.
+    #[inline(always)]
     pub fn copy(&self) -> Self
         ensures { result ≡ self.now }
     {
@@ -305,6 +335,7 @@ impl<'s, 'a> Reader<'s, 'a> {
     }
 
     /// Whether the word that begins here is `include`.
+    #[inline(always)]
     pub fn begins_include(&self) -> bool
         requires { IsSome (byte_at 0 self.now) }
         ensures { result ≡ is_include_word (bytes_of (take (1 + word_more self.now) self.now)) }
@@ -314,6 +345,7 @@ impl<'s, 'a> Reader<'s, 'a> {
     }
 
     /// Takes the word that begins here, and answers its span.
+    #[inline(always)]
     pub fn take_word(&mut self) -> Span
         requires { IsSome (byte_at 0 self.old) }
         ensures span { result ≡ span_at (1 + word_more self.old) self.old }
@@ -330,6 +362,7 @@ impl<'s, 'a> Reader<'s, 'a> {
     }
 
     /// Goes on behind the white space that begins here.
+    #[inline(always)]
     pub fn skip_white(&mut self)
         requires { IsSome (byte_at 0 self.old) }
         ensures { self.new ≡ drop (count_before region.White 0 (drop 1 self.old)) (drop 1 self.old) }

@@ -31,12 +31,12 @@ pub enum IncludeState {
 /// What is known at a place of the text.
 #[derive(Clone, Copy)]
 pub struct ScanState {
-    pub mode: Mode,
-    pub include: IncludeState,
     /// How many names were read before.
     pub names: usize,
     /// The number of the last source line.
     pub last: u32,
+    pub mode: Mode,
+    pub include: IncludeState,
 }
 
 impl ScanState {

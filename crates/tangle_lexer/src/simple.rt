@@ -8,6 +8,7 @@ ghost use Rattle.tangle_lexer.specs.Steps.{c_lexeme, tokens_from, names_from};
 ghost use Rattle.tangle_lexer.specs.Heads.{is_head};
 
 use crate::ahead::Reader;
+use crate::bytes::is_word_byte;
 use crate::modes::{Mode, ScanState};
 use crate::regions::Unit;
 use crate::steps::{line_end, sign, white_space, word};
@@ -23,19 +24,23 @@ pub enum Simple {
     LineEnd,
 }
 
-/// What this byte is, if it opens nothing longer: one look in a table, as there is a case for each byte.
+/// What this byte is, if it opens nothing longer.
+#[inline(always)]
 fn simple_of(byte: u8) -> Option<Simple>
     ensures { result ≡ spec.simple_of byte }
 {
+    if is_word_byte(byte) {
+        return Some(Simple::Word);
+    }
     match byte {
         b'@' | b'/' | b'"' | b'\'' | b'<' => None,
         b' ' | b'\t' | b'\r' | 11 | 12 => Some(Simple::White),
-        b'a'..=b'z' | b'A'..=b'Z' | b'0'..=b'9' | b'_' | b'$' | 128..=255 => Some(Simple::Word),
         _ => Some(Simple::Sign),
     }
 }
 
 /// What stands here, if it opens nothing longer.
+#[inline(always)]
 fn simple_at(ahead: &Reader) -> Option<Simple>
     ensures { IfSome result (λ simple. IsSimple ahead.now simple) }
 {
@@ -47,6 +52,7 @@ fn simple_at(ahead: &Reader) -> Option<Simple>
 }
 
 /// Reads what stands here.
+#[inline(always)]
 fn simple_step(
     tokens: &mut Vec<Token>,
     ahead: &mut Reader,
@@ -89,12 +95,16 @@ pub fn read_simple(
     ensures count { IfOk result (λ after. after.names ≡ from.names) }
     ensures shorter { OnOk result (length ahead.new ≤ length ahead.old) }
 {
-    let mut state = from;
     if !is_c_text(from.mode) {
-        return Ok(state);
+        return Ok(from);
     }
-    while let Some(simple) = simple_at(ahead) {
-        state = simple_step(tokens, ahead, state, simple)?;
+    // The place and what is known there stay in registers: both are handed back at the end alone.
+    let mut here = ahead.copy();
+    let mut include = from.include;
+    while let Some(simple) = simple_at(&here) {
+        let state = from.with_include(include);
+        include = simple_step(tokens, &mut here, state, simple)?.include;
     }
-    Ok(state)
+    *ahead = here;
+    Ok(from.with_include(include))
 }

@@ -272,6 +272,7 @@ pub fn line_end(
 }
 
 /// Reads C text, by what begins there.
+#[inline(always)]
 fn c_text(
     alloc: Global,
     source: &Source,

@@ -118,6 +118,7 @@ fn byte_kind(include: IncludeState, byte: u8, next: Option<u8>) -> TokenKind
 }
 
 /// What begins where this byte or line end stands before that one.
+#[inline(always)]
 pub fn kind_by(include: IncludeState, byte: Option<u8>, next: Option<u8>) -> TokenKind
     ensures { result ≡ spec.kind_by include byte next }
 {

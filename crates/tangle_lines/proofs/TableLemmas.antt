@@ -33,7 +33,7 @@ none_from_cond : {X : Type 0} (b : Bool) (x : X) (o : Option X) → cond b (Some
 none_from_cond true x o h = absurd (cc)
 none_from_cond false x o h = (refl, h)
 
-none_from_is_some : {X : Type 0} (o : Option X) → is_some o ≡ false → o ≡ None
+pub none_from_is_some : {X : Type 0} (o : Option X) → is_some o ≡ false → o ≡ None
 none_from_is_some None h = refl
 none_from_is_some (Some x) h = absurd (true≢false h)
 
@@ -54,9 +54,9 @@ accepted files name bytes h =
     record { absent = none_from_is_some (lines_of files name) new.0; room = room.0; short = short.0; few = few.0 }
 
 -- one file
-last : (f : List ℕ × List (List ℕ)) → length f.1 ≤ most_lines → All (λ (file : List ℕ × List (List ℕ)). length file.1 ≤ most_lines) (f ∷ [])
-last f few zero d h = few
-last f few (suc k) d h = absurd (omega arith)
+pub last_few : (f : List ℕ × List (List ℕ)) → length f.1 ≤ most_lines → All (λ (file : List ℕ × List (List ℕ)). length file.1 ≤ most_lines) (f ∷ [])
+last_few f few zero d h = few
+last_few f few (suc k) d h = absurd (omega arith)
 
 -- a file of a table has few enough lines, and one that isn't there has none
 few_lines : (files : FileTable) (n : ℕ) → All (λ (file : List ℕ × List (List ℕ)). length file.1 ≤ most_lines) files → length (lines_at files n) ≤ most_lines
@@ -80,7 +80,7 @@ other_names (f ∷ fs) name none =
     let h = none_from_cond (bytes_eq name f.0) _ _ none in
     ap (λ b. b || list_any (bytes_eq name) (map (λ file. file.0) fs)) h.0 ∙ other_names fs name h.1
 
-distinct-with_file : (files : FileTable) (name : List ℕ) (lines : List (List ℕ)) → lines_of files name ≡ None → HasDistinctNames files → HasDistinctNames (files ++ (name, lines) ∷ [])
+pub distinct-with_file : (files : FileTable) (name : List ℕ) (lines : List (List ℕ)) → lines_of files name ≡ None → HasDistinctNames files → HasDistinctNames (files ++ (name, lines) ∷ [])
 distinct-with_file files name lines none distinct =
     subst (IsDistinct bytes_eq) (sym (map-append (λ file. file.0) files ((name, lines) ∷ [])))
     (IsDistinct-push nat_list_eq_equiv (map (λ file. file.0) files) name distinct (other_names files name none))
@@ -99,7 +99,7 @@ IsWithinLimits-with_file files name bytes h within =
     record {
       count = omega (arith, length-append files ((name, cut bytes) ∷ []));
       names = distinct-with_file files name (cut bytes) a.absent within.names;
-      lines = All-append (λ file. length file.1 ≤ most_lines) files _ within.lines (last (name, cut bytes) few);
+      lines = All-append (λ file. length file.1 ≤ most_lines) files _ within.lines (last_few (name, cut bytes) few);
     }
 
 -- lists whose items are equal, place by place
@@ -120,7 +120,7 @@ files_of-clone (e ∷ es) (f ∷ fs) h =
     λ i. (AllZip-same e.0.items f.0.items h.0.0.0 i, (h.0.1 i).items) ∷ files_of-clone es fs h.1 i
 
 -- a new file goes last
-map-insert_entry : (es : List (Vec ℕ Global × SharedLines)) (k : Vec ℕ Global) (v : SharedLines)
+pub map-insert_entry : (es : List (Vec ℕ Global × SharedLines)) (k : Vec ℕ Global) (v : SharedLines)
     → lines_of (map file_of es) k.items ≡ None
     → map file_of (insert_entry (λ x y. bytes_eq x.items y.items) es k v) ≡ map file_of es ++ (k.items, v.value.items) ∷ []
 map-insert_entry [] k v none = refl

@@ -3,6 +3,7 @@ pub mod Lines
 pub mod Sharing
 pub mod Adding
 pub mod Edits
+pub mod Edited
 pub mod Roles
 pub mod Faults
 pub mod FaultText

@@ -3,10 +3,14 @@ ghost use Rattle.std.specs.Prelude.{◌≡◌, ◌≤◌, [], length, slice_get,
 ghost use Rattle.std.specs.Option.{option_copied, option_map};
 ghost use Rattle.tangle_lines.specs.Lines.{file_number, number_of, name_at as name_in_table, lines_at as lines_in_table, lines_of};
 ghost use Rattle.tangle_lines.specs.Adding.{HasDistinctNames, with_file, add_refusal, has_file, is_name, most_files, most_lines};
+ghost use Rattle.tangle_lines.specs.Edits.{edit_refusal};
+ghost use Rattle.tangle_lines.specs.Edited.{edited};
 
 use crate::cutting::{cut_lines, measure_lines};
+use crate::edits::Edit;
 use crate::line::Line;
 use crate::refusal::Refusal;
+use crate::splicing::make_edit;
 use indexmap::IndexMap;
 use std::alloc::Global;
 use std::marker::Model;
@@ -86,6 +90,25 @@ impl Files {
     {
         let table = self.table.clone()?;
         Ok(Files { table })
+    }
+
+    /// Makes an edit. The files keep their order, and one that is discarded closes up. An edit of lines makes anew the
+    /// list of the lines of its file alone.
+    ///
+    /// # Errors
+    ///
+    /// That of [`Files::refusal_to_edit`] if there is one, else `NoMemory`; and then the table stays as it was.
+    pub fn edit(&mut self, edit: &Edit) -> Result<(), Refusal>
+        ensures ok { OnOk result (self.new ≡ edited self.old edit.now) }
+        ensures refused { IfSome (edit_refusal self.old edit.now) (λ e. result ≡ Err e) }
+        ensures only { IfNone (edit_refusal self.old edit.now) (IsOkUnless result Refusal.NoMemory) }
+        ensures err { OnErr result (self.new ≡ self.old) }
+    {
+        if let Some(refusal) = self.refusal_to_edit(edit) {
+            return Err(refusal);
+        }
+        make_edit(&mut self.table, edit)?;
+        Ok(())
     }
 
     /// Why a file is not to be added, but for want of memory.

@@ -17,6 +17,7 @@ mod refusal;
 mod role_names;
 mod roles;
 mod source;
+mod splicing;
 mod waiting;
 
 pub use edits::Edit;

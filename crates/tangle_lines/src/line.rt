@@ -1,8 +1,9 @@
 //! A line, which shares the text of its file.
-ghost use Rattle.std.specs.Prelude.{◌≡◌, ◌+◌, ◌^◌, ◌<◌, ◌≤◌, length};
+ghost use Rattle.std.specs.Prelude.{◌≡◌, ◌+◌, ◌^◌, ◌<◌, ◌≤◌, length, IfOk};
 ghost use Rattle.tangle_lines.specs.Adding.{longest_line};
 ghost use Rattle.tangle_lines.specs.Sharing.{part_of};
 
+use std::alloc::AllocError;
 use std::marker::Model;
 use std::rc::Rc;
 
@@ -43,6 +44,18 @@ impl Line {
             high: (place / LOW_PLACES) as u16,
             size,
         }
+    }
+
+    /// The same line, which shares its text with this one.
+    pub(crate) fn share(&self) -> Result<Line, AllocError>
+        ensures { IfOk result (λ line. line ≡ self.now) }
+    {
+        Ok(Line {
+            text: self.text.clone()?,
+            low: self.low,
+            high: self.high,
+            size: self.size,
+        })
     }
 
     /// The bytes of the line.

@@ -11,6 +11,7 @@ use crate::sorted::sorted_names;
 use indexmap::IndexSet;
 use std::alloc::Global;
 use std::marker::Model;
+use std::mem::replace;
 use tangle_lines::{Fault, NoMemory};
 use tangle_scan::Web;
 
@@ -141,6 +142,15 @@ impl NameTable {
         ensures { result.now ≡ self.now.faults }
     {
         self.faults.as_slice()
+    }
+
+    /// The faults of names, for one who keeps them with others. The table has none from then on.
+    pub fn take_faults(&mut self) -> Vec<Fault>
+        ensures taken { result.items ≡ self.old.faults }
+        ensures others { self.new ≡ record self.old { faults = [] } }
+    {
+        let alloc = *self.faults.allocator();
+        replace(&mut self.faults, Vec::new(alloc))
     }
 
     /// The same faults, for one who is done with the table.

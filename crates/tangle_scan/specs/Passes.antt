@@ -13,7 +13,7 @@ use Rattle.tangle_scan.specs.declared.laying.Count.{Count}
 use Rattle.tangle_scan.specs.declared.laying.Laying.{Laying}
 use Rattle.tangle_scan.specs.declared.spacing.Stage.TheVariants as stage
 use Rattle.tangle_lines.specs.Reading.{Line}
-use Rattle.tangle_scan.specs.Rules.{has_join, without_joins, without_faults, without_front_gaps, is_gap, would_merge, may_follow_name, blanks, items_by_place, text_item, unmarked_items, line_item, count_behind, next_line}
+use Rattle.tangle_scan.specs.Rules.{has_join, without_joins, without_faults, without_front_gaps, is_gap, would_merge, may_follow_name, blanks, items_by_place, text_item, unmarked_items, next_line}
 use Rattle.tangle_lexer.specs.Occurrences.{place_at}
 
 -- the run at the end of a list begins in it, and its flag says whether it has a join
@@ -55,12 +55,29 @@ is_skipped stage.Front token.White = true
 is_skipped stage.Front (token.LineEnd line) = true
 is_skipped at e = false
 
--- a token that rules 1 and 2 may change, or that is taken out
-abbrev pub may_change : Token → Bool
-may_change (token.Fault kind line) = true
-may_change token.Join = true
-may_change (token.Constant value line) = true
-may_change e = false
+-- a token that rules 1 and 2 may change, or that is taken out, or that is all macros
+abbrev pub is_rare : Token → Bool
+is_rare (token.Fault kind line) = true
+is_rare token.Join = true
+is_rare (token.Constant value line) = true
+is_rare (token.Defs line) = true
+is_rare e = false
+
+abbrev pub is_front_gap : Token → Bool
+is_front_gap token.White = true
+is_front_gap (token.LineEnd line) = true
+is_front_gap e = false
+
+-- what stands behind the white space and the line ends at the front
+abbrev pub behind_front : List Token → List Token
+behind_front [] = []
+behind_front (e ∷ es) = if is_front_gap e then behind_front es else e ∷ es
+
+-- the second token may stand behind the first, the name of a macro
+abbrev pub is_name_spaced : List (List ℕ) → List Token → Bool
+is_name_spaced texts [] = true
+is_name_spaced texts (e ∷ []) = true
+is_name_spaced texts (e ∷ f ∷ es) = may_follow_name texts f
 
 -- rules 3 to 5, where an item, or white space, stands before on the line, and the count of lines stands so far
 

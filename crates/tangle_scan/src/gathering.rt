@@ -2,6 +2,7 @@
 ghost use Rattle.std.specs.Prelude.{◌≡◌, ◌≤◌, ◌<◌, ◌+◌, ◌^◌, ◌++◌, ◌∷◌, ◌||◌, [], ℕ, List, length, flat_map, if◌then◌else◌, true, false, Option, Some, None, IfOk, OnOk};
 ghost use Rattle.std.specs.List.{list_any};
 ghost use Rattle.tangle_lines.specs.declared.faults.FaultKind.TheVariants as fault;
+ghost use Rattle.tangle_scan.specs.Passes as passes;
 ghost use Rattle.tangle_scan.specs.Rules as rules;
 ghost use Rattle.tangle_lexer.specs.Occurrences as occurrences;
 ghost use Rattle.tangle_scan.specs.Web as web;
@@ -12,17 +13,18 @@ ghost use Rattle.tangle_scan.specs.Gathering.{own_fault, nothing, gathering_with
 use crate::items::Item;
 use crate::laying::{lay_macro, lay_part};
 use crate::pieces::{Macro, Piece};
-use crate::spacing::{first_byte, macro_tokens, part_tokens};
+use crate::spacing::{first_byte, has_rare, macro_tokens, part_tokens};
 use std::alloc::Global;
 use std::marker::Model;
 use tangle_lexer::{Token, place_at};
 use tangle_lines::{Fault, FaultKind, NoMemory, Source};
 
 /// Whether some token is `@h`.
-fn has_defs(tokens: &[Token]) -> bool
+fn has_defs(tokens: &[Token], has_rare: bool) -> bool
+    requires { has_rare ≡ list_any passes.is_rare tokens.now }
     ensures { result ≡ list_any web.is_defs tokens.now }
 {
-    tokens.iter().any(|token| matches!(token, Token::Defs(_)))
+    has_rare && tokens.iter().any(|token| matches!(token, Token::Defs(_)))
 }
 
 /// Notes a fault on a source line.
@@ -63,10 +65,15 @@ fn note_faults(
     source: &Source,
     faults: &mut Vec<Fault>,
     tokens: &[Token],
+    has_rare: bool,
 ) -> Result<(), NoMemory>
+    requires { has_rare ≡ list_any passes.is_rare tokens.now }
     ensures { OnOk result (faults.new.items
         ≡ faults.old.items ++ flat_map (own_fault source.now.files source.now.lines) tokens.now) }
 {
+    if !has_rare {
+        return Ok(());
+    }
     for token in tokens {
         note_own(alloc, source, faults, *token)?;
     }
@@ -89,19 +96,34 @@ impl Workspace {
         }
     }
 
-    /// The items of a C part whose head ends on a line.
+    /// Lays the items of a C part whose head ends on a line, and answers whether some of its tokens are rare. Most parts have none of
+    /// these, and are laid once as they are.
+    fn lay(&mut self, source: &Source, line: u32, tokens: &[Token]) -> Result<bool, NoMemory>
+        ensures items { OnOk result (self.new.items.items ≡ rules.part_items source.now.lines line tokens.now) }
+        ensures rare { IfOk result (λ rare. rare ≡ list_any passes.is_rare tokens.now) }
+    {
+        let rare = lay_part(source, &mut self.items, line, tokens)?;
+        if !rare {
+            return Ok(rare);
+        }
+        let left = part_tokens(source, &mut self.tokens, tokens)?;
+        lay_part(source, &mut self.items, line, left)?;
+        Ok(rare)
+    }
+
+    /// The items of a C part whose head ends on a line, and whether some of its tokens are rare.
     fn part_items(
         &mut self,
         alloc: Global,
         source: &Source,
         line: u32,
         tokens: &[Token],
-    ) -> Result<Vec<Item>, NoMemory>
-        ensures { IfOk result (λ items. items.items ≡ rules.part_items source.now.lines line tokens.now) }
+    ) -> Result<(Vec<Item>, bool), NoMemory>
+        ensures items { IfOk result (λ r. r.0.items ≡ rules.part_items source.now.lines line tokens.now) }
+        ensures rare { IfOk result (λ r. r.1 ≡ list_any passes.is_rare tokens.now) }
     {
-        let left = part_tokens(source, &mut self.tokens, tokens)?;
-        lay_part(source, &mut self.items, line, left)?;
-        Ok(Vec::from_slice(alloc, &self.items)?)
+        let rare = self.lay(source, line, tokens)?;
+        Ok((Vec::from_slice(alloc, &self.items)?, rare))
     }
 
     /// The items of a macro.
@@ -110,10 +132,12 @@ impl Workspace {
         alloc: Global,
         source: &Source,
         tokens: &[Token],
+        has_rare: bool,
     ) -> Result<Vec<Item>, NoMemory>
+        requires { has_rare ≡ list_any passes.is_rare tokens.now }
         ensures { IfOk result (λ items. items.items ≡ rules.macro_items (texts_of source.now.lines) tokens.now) }
     {
-        let left = macro_tokens(source, &mut self.tokens, tokens)?;
+        let left = macro_tokens(source, &mut self.tokens, tokens, has_rare)?;
         lay_macro(&mut self.items, left)?;
         Ok(Vec::from_slice(alloc, &self.items)?)
     }
@@ -178,11 +202,11 @@ impl Gathering {
         ensures gathering { OnOk result (self.new ≡ gathering_with source.now self.old tokens.now) }
         ensures sections { OnOk result (self.new.sections ≡ self.old.sections) }
     {
-        note_faults(alloc, source, &mut self.faults, tokens)?;
+        note_faults(alloc, source, &mut self.faults, tokens, has_rare(tokens))?;
         Ok(())
     }
 
-    /// Adds the piece of a C part whose head ends on a line.
+    /// Adds the piece of a C part whose head ends on a line, and answers whether some of its tokens are rare.
     fn add_piece(
         &mut self,
         alloc: Global,
@@ -191,8 +215,8 @@ impl Gathering {
         name: Option<usize>,
         line: u32,
         tokens: &[Token],
-    ) -> Result<(), NoMemory>
-        ensures { OnOk result (self.new ≡ record self.old {
+    ) -> Result<bool, NoMemory>
+        ensures piece { OnOk result (self.new ≡ record self.old {
           pieces = self.old.pieces ++ record {
             section = self.old.sections;
             place = occurrences.place_at source.now.lines line;
@@ -201,16 +225,18 @@ impl Gathering {
           } ∷ [];
           has_defs_code = self.old.has_defs_code || list_any web.is_defs tokens.now;
         }) }
+        ensures rare { IfOk result (λ rare. rare ≡ list_any passes.is_rare tokens.now) }
     {
-        let items = workspace.part_items(alloc, source, line, tokens)?;
+        let (items, rare) = workspace.part_items(alloc, source, line, tokens)?;
         let place = place_at(source, line);
         self.pieces
             .push(Piece::new(self.sections, place, name, items))?;
-        self.has_defs_code = self.has_defs_code || has_defs(tokens);
-        Ok(())
+        self.has_defs_code = self.has_defs_code || has_defs(tokens, rare);
+        Ok(rare)
     }
 
-    /// Adds a macro, or notes that it does not begin with an identifier, at the line of its `@d`.
+    /// Adds a macro, or notes that it does not begin with an identifier, at the line of its `@d`. It answers whether some of its tokens
+    /// are rare.
     fn add_macro(
         &mut self,
         alloc: Global,
@@ -218,23 +244,27 @@ impl Gathering {
         workspace: &mut Workspace,
         line: u32,
         tokens: &[Token],
-    ) -> Result<(), NoMemory>
-        ensures { OnOk result (let items = rules.macro_items (texts_of source.now.lines) tokens.now in
+    ) -> Result<bool, NoMemory>
+        ensures added { OnOk result (let items = rules.macro_items (texts_of source.now.lines) tokens.now in
             let is_macro = rules.is_macro (texts_of source.now.lines) items in
             self.new ≡ record self.old {
               macros = self.old.macros ++ (if is_macro then items ∷ [] else []);
               faults = self.old.faults ++ (if is_macro then [] else web.fault_on source.now.files source.now.lines fault.MacroName line ∷ []);
             }) }
+        ensures rare { IfOk result (λ rare. rare ≡ list_any passes.is_rare tokens.now) }
     {
-        let items = workspace.macro_items(alloc, source, tokens)?;
+        let rare = has_rare(tokens);
+        let items = workspace.macro_items(alloc, source, tokens, rare)?;
         if is_macro(source, &items) {
             self.macros.push(Macro::new(items))?;
-            return Ok(());
+            return Ok(rare);
         }
-        note(alloc, source, &mut self.faults, FaultKind::MacroName, line)
+        note(alloc, source, &mut self.faults, FaultKind::MacroName, line)?;
+        Ok(rare)
     }
 
-    /// Adds what a head and the tokens up to the next head are, but for the faults among these.
+    /// Adds what a head and the tokens up to the next head are, but for the faults among these. It answers whether
+    /// some of these tokens are rare.
     fn add_head(
         &mut self,
         alloc: Global,
@@ -242,16 +272,17 @@ impl Gathering {
         workspace: &mut Workspace,
         head: Token,
         tokens: &[Token],
-    ) -> Result<(), NoMemory>
+    ) -> Result<bool, NoMemory>
         requires room { self.old.sections + 1 < 2 ^ 64 }
         requires head { is_head head ≡ true }
         requires whole { web.body tokens.now ≡ tokens.now }
-        ensures { OnOk result (self.new ≡ with_head source.now self.old head tokens.now) }
+        ensures head { OnOk result (self.new ≡ with_head source.now self.old head tokens.now) }
+        ensures rare { IfOk result (λ rare. rare ≡ list_any passes.is_rare tokens.now) }
     {
         match head {
             Token::Section => {
                 self.sections += 1;
-                Ok(())
+                Ok(has_rare(tokens))
             }
             Token::MacroStart(line) => self.add_macro(alloc, source, workspace, line, tokens),
             Token::UnnamedPart(line) => {
@@ -260,7 +291,7 @@ impl Gathering {
             Token::NamedPart(name, line) => {
                 self.add_piece(alloc, source, workspace, Some(name), line, tokens)
             }
-            _ => Ok(()),
+            _ => Ok(has_rare(tokens)),
         }
     }
 
@@ -279,8 +310,8 @@ impl Gathering {
         ensures gathering { OnOk result (self.new ≡ gathering_with source.now self.old (head ∷ tokens.now)) }
         ensures sections { OnOk result (self.new.sections ≤ self.old.sections + 1) }
     {
-        self.add_head(alloc, source, workspace, head, tokens)?;
-        note_faults(alloc, source, &mut self.faults, tokens)?;
+        let rare = self.add_head(alloc, source, workspace, head, tokens)?;
+        note_faults(alloc, source, &mut self.faults, tokens, rare)?;
         Ok(())
     }
 }

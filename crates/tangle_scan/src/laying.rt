@@ -1,7 +1,8 @@
 //! From the tokens that spacing leaves to items. White space between two items of a line is a blank, and other white space is
 //! dropped. A line mark stands behind each use and each `@h`, and in place of a line end where the next source line has another
 //! place than the compiler would count.
-ghost use Rattle.std.specs.Prelude.{◌≡◌, ◌≤◌, ◌<◌, ◌-◌, ◌+◌, ◌^◌, ◌++◌, ◌∷◌, ◌&&◌, [], ℕ, List, length, max, if◌then◌else◌, false, Option, None, Some, option_to_list, IfOk, OnOk};
+ghost use Rattle.std.specs.Prelude.{◌≡◌, ◌≤◌, ◌<◌, ◌-◌, ◌+◌, ◌^◌, ◌++◌, ◌∷◌, ◌&&◌, ◌||◌, [], ℕ, List, length, max, if◌then◌else◌, false, Option, None, Some, option_to_list, IfOk, OnOk};
+ghost use Rattle.std.specs.List.{list_any};
 ghost use Rattle.tangle_scan.specs.Rules as rules;
 ghost use Rattle.tangle_lexer.specs.Occurrences as occurrences;
 ghost use Rattle.tangle_scan.specs.Passes as passes;
@@ -10,6 +11,7 @@ ghost use Rattle.tangle_lexer.specs.declared.tokens.Token.{Token};
 ghost use Rattle.tangle_scan.specs.declared.items.Item.TheVariants as item;
 
 use crate::items::Item;
+use crate::spacing::is_rare;
 use tangle_lexer::{Span, TextKind, Token, place_at};
 use tangle_lines::{NoMemory, Origin, Source};
 
@@ -176,61 +178,64 @@ fn put_item(
     }
 }
 
-/// Lays a token behind the items of a C part.
+/// Items were laid up to a place with this before it, and with this count.
+#[inline(always)]
+fn laid_to(item: bool, white: bool, count: Count) -> Laying
+    ensures { result ≡ record { before = record { item = item; white = white }; count = count } }
+{
+    let before = Before { item, white };
+    Laying { before, count }
+}
+
+/// Lays a token behind the items of a C part, and notes whether it is rare.
+#[inline(always)]
 fn lay_token(
     source: &Source,
     items: &mut Vec<Item>,
     at: Laying,
-    token: Token,
+    token: &Token,
+    has_rare: &mut bool,
 ) -> Result<Laying, NoMemory>
     requires { at.count.line < 2 ^ 63 }
     ensures laid { IfOk result (λ next. (es : List Token) →
-        items.new.items ++ items_ahead source.now.lines next es ≡ items.old.items ++ items_ahead source.now.lines at (token ∷ es)) }
+        items.new.items ++ items_ahead source.now.lines next es ≡ items.old.items ++ items_ahead source.now.lines at (token.now ∷ es)) }
     ensures room { IfOk result (λ next. next.count.line ≤ max (2 ^ 32) (at.count.line + 1)) }
+    ensures rare { OnOk result (has_rare.new ≡ (passes.is_rare token.now || has_rare.old)) }
 {
-    match token {
-        Token::White => {
-            let before = Before {
-                item: at.before.item,
-                white: true,
-            };
-            Ok(Laying {
-                before,
-                count: at.count,
-            })
-        }
+    match *token {
+        Token::White => Ok(laid_to(at.before.item, true, at.count)),
         Token::LineEnd(line) => {
             let count = put_line_end(source, items, at.count, line)?;
-            let before = Before {
-                item: false,
-                white: false,
-            };
-            Ok(Laying { before, count })
+            Ok(laid_to(false, false, count))
+        }
+        Token::Text(kind, span) => {
+            put_blank(items, at.before)?;
+            items.push(text_item(kind, span))?;
+            Ok(laid_to(true, false, at.count))
         }
         _ => {
+            *has_rare = is_rare(*token) || *has_rare;
             put_blank(items, at.before)?;
-            let count = put_item(source, items, at.count, token)?;
-            let before = Before {
-                item: true,
-                white: false,
-            };
-            Ok(Laying { before, count })
+            let count = put_item(source, items, at.count, *token)?;
+            Ok(laid_to(true, false, count))
         }
     }
 }
 
-/// Lays the items of a C part whose opening mark stands at a line.
+/// Lays the items of a C part whose opening mark stands at a line, and answers whether some token is rare.
 pub fn lay_part(
     source: &Source,
     items: &mut Vec<Item>,
     line: u32,
     tokens: &[Token],
-) -> Result<(), NoMemory>
-    ensures { OnOk result (items.new.items ≡ rules.items_by_place source.now.lines (occurrences.place_at source.now.lines line)
+) -> Result<bool, NoMemory>
+    ensures items { OnOk result (items.new.items ≡ rules.items_by_place source.now.lines (occurrences.place_at source.now.lines line)
         (rules.blanks false false tokens.now)) }
+    ensures rare { IfOk result (λ rare. rare ≡ list_any passes.is_rare tokens.now) }
 {
     items.clear();
     let place = place_at(source, line);
+    let mut has_rare = false;
     let mut at = Laying {
         before: Before {
             item: false,
@@ -242,9 +247,9 @@ pub fn lay_part(
         },
     };
     for token in tokens {
-        at = lay_token(source, items, at, *token)?;
+        at = lay_token(source, items, at, token, &mut has_rare)?;
     }
-    Ok(())
+    Ok(has_rare)
 }
 
 /// Lays a token behind the items of a macro.

@@ -223,33 +223,65 @@ fn space(
     Ok(())
 }
 
-/// Whether spacing may change tokens: it takes faults and joined runs out, and puts white space beside constants.
-fn may_change(token: Token) -> bool
-    ensures { result ≡ passes.may_change token }
+/// A token that most blocks do not have: a fault, a join, an ASCII constant or `@h`. Without them there is no fault to note, and spacing
+/// changes at most the front of a macro.
+pub fn is_rare(token: Token) -> bool
+    ensures { result ≡ passes.is_rare token }
 {
-    matches!(token, Token::Fault(..) | Token::Join | Token::Constant(..))
+    matches!(
+        token,
+        Token::Fault(..) | Token::Join | Token::Constant(..) | Token::Defs(_)
+    )
 }
 
-/// Whether spacing may change some of these tokens.
-fn may_change_any(tokens: &[Token]) -> bool
-    ensures { result ≡ list_any passes.may_change tokens.now }
+/// Whether some of these tokens are rare.
+pub fn has_rare(tokens: &[Token]) -> bool
+    ensures { result ≡ list_any passes.is_rare tokens.now }
 {
-    tokens.iter().any(|token| may_change(*token))
+    tokens.iter().any(|token| is_rare(*token))
 }
 
-/// The tokens of a C part that are left for its items: most parts keep all of theirs.
+/// The tokens of a C part that are left for its items.
 pub fn part_tokens<'e>(
     source: &Source,
     out: &'e mut Vec<Token>,
-    tokens: &'e [Token],
+    tokens: &[Token],
 ) -> Result<&'e [Token], NoMemory>
     ensures { IfOk result (λ left. left.now ≡ rules.without_joins [] (rules.with_spaces (rules.without_faults tokens.entry.now))) }
 {
-    if !may_change_any(tokens) {
-        return Ok(tokens);
-    }
     space(source, out, Stage::Inside, tokens)?;
     Ok(out.as_slice())
+}
+
+/// White space or a line end.
+fn is_front_gap(token: Token) -> bool
+    ensures { result ≡ passes.is_front_gap token }
+{
+    matches!(token, Token::White | Token::LineEnd(_))
+}
+
+/// The tokens behind the white space and the line ends at their front.
+fn behind_front(tokens: &[Token]) -> &[Token]
+    ensures { result.now ≡ passes.behind_front tokens.now }
+{
+    let mut rest = tokens;
+    while let [token, others @ ..] = rest {
+        if !is_front_gap(*token) {
+            return rest;
+        }
+        rest = others;
+    }
+    rest
+}
+
+/// Whether no white space is wanted behind the first token, the name of a macro.
+fn is_name_spaced(source: &Source, tokens: &[Token]) -> bool
+    ensures { result ≡ passes.is_name_spaced (texts_of source.now.lines) tokens.now }
+{
+    match tokens {
+        [_, token, ..] => may_follow_name(source, *token),
+        _ => true,
+    }
 }
 
 /// The tokens of a macro that are left for its items.
@@ -257,10 +289,16 @@ pub fn macro_tokens<'e>(
     source: &Source,
     out: &'e mut Vec<Token>,
     tokens: &'e [Token],
+    has_rare: bool,
 ) -> Result<&'e [Token], NoMemory>
+    requires { has_rare ≡ list_any passes.is_rare tokens.now }
     ensures { IfOk result (λ left. left.now ≡ rules.without_joins [] (rules.with_name_space (texts_of source.now.lines)
         (rules.with_spaces (rules.without_front_gaps (rules.without_faults tokens.entry.now))))) }
 {
+    let rest = behind_front(tokens);
+    if !has_rare && is_name_spaced(source, rest) {
+        return Ok(rest);
+    }
     space(source, out, Stage::Front, tokens)?;
     Ok(out.as_slice())
 }

@@ -9,9 +9,9 @@ use Rattle.tangle_script.specs.Commands.{OnlyWaits, all_commands, ended_commands
 use Rattle.tangle_script.specs.declared.answering.End.{End}
 use Rattle.tangle_script.specs.declared.answering.End.TheVariants.{Done, Failed as IsFailed}
 use Rattle.tangle_script.specs.Script.{IsCut, IsQuit, IsTold, Talk, Telling, has_quit}
-use Rattle.tangle_script.specs.Endings.{TalkEnds, script_limit, status_of}
+use Rattle.tangle_script.specs.Endings.{TalkEnds, script_limit}
 use Rattle.tangle_script.specs.Endings.TalkEnds.{IsAtQuit, IsAtInputEnd, IsUnread, IsTooLong, IsUnheard, IsShort}
-use Rattle.tangle_script.specs.Turns.{EndsBy, Holds, Probes, Stops}
+use Rattle.tangle_script.specs.Turns.{EndsAnswered, EndsBy, Holds, Probes, Stops}
 use Rattle.tangle_script.proofs.CommandLemmas.{all_commands-kept, commands-append, kept-append, kept_waits}
 use Rattle.tangle_script.proofs.TalkLemmas.{cut_more, told_none, told_then_cut, told_then_quit, told_then_told, unquit-append}
 
@@ -38,7 +38,7 @@ pub holds_at_first : {State : Type 0} (answers : State → Request → List ℕ 
 holds_at_first answers old p e = record { read = []; given = Consumes-none old.coming; counted = refl; reader_failures = refl; unquit = refl; told = told_none answers old.telling; pending_is = e }
 
 -- one more chunk
-module _ {State : Type 0} (answers : State → Request → List ℕ → State → Type 0) (has_error : State → Bool) (old : Talk State) (a b : Telling State) (coming coming' : Option (List ℕ)) (failures : ℕ) (p chunk : List ℕ) (n : ℕ) (h : Holds answers old (at a coming failures) p n) (given : Consumes coming coming' chunk) (failures' : ℕ) (same : failures' ≡ failures) where
+module _ {State : Type 0} (answers : State → Request → List ℕ → State → Type 0) (has_error : State → Bool → Type 0) (old : Talk State) (a b : Telling State) (coming coming' : Option (List ℕ)) (failures : ℕ) (p chunk : List ℕ) (n : ℕ) (h : Holds answers old (at a coming failures) p n) (given : Consumes coming coming' chunk) (failures' : ℕ) (same : failures' ≡ failures) where
   more_given : Consumes old.coming coming' (h.read ++ chunk)
   more_given = Consumes-trans old.coming coming coming' h.read chunk h.given given
 
@@ -67,9 +67,9 @@ module _ {State : Type 0} (answers : State → Request → List ℕ → State �
   }
 
   pub stops_more : (end : End) → n + length chunk ≤ script_limit → Stops answers end a b (p ++ chunk) → EndsBy answers has_error end old (at b coming' failures')
-  stops_more Done short quit =
+  stops_more Done short quit = λ status is.
       IsAtQuit (h.read ++ chunk) more_given (omega (arith, length-append h.read chunk, h.counted)) (same ∙ h.reader_failures)
-      (subst (IsQuit answers old.telling b) (sym more_commands) (told_then_quit answers old.telling a b (ended_commands h.read) (ended_commands (p ++ chunk)) h.told h.unquit quit)) refl
+      (subst (IsQuit answers old.telling b) (sym more_commands) (told_then_quit answers old.telling a b (ended_commands h.read) (ended_commands (p ++ chunk)) h.told h.unquit quit)) is
   stops_more IsFailed short why =
       let within : length (h.read ++ chunk) ≤ script_limit = omega (arith, length-append h.read chunk, h.counted) in
       elim why [
@@ -82,7 +82,7 @@ module _ {State : Type 0} (answers : State → Request → List ℕ → State �
             IsShort (h.read ++ chunk) more_given within (same ∙ h.reader_failures) (subst (λ l. 0 < length l) (sym more_kept) short.2) (more_unquit short.1) (more_told short.0) refl
       ]
 
-module _ {State : Type 0} (answers : State → Request → List ℕ → State → Type 0) (has_error : State → Bool) (old : Talk State) (a : Telling State) (coming : Option (List ℕ)) (failures : ℕ) (p : List ℕ) (n : ℕ) (h : Holds answers old (at a coming failures) p n) where
+module _ {State : Type 0} (answers : State → Request → List ℕ → State → Type 0) (has_error : State → Bool → Type 0) (old : Talk State) (a : Telling State) (coming : Option (List ℕ)) (failures : ℕ) (p : List ℕ) (n : ℕ) (h : Holds answers old (at a coming failures) p n) where
   -- the reader failed
   pub ends_unread : (coming' : Option (List ℕ)) (failures' : ℕ) → n ≤ script_limit → Keeps coming coming' → failures' ≡ one_more_failure failures → TalkEnds answers has_error old (at a coming' failures') 3
   ends_unread coming' failures' short keeps counted =
@@ -109,10 +109,10 @@ module _ {State : Type 0} (answers : State → Request → List ℕ → State �
   all_read : all_commands h.read ≡ ended_commands h.read ++ all_commands p
   all_read = all_commands-kept h.read ∙ ap (λ q. ended_commands h.read ++ all_commands q) (sym h.pending_is)
 
-  pub ends_told : (b : Telling State) → n ≤ script_limit → IsAtEnd coming → IsTold answers a b (all_commands p) → TalkEnds answers has_error old (at b coming failures) (status_of (has_error b.state))
-  ends_told b short none told =
+  pub ends_told : (b : Telling State) → n ≤ script_limit → IsAtEnd coming → IsTold answers a b (all_commands p) → EndsAnswered answers has_error old (at b coming failures)
+  ends_told b short none told = λ status is.
       IsAtInputEnd h.read h.given (omega (arith, h.counted)) h.reader_failures none h.unquit
-      (subst (IsTold answers old.telling b) (sym all_read) (told_then_told answers old.telling a b (ended_commands h.read) (all_commands p) h.told told)) refl
+      (subst (IsTold answers old.telling b) (sym all_read) (told_then_told answers old.telling a b (ended_commands h.read) (all_commands p) h.told told)) is
 
   pub ends_cut : (b : Telling State) → n ≤ script_limit → IsCut answers a b (all_commands p) → TalkEnds answers has_error old (at b coming failures) 3
   ends_cut b short cut =
@@ -121,7 +121,7 @@ module _ {State : Type 0} (answers : State → Request → List ℕ → State �
 
   -- what stands at the end was answered, or the writer failed in it
   pub ends_last : (b : Telling State) → n ≤ script_limit → IsAtEnd coming → (r : Result (Unit {0}) End) → IfOk r (λ _. IsTold answers a b (all_commands p)) → IfErr r (λ end. (end ≡ IsFailed) × IsCut answers a b (all_commands p))
-      → MatchResult r (λ _. TalkEnds answers has_error old (at b coming failures) (status_of (has_error b.state))) (λ end. EndsBy answers has_error end old (at b coming failures))
+      → MatchResult r (λ _. EndsAnswered answers has_error old (at b coming failures)) (λ end. EndsBy answers has_error end old (at b coming failures))
   ends_last b short none (Ok x) told cut = ends_told b short none told
   ends_last b short none (Err end) told cut = subst (λ e. EndsBy answers has_error e old (at b coming failures)) (sym cut.0) (ends_cut b short cut.1)
 
@@ -129,14 +129,14 @@ module _ {State : Type 0} (answers : State → Request → List ℕ → State �
   waits_now = subst OnlyWaits (sym h.pending_is) (kept_waits h.read)
 
 -- the same by what a probe told
-module _ {State : Type 0} (answers : State → Request → List ℕ → State → Type 0) (has_error : State → Bool) (old : Talk State) (a : Telling State) (coming : Option (List ℕ)) (failures : ℕ) (p : List ℕ) (n : ℕ) (h : Holds answers old (at a coming failures) p n) where
+module _ {State : Type 0} (answers : State → Request → List ℕ → State → Type 0) (has_error : State → Bool → Type 0) (old : Talk State) (a : Telling State) (coming : Option (List ℕ)) (failures : ℕ) (p : List ℕ) (n : ℕ) (h : Holds answers old (at a coming failures) p n) where
   pub ends_too_long_at : (coming' : Option (List ℕ)) (failures' : ℕ) → n ≡ script_limit → Probes coming coming' (Some false) → failures' ≡ failures → TalkEnds answers has_error old (at a coming' failures') 3
   ends_too_long_at coming' failures' full probe same =
       subst (λ f. TalkEnds answers has_error old (at a coming' f) 3) (sym same) (ends_too_long answers has_error old a coming failures p n h coming' probe.0 full probe.1)
 
   pub ends_last_at : (b : Telling State) (coming' : Option (List ℕ)) (failures' : ℕ) → n ≤ script_limit → Probes coming coming' (Some true) → failures' ≡ failures
       → (r : Result (Unit {0}) End) → IfOk r (λ _. IsTold answers a b (all_commands p)) → IfErr r (λ end. (end ≡ IsFailed) × IsCut answers a b (all_commands p))
-      → MatchResult r (λ _. TalkEnds answers has_error old (at b coming' failures') (status_of (has_error b.state))) (λ end. EndsBy answers has_error end old (at b coming' failures'))
+      → MatchResult r (λ _. EndsAnswered answers has_error old (at b coming' failures')) (λ end. EndsBy answers has_error end old (at b coming' failures'))
   ends_last_at b coming' failures' short probe same r told cut =
-      subst (λ f. MatchResult r (λ _. TalkEnds answers has_error old (at b coming' f) (status_of (has_error b.state))) (λ end. EndsBy answers has_error end old (at b coming' f))) (sym same)
+      subst (λ f. MatchResult r (λ _. EndsAnswered answers has_error old (at b coming' f)) (λ end. EndsBy answers has_error end old (at b coming' f))) (sym same)
       (ends_last answers has_error old a coming' failures p n (holds_at_end answers has_error old a coming failures p n h coming' probe.0) b short probe.1 r told cut)

@@ -1,10 +1,9 @@
 -- Dialogues, one after another.
-use Rattle.std.proofs.Common.{◌≡◌, ◌∙◌, ℕ, ◌<◌, ◌≤◌, ◌-◌, drop, length-append, Bool, true, false, length, take, List, [], ◌∷◌, ◌++◌, Option, Some, None, Ok, Err, ap, subst, sym, refl, append_assoc, append-nil, arith}
+use Rattle.std.proofs.Common.{◌≡◌, ◌∙◌, ℕ, ◌<◌, ◌≤◌, ◌-◌, drop, length-append, Bool, true, false, length, take, List, [], ◌∷◌, ◌++◌, Option, Some, None, ap, subst, sym, refl, append_assoc, append-nil, arith}
 use Rattle.std.specs.Io.KnownBytes.{Appends}
 use Rattle.std.specs.Prelude.{◌||◌}
-use Rattle.tangle_streams.specs.Streams.{Failed, PutsOut}
+use Rattle.tangle_streams.specs.Streams.{Failed}
 use Rattle.tangle_streams.proofs.StreamLemmas.{Appends-append, Appends-none}
-use Rattle.tangle_streams.specs.declared.failures.WriteFault.{WriteFault}
 use Rattle.tangle_script.specs.Requests.{Command, Request, is_quit, request_of}
 use Rattle.tangle_script.specs.Commands.{ended_commands, found_commands, is_nothing, kept}
 use Rattle.tangle_script.specs.Script.{Dialogue, IsCut, IsQuit, IsTold, Replies, Telling, has_quit}
@@ -122,16 +121,17 @@ module _ {State : Type 0} (answers : State → Request → List ℕ → State �
 
   -- one command
 
-  pub one_told : (a b : Telling State) (c : Command) (reply : List ℕ) (n : ℕ) → Replies answers a.state (request_of c) reply b.state → PutsOut a.stream b.stream reply (Ok n) → IsTold answers a b (c ∷ [])
-  one_told a b c reply n h k = record {
+  pub one_told : (a b : Telling State) (c : Command) (reply : List ℕ) → Replies answers a.state (request_of c) reply b.state → Appends a.stream.taken b.stream.taken reply × (b.stream.failures ≡ a.stream.failures) → IsTold answers a b (c ∷ [])
+  one_told a b c reply h k = record {
     text = reply;
     answered = (reply, [], b.state, h, (refl, refl), sym (append-nil reply));
-    told = k.1;
-    failures = k.2;
+    told = k.0;
+    failures = k.1;
   }
 
-  pub one_cut : (a b : Telling State) (c : Command) (reply : List ℕ) (e : WriteFault) → Replies answers a.state (request_of c) reply b.state → PutsOut a.stream b.stream reply (Err e) → IsCut answers a b (c ∷ [])
-  one_cut a b c reply e h k = record {
+  pub one_cut : (a b : Telling State) (c : Command) (reply : List ℕ) → Replies answers a.state (request_of c) reply b.state
+      → (n : ℕ) × (n < length reply) × Appends a.stream.taken b.stream.taken (take n reply) × Failed a.stream.failures b.stream.failures → IsCut answers a b (c ∷ [])
+  one_cut a b c reply h k = record {
     front = [];
     last = c;
     later = [];
@@ -142,10 +142,10 @@ module _ {State : Type 0} (answers : State → Request → List ℕ → State �
     answer = reply;
     answered = (refl, refl);
     cut = h;
-    count = e.0;
-    within = k.0;
-    told = k.1;
-    failed = k.2;
+    count = k.0;
+    within = k.1;
+    told = k.2;
+    failed = k.3;
   }
 
   -- a line

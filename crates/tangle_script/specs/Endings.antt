@@ -14,15 +14,19 @@ script_limit = 67108864
 abbrev pub status_of : Bool → ℕ
 status_of has_error = if has_error then 1 else 0
 
+-- so the status is in this state, of a project that says whether an error is among its faults
+abbrev pub IsStatus : {State : Type 0} → (State → Bool → Type 0) → State → ℕ → Type 0
+IsStatus has_error state status = (error : Bool) × has_error state error × (status ≡ status_of error)
+
 -- How a run ends, by what was read of the script.
-pub data TalkEnds {State : Type 0} (answers : State → Request → List ℕ → State → Type 0) (has_error : State → Bool) (old new : Talk State) (status : ℕ) : Type 0 where
+pub data TalkEnds {State : Type 0} (answers : State → Request → List ℕ → State → Type 0) (has_error : State → Bool → Type 0) (old new : Talk State) (status : ℕ) : Type 0 where
   -- 0 or 1: a `quit` was read, and all commands up to it are answered
   IsAtQuit : (read : List ℕ) → Consumes old.coming new.coming read → length read ≤ script_limit → new.reader_failures ≡ old.reader_failures
-      → IsQuit answers old.telling new.telling (ended_commands read) → status ≡ status_of (has_error new.telling.state) → TalkEnds answers has_error old new status
+      → IsQuit answers old.telling new.telling (ended_commands read) → IsStatus has_error new.telling.state status → TalkEnds answers has_error old new status
   -- 0 or 1: the script came to its end, and all its commands are answered
   IsAtInputEnd : (read : List ℕ) → Consumes old.coming new.coming read → length read ≤ script_limit → new.reader_failures ≡ old.reader_failures
       → IsAtEnd new.coming → has_quit (ended_commands read) ≡ false → IsTold answers old.telling new.telling (all_commands read)
-      → status ≡ status_of (has_error new.telling.state) → TalkEnds answers has_error old new status
+      → IsStatus has_error new.telling.state status → TalkEnds answers has_error old new status
   -- 3: the reader failed, and the commands that had ended are answered
   IsUnread : (read : List ℕ) → Consumes old.coming new.coming read → length read ≤ script_limit → Failed old.reader_failures new.reader_failures
       → has_quit (ended_commands read) ≡ false → IsTold answers old.telling new.telling (ended_commands read) → status ≡ 3 → TalkEnds answers has_error old new status

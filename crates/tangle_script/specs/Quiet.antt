@@ -14,5 +14,5 @@ pub record IsQuiet {State : Type 0} (old new : Talk State) : Type 0 where
   pub taken : Failed old.telling.stream.failures new.telling.stream.failures → ⊥
 
 -- status 3 is no end of such a run
-abbrev pub ThreeNeedsReason : {State : Type 0} → (State → Request → List ℕ → State → Type 0) → (State → Bool) → Type 0
+abbrev pub ThreeNeedsReason : {State : Type 0} → (State → Request → List ℕ → State → Type 0) → (State → Bool → Type 0) → Type 0
 ThreeNeedsReason {State} answers has_error = (old new : Talk State) → IsQuiet old new → TalkEnds answers has_error old new 3 → ⊥

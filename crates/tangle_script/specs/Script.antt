@@ -1,5 +1,5 @@
 -- How a script is answered, and how a run of it ends.
-use Rattle.std.specs.Prelude.{◌≡◌, ◌<◌, ◌⊎◌, ℕ, Bool, true, false, List, [], ◌∷◌, ◌++◌, codes, length, take, Option}
+use Rattle.std.specs.Prelude.{◌≡◌, ◌<◌, ◌⊎◌, ℕ, Bool, true, false, List, [], ◌∷◌, ◌++◌, codes, length, take, Option, Result, Ok, Err}
 use Rattle.std.specs.List.{list_any}
 use Rattle.std.specs.Io.KnownBytes.{Appends}
 use Rattle.tangle_streams.specs.Streams.{Failed, Stream}
@@ -21,6 +21,11 @@ pub record Talk (State : Type 0) : Type 0 where
 
 abbrev pub talk : {State : Type 0} → State → Stream → Option (List ℕ) → ℕ → Talk State
 talk state stream coming reader_failures = record { telling = telling state stream; coming = coming; reader_failures = reader_failures }
+
+-- A text was written: the writer has all of it and did not fail, or it has a front of it and failed.
+abbrev pub WritesText : {T E : Type 0} → Stream → Stream → List ℕ → Result T E → Type 0
+WritesText old new text (Ok done) = Appends old.taken new.taken text × (new.failures ≡ old.failures)
+WritesText old new text (Err fault) = (n : ℕ) × (n < length text) × Appends old.taken new.taken (take n text) × Failed old.failures new.failures
 
 -- some command ends the run
 abbrev pub has_quit : List Command → Bool

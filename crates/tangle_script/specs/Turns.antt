@@ -5,7 +5,7 @@ use Rattle.tangle_streams.specs.Streams.{one_more_failure}
 use Rattle.tangle_script.specs.Requests.{Command, Request}
 use Rattle.tangle_script.specs.Commands.{ended_commands, kept}
 use Rattle.tangle_script.specs.Script.{IsCut, IsQuit, IsTold, Talk, Telling, has_quit}
-use Rattle.tangle_script.specs.Endings.{TalkEnds, status_of}
+use Rattle.tangle_script.specs.Endings.{IsStatus, TalkEnds}
 use Rattle.tangle_script.specs.declared.answering.End.{End}
 use Rattle.tangle_script.specs.declared.answering.End.TheVariants.{Done, Failed as IsFailed}
 
@@ -32,9 +32,13 @@ module _ {State : Type 0} (answers : State → Request → List ℕ → State �
     pub told : IsTold answers old.telling now.telling (ended_commands read)
     pub pending_is : pending ≡ kept read
 
+  -- a run came to its end, and its status is that of its faults
+  abbrev pub EndsAnswered : (State → Bool → Type 0) → Talk State → Talk State → Type 0
+  EndsAnswered has_error old new = (status : ℕ) → IsStatus has_error new.telling.state status → TalkEnds answers has_error old new status
+
   -- why a run ends
-  abbrev pub EndsBy : (State → Bool) → End → Talk State → Talk State → Type 0
-  EndsBy has_error Done old new = TalkEnds answers has_error old new (status_of (has_error new.telling.state))
+  abbrev pub EndsBy : (State → Bool → Type 0) → End → Talk State → Talk State → Type 0
+  EndsBy has_error Done old new = EndsAnswered has_error old new
   EndsBy has_error IsFailed old new = TalkEnds answers has_error old new 3
 
 -- whether more of a script comes

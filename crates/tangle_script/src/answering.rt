@@ -7,9 +7,10 @@ ghost use Rattle.tangle_script.specs.Turns.{Breaks};
 ghost use Rattle.tangle_script.specs.declared.answering.End.TheVariants.{Failed};
 
 use crate::commands::{first_command, last_parts};
-use crate::project::Project;
+use crate::project::{Project, SinkFailed};
 use crate::request::parse;
-use tangle_streams::{Sink, WriteFault};
+use std::alloc::Global;
+use tangle_streams::Sink;
 
 /// Why a run ends.
 #[derive(Clone, Copy, Debug, PartialEq, Eq)]
@@ -31,27 +32,28 @@ fn is_no_command(line: &[u8], text: Option<&[u8]>) -> bool
 
 // Answers a line with its text, and says whether the run ends after it. An empty line is no command.
 fn answer_line<P: Project, S: Sink>(
-    project: &mut P,
+    alloc: Global,
+    held: &mut P::Held,
     line: &[u8],
     text: Option<&[u8]>,
     sink: &mut S,
-) -> Result<bool, WriteFault>
+) -> Result<bool, SinkFailed>
     ensures told { IfOk result (λ _. IsTold P.answers
-        (telling (P.state project.old) (S.stream sink.old))
-        (telling (P.state project.new) (S.stream sink.new))
+        (telling (P.state held.old) (S.stream sink.old))
+        (telling (P.state held.new) (S.stream sink.new))
         (found_commands line.now (option_copied text.entry))) }
     ensures quit { IfOk result (λ quit.
         has_quit (found_commands line.now (option_copied text.entry)) ≡ quit) }
     ensures cut { IfErr result (λ _. IsCut P.answers
-        (telling (P.state project.old) (S.stream sink.old))
-        (telling (P.state project.new) (S.stream sink.new))
+        (telling (P.state held.old) (S.stream sink.old))
+        (telling (P.state held.new) (S.stream sink.new))
         (found_commands line.now (option_copied text.entry))) }
 {
     if is_no_command(line, text) {
         return Ok(false);
     }
     let request = parse(line, text);
-    match project.answer(&request, sink) {
+    match P::answer(alloc, held, &request, sink) {
         Ok(_) => Ok(request.is_quit()),
         Err(fault) => Err(fault),
     }
@@ -59,25 +61,26 @@ fn answer_line<P: Project, S: Sink>(
 
 /// Answers the commands that have ended in the bytes, and says how many bytes these are.
 pub fn answer_all<P: Project, S: Sink>(
-    project: &mut P,
+    alloc: Global,
+    held: &mut P::Held,
     bytes: &[u8],
     sink: &mut S,
 ) -> Result<usize, End>
     ensures told { IfOk result (λ _. IsTold P.answers
-        (telling (P.state project.old) (S.stream sink.old))
-        (telling (P.state project.new) (S.stream sink.new))
+        (telling (P.state held.old) (S.stream sink.old))
+        (telling (P.state held.new) (S.stream sink.new))
         (ended_commands bytes.now)) }
     ensures unquit { IfOk result (λ _. has_quit (ended_commands bytes.now) ≡ false) }
     ensures used { IfOk result (λ used.
         (kept bytes.now ≡ drop used bytes.now) × (used ≤ length bytes.now)) }
     ensures breaks { IfErr result (λ end. Breaks P.answers end
-        (telling (P.state project.old) (S.stream sink.old))
-        (telling (P.state project.new) (S.stream sink.new))
+        (telling (P.state held.old) (S.stream sink.old))
+        (telling (P.state held.new) (S.stream sink.new))
         (ended_commands bytes.now)) }
 {
     let mut rest = bytes;
     while let Some(found) = first_command(rest) {
-        match answer_line(project, found.line, found.text, sink) {
+        match answer_line::<P, S>(alloc, held, found.line, found.text, sink) {
             Err(_) => return Err(End::Failed),
             Ok(true) => return Err(End::Done),
             Ok(false) => {}
@@ -89,22 +92,23 @@ pub fn answer_all<P: Project, S: Sink>(
 
 /// Answers what stands at the end of a script: a line without a line feed, or one whose text has not ended.
 pub fn answer_last<P: Project, S: Sink>(
-    project: &mut P,
+    alloc: Global,
+    held: &mut P::Held,
     bytes: &[u8],
     sink: &mut S,
 ) -> Result<(), End>
     requires { OnlyWaits bytes.now }
     ensures told { IfOk result (λ _. IsTold P.answers
-        (telling (P.state project.old) (S.stream sink.old))
-        (telling (P.state project.new) (S.stream sink.new))
+        (telling (P.state held.old) (S.stream sink.old))
+        (telling (P.state held.new) (S.stream sink.new))
         (all_commands bytes.now)) }
     ensures cut { IfErr result (λ end. (end ≡ Failed) × IsCut P.answers
-        (telling (P.state project.old) (S.stream sink.old))
-        (telling (P.state project.new) (S.stream sink.new))
+        (telling (P.state held.old) (S.stream sink.old))
+        (telling (P.state held.new) (S.stream sink.new))
         (all_commands bytes.now)) }
 {
     let (line, text) = last_parts(bytes);
-    match answer_line(project, line, text, sink) {
+    match answer_line::<P, S>(alloc, held, line, text, sink) {
         Ok(_) => Ok(()),
         Err(_) => Err(End::Failed),
     }

@@ -11,6 +11,6 @@ mod project;
 mod request;
 mod running;
 
-pub use project::Project;
+pub use project::{Project, SinkFailed};
 pub use request::{Request, each_command_asks_for_its_row, parse, wants_text};
 pub use running::{SCRIPT_LIMIT, run_script, three_needs_a_reason};

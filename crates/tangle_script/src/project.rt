@@ -1,35 +1,47 @@
 //! What answers a script.
 ghost use Rattle.std.specs.Prelude.{◌≡◌, ℕ, List, Bool};
-ghost use Rattle.tangle_streams.specs.Streams.{PutsOut};
 ghost use Rattle.tangle_script.specs.Requests.{Request, asked};
-ghost use Rattle.tangle_script.specs.Script.{Replies};
+ghost use Rattle.tangle_script.specs.Script.{Replies, WritesText};
 
 use crate::request::Request;
-use tangle_streams::{Sink, WriteFault};
+use std::alloc::Global;
+use tangle_streams::Sink;
 
-/// A project that a script is told to.
+/// The sink failed before it took all of an answer.
+#[derive(Clone, Copy, Debug, PartialEq, Eq)]
+pub struct SinkFailed;
+
+/// A project that a script is told to: how it answers.
 pub trait Project {
+    /// What changes as edits are made.
+    type Held;
+
     // What can be asked of it.
     ghost State: { Type 0 };
 
     // The same, of this one.
-    ghost state: { Self → State };
+    ghost state: { Self.Held → State };
 
     // This text answers the request in the one state, and the other state comes after it.
     ghost answers: { State → Request → List ℕ → State → Type 0 };
 
     // Whether an error is among the faults.
-    ghost has_error: { State → Bool };
+    ghost has_error: { State → Bool → Type 0 };
 
     /// Does what is asked, and writes the answer.
     ///
     /// # Errors
     ///
-    /// The fault of the sink. What was asked is done all the same.
-    fn answer<S: Sink>(&mut self, request: &Request<'_>, sink: &mut S) -> Result<u128, WriteFault>
-        ensures { (text : List ℕ) × Replies answers (state self.old) (asked request.now) text (state self.new) × PutsOut (S.stream sink.old) (S.stream sink.new) text result };
+    /// The sink failed. What was asked is done all the same.
+    fn answer<S: Sink>(
+        alloc: Global,
+        held: &mut Self::Held,
+        request: &Request<'_>,
+        sink: &mut S,
+    ) -> Result<(), SinkFailed>
+        ensures { (text : List ℕ) × Replies answers (state held.old) (asked request.now) text (state held.new) × WritesText (S.stream sink.old) (S.stream sink.new) text result };
 
     /// Whether an error is among the faults.
-    fn has_error(&self) -> bool
-        ensures { result ≡ has_error (state self.now) };
+    fn has_error(held: &Self::Held) -> bool
+        ensures { has_error (state held.now) result };
 }

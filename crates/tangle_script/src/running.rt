@@ -5,9 +5,9 @@ ghost use Rattle.std.specs.Io.KnownBytes.{IsAtEnd};
 ghost use Rattle.tangle_streams.specs.Feeds.{Gives, counted_read};
 ghost use Rattle.tangle_script.specs.Commands.{OnlyWaits, ended_commands, kept};
 ghost use Rattle.tangle_script.specs.Script.{IsTold, Talk, has_quit, talk, telling};
-ghost use Rattle.tangle_script.specs.Endings.{TalkEnds, script_limit, status_of};
+ghost use Rattle.tangle_script.specs.Endings.{IsStatus, TalkEnds, script_limit};
 ghost use Rattle.tangle_script.specs.Quiet.{ThreeNeedsReason};
-ghost use Rattle.tangle_script.specs.Turns.{EndsBy, Holds, Probes, Stops, counted_probe};
+ghost use Rattle.tangle_script.specs.Turns.{EndsAnswered, EndsBy, Holds, Probes, Stops, counted_probe};
 
 use crate::answering::{End, answer_all, answer_last};
 use crate::commands::ends_a_line;
@@ -22,7 +22,8 @@ pub const SCRIPT_LIMIT: usize = 67_108_864;
 // Answers the commands that end in the chunk, and keeps what follows them. Bytes that are kept are looked at again only
 // where a line feed came, so a long line costs no more than its length.
 fn hear<P: Project, S: Sink>(
-    project: &mut P,
+    alloc: Global,
+    held: &mut P::Held,
     chunk: &[u8],
     pending: &mut Vec<u8>,
     sink: &mut S,
@@ -31,19 +32,19 @@ fn hear<P: Project, S: Sink>(
     requires room { 0 < vec_len pending.old → vec_len pending.old + 4096 ≤ vec_capacity pending.old }
     requires short { length chunk.now ≤ 4096 }
     ensures told { IfOk result (λ _. IsTold P.answers
-        (telling (P.state project.old) (S.stream sink.old))
-        (telling (P.state project.new) (S.stream sink.new))
+        (telling (P.state held.old) (S.stream sink.old))
+        (telling (P.state held.new) (S.stream sink.new))
         (ended_commands (pending.old.items ++ chunk.now))) }
     ensures unquit { OnOk result (has_quit (ended_commands (pending.old.items ++ chunk.now)) ≡ false) }
     ensures kept { OnOk result (pending.new.items ≡ kept (pending.old.items ++ chunk.now)) }
     ensures room { OnOk result (0 < vec_len pending.new → vec_len pending.new + 4096 ≤ vec_capacity pending.new) }
     ensures stops { IfErr result (λ end. Stops P.answers end
-        (telling (P.state project.old) (S.stream sink.old))
-        (telling (P.state project.new) (S.stream sink.new))
+        (telling (P.state held.old) (S.stream sink.old))
+        (telling (P.state held.new) (S.stream sink.new))
         (pending.old.items ++ chunk.now)) }
 {
     if pending.is_empty() {
-        let used = answer_all(project, chunk, sink)?;
+        let used = answer_all::<P, S>(alloc, held, chunk, sink)?;
         return keep(pending, &chunk[used..]);
     }
     append(pending, chunk);
@@ -53,7 +54,7 @@ fn hear<P: Project, S: Sink>(
         }
         return Ok(());
     }
-    let used = answer_all(project, pending.as_slice(), sink)?;
+    let used = answer_all::<P, S>(alloc, held, pending.as_slice(), sink)?;
     keep_rest(pending, used)
 }
 
@@ -71,7 +72,8 @@ fn fill_front<R: Feed>(feed: &mut R, room: &mut [u8], size: usize) -> Option<usi
 
 // Reads once, and answers the commands that have ended. 0 is the end of the script.
 fn turn<P: Project, R: Feed, S: Sink>(
-    project: &mut P,
+    alloc: Global,
+    held: &mut P::Held,
     feed: &mut R,
     room: &mut [u8],
     size: usize,
@@ -85,21 +87,21 @@ fn turn<P: Project, R: Feed, S: Sink>(
     requires room { 0 < vec_len pending.old → vec_len pending.old + 4096 ≤ vec_capacity pending.old }
     ensures ends { (old : Talk P.State) (count : ℕ) → count + size ≤ script_limit
         → Holds P.answers old
-        (talk (P.state project.old) (S.stream sink.old) (R.coming feed.old) (R.failures feed.old))
+        (talk (P.state held.old) (S.stream sink.old) (R.coming feed.old) (R.failures feed.old))
         pending.old.items count
         → MatchResult result
         (λ n. Holds P.answers old
-        (talk (P.state project.new) (S.stream sink.new) (R.coming feed.new) (R.failures feed.new))
+        (talk (P.state held.new) (S.stream sink.new) (R.coming feed.new) (R.failures feed.new))
         pending.new.items (count + n))
         (λ end. EndsBy P.answers P.has_error end old
-        (talk (P.state project.new) (S.stream sink.new) (R.coming feed.new) (R.failures feed.new))) }
+        (talk (P.state held.new) (S.stream sink.new) (R.coming feed.new) (R.failures feed.new))) }
     ensures end { IfOk result (λ n. n ≡ 0 → IsAtEnd (R.coming feed.new)) }
     ensures within { IfOk result (λ n. n ≤ size) }
     ensures room { OnOk result (0 < vec_len pending.new → vec_len pending.new + 4096 ≤ vec_capacity pending.new) }
 {
     match fill_front(feed, room, size) {
         None => Err(End::Failed),
-        Some(count) => match hear(project, &room[..count], pending, sink) {
+        Some(count) => match hear::<P, S>(alloc, held, &room[..count], pending, sink) {
             Ok(()) => Ok(count),
             Err(end) => Err(end),
         },
@@ -118,7 +120,8 @@ fn ends_here<R: Feed>(feed: &mut R) -> Option<bool>
 
 // Ends where as much was read as is allowed.
 fn end_full<P: Project, R: Feed, S: Sink>(
-    project: &mut P,
+    alloc: Global,
+    held: &mut P::Held,
     feed: &mut R,
     pending: &[u8],
     sink: &mut S,
@@ -126,78 +129,76 @@ fn end_full<P: Project, R: Feed, S: Sink>(
     requires { OnlyWaits pending.now }
     ensures { (old : Talk P.State) (count : ℕ) → count ≡ script_limit
         → Holds P.answers old
-        (talk (P.state project.old) (S.stream sink.old) (R.coming feed.old) (R.failures feed.old))
+        (talk (P.state held.old) (S.stream sink.old) (R.coming feed.old) (R.failures feed.old))
         pending.now count
         → MatchResult result
-        (λ _. TalkEnds P.answers P.has_error old
-        (talk (P.state project.new) (S.stream sink.new) (R.coming feed.new) (R.failures feed.new))
-        (status_of (P.has_error (P.state project.new))))
+        (λ _. EndsAnswered P.answers P.has_error old
+        (talk (P.state held.new) (S.stream sink.new) (R.coming feed.new) (R.failures feed.new)))
         (λ end. EndsBy P.answers P.has_error end old
-        (talk (P.state project.new) (S.stream sink.new) (R.coming feed.new) (R.failures feed.new))) }
+        (talk (P.state held.new) (S.stream sink.new) (R.coming feed.new) (R.failures feed.new))) }
 {
     match ends_here(feed) {
         None => Err(End::Failed),
         Some(false) => Err(End::Failed),
-        Some(true) => answer_last(project, pending, sink),
+        Some(true) => answer_last::<P, S>(alloc, held, pending, sink),
     }
 }
 
 // Reads the script to its end. The room for a chunk stands on the stack, so no memory is wanted before the first reading.
 fn read_script<P: Project, R: Feed, S: Sink>(
     alloc: Global,
-    project: &mut P,
+    held: &mut P::Held,
     feed: &mut R,
     sink: &mut S,
 ) -> Result<(), End>
     ensures { MatchResult result
-        (λ _. TalkEnds P.answers P.has_error
-        (talk (P.state project.old) (S.stream sink.old) (R.coming feed.old) (R.failures feed.old))
-        (talk (P.state project.new) (S.stream sink.new) (R.coming feed.new) (R.failures feed.new))
-        (status_of (P.has_error (P.state project.new))))
+        (λ _. EndsAnswered P.answers P.has_error
+        (talk (P.state held.old) (S.stream sink.old) (R.coming feed.old) (R.failures feed.old))
+        (talk (P.state held.new) (S.stream sink.new) (R.coming feed.new) (R.failures feed.new)))
         (λ end. EndsBy P.answers P.has_error end
-        (talk (P.state project.old) (S.stream sink.old) (R.coming feed.old) (R.failures feed.old))
-        (talk (P.state project.new) (S.stream sink.new) (R.coming feed.new) (R.failures feed.new))) }
+        (talk (P.state held.old) (S.stream sink.old) (R.coming feed.old) (R.failures feed.old))
+        (talk (P.state held.new) (S.stream sink.new) (R.coming feed.new) (R.failures feed.new))) }
 {
     let mut room = [0u8; CHUNK];
     let mut pending = Vec::new(alloc);
     let mut count = 0;
     while count < SCRIPT_LIMIT {
         let size = CHUNK.min(SCRIPT_LIMIT - count);
-        match turn(project, feed, &mut room, size, &mut pending, sink) {
+        match turn::<P, R, S>(alloc, held, feed, &mut room, size, &mut pending, sink) {
             Err(end) => return Err(end),
             Ok(given) => {
                 if given == 0 {
-                    return answer_last(project, pending.as_slice(), sink);
+                    return answer_last::<P, S>(alloc, held, pending.as_slice(), sink);
                 }
                 count += given;
             }
         }
     }
-    end_full(project, feed, pending.as_slice(), sink)
+    end_full::<P, R, S>(alloc, held, feed, pending.as_slice(), sink)
 }
 
-fn status_at_end<P: Project>(project: &P) -> u8
-    ensures { result ≡ status_of (P.has_error (P.state project.now)) }
+fn status_at_end<P: Project>(held: &P::Held) -> u8
+    ensures { IsStatus P.has_error (P.state held.now) result }
 {
-    if project.has_error() { 1 } else { 0 }
+    if P::has_error(held) { 1 } else { 0 }
 }
 
 /// Answers a script, and gives the status of the run: 1 where an error is among the faults at its end, else 0. It is 3 where
 /// the reader or the writer failed, the script is longer than [`SCRIPT_LIMIT`], or memory was wanted for a line.
 pub fn run_script<P: Project, R: Feed, S: Sink>(
     alloc: Global,
-    project: &mut P,
+    held: &mut P::Held,
     feed: &mut R,
     sink: &mut S,
 ) -> u8
     ensures { TalkEnds P.answers P.has_error
-        (talk (P.state project.old) (S.stream sink.old) (R.coming feed.old) (R.failures feed.old))
-        (talk (P.state project.new) (S.stream sink.new) (R.coming feed.new) (R.failures feed.new))
+        (talk (P.state held.old) (S.stream sink.old) (R.coming feed.old) (R.failures feed.old))
+        (talk (P.state held.new) (S.stream sink.new) (R.coming feed.new) (R.failures feed.new))
         result }
 {
-    match read_script(alloc, project, feed, sink) {
-        Ok(()) => status_at_end(project),
-        Err(End::Done) => status_at_end(project),
+    match read_script::<P, R, S>(alloc, held, feed, sink) {
+        Ok(()) => status_at_end::<P>(held),
+        Err(End::Done) => status_at_end::<P>(held),
         Err(End::Failed) => 3,
     }
 }

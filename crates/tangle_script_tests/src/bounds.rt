@@ -12,7 +12,7 @@ fn check(rt: &impl Abort, alloc: Global, mut feed: Long<'_>, answers: &[u8], sta
     let mut told: Vec<u8> = Vec::new(alloc);
     let ended = {
         let mut sink = IoSink::new(&mut told);
-        run_script(alloc, &mut project, &mut feed, &mut sink)
+        run_script::<Letters, _, _>(alloc, &mut project, &mut feed, &mut sink)
     };
     assert!(rt; told.as_slice() == answers);
     assert_eq!(rt; ended, status);

@@ -19,7 +19,7 @@ fn check_pieces(rt: &impl Abort, alloc: Global, mut feed: Pieces<'_>, answers: &
     let mut told: Vec<u8> = Vec::new(alloc);
     let ended = {
         let mut sink = IoSink::new(&mut told);
-        run_script(alloc, &mut project, &mut feed, &mut sink)
+        run_script::<Letters, _, _>(alloc, &mut project, &mut feed, &mut sink)
     };
     assert!(rt; told.as_slice() == answers);
     assert_eq!(rt; ended, status);
@@ -80,7 +80,7 @@ fn check_full_writer(rt: &impl Abort, alloc: Global, room: &mut [u8]) {
     let mut feed = IoFeed::new(SCRIPT);
     let (ended, failures) = {
         let mut sink = IoSink::new(&mut *room);
-        let ended = run_script(alloc, &mut project, &mut feed, &mut sink);
+        let ended = run_script::<Letters, _, _>(alloc, &mut project, &mut feed, &mut sink);
         (ended, sink.failures())
     };
     assert!(rt; ANSWERS.starts_with(room));

@@ -2,8 +2,9 @@
 ghost use Rattle.std.specs.Prelude.{◌≡◌, ◌≤◌, ⊤, ℕ, ◌==◌, length, Some};
 ghost use Rattle.tangle_streams.specs.Feeds.{counted_read};
 
-use tangle_script::{Project, Request};
-use tangle_streams::{Feed, Sink, WriteFault, put};
+use std::alloc::Global;
+use tangle_script::{Project, Request, SinkFailed};
+use tangle_streams::{Feed, Sink, put};
 
 /// It counts its edits, and one edit is an error.
 #[derive(Debug, Drop)]
@@ -48,23 +49,33 @@ fn is_edit(request: &Request<'_>) -> bool {
 }
 
 impl Project for Letters {
+    type Held = Letters;
+
     ghost State = { ℕ };
 
-    ghost state = { λ project. project.edits };
+    ghost state = { λ held. held.edits };
 
     ghost answers = { λ s r text t. ⊤ };
 
-    ghost has_error = { λ s. s == 1 };
+    ghost has_error = { λ s error. error ≡ (s == 1) };
 
-    fn answer<S: Sink>(&mut self, request: &Request<'_>, sink: &mut S) -> Result<u128, WriteFault> {
+    fn answer<S: Sink>(
+        _alloc: Global,
+        held: &mut Letters,
+        request: &Request<'_>,
+        sink: &mut S,
+    ) -> Result<(), SinkFailed> {
         if is_edit(request) {
-            self.edits = self.edits.saturating_add(1);
+            held.edits = held.edits.saturating_add(1);
         }
-        put(sink, Ok(0), letter(request))
+        match put(sink, Ok(0), letter(request)) {
+            Ok(_) => Ok(()),
+            Err(_) => Err(SinkFailed),
+        }
     }
 
-    fn has_error(&self) -> bool {
-        self.edits == 1
+    fn has_error(held: &Letters) -> bool {
+        held.edits == 1
     }
 }
 

@@ -2,7 +2,7 @@
 ghost use Rattle.std.specs.Prelude.{◌≡◌};
 ghost use Rattle.tangle_names.specs.NameTable.{table_of};
 
-use crate::support::{files_with, read};
+use crate::support::{add_sections, files_with, read};
 use std::alloc::Global;
 use std::rc::Rc;
 use std::test::Fail;
@@ -10,18 +10,6 @@ use tangle_expansion::{Expansion, Kept, Node, Numbers, Work, are_uses_kept, expa
 use tangle_folders::MemorySink;
 use tangle_names::NameTable;
 use tangle_scan::{Web, scan};
-
-// A web of so many sections: each but the last uses the name of the next.
-fn nested(alloc: Global, count: usize) -> Result<Vec<u8>, Fail> {
-    let mut text = Vec::new(alloc);
-    for number in 1..count {
-        let section = format!(in alloc; "@ @<n{}@>=\n@<n{}@>\n", number - 1, number)?;
-        text.extend_from_slice(section.as_bytes())?;
-    }
-    let last = format!(in alloc; "@ @<n{}@>=\n1\n", count.saturating_sub(1))?;
-    text.extend_from_slice(last.as_bytes())?;
-    Ok(text)
-}
 
 // Expands the name that has the piece of the same number, and keeps the expansion.
 fn expand_name(
@@ -50,7 +38,8 @@ fn expand_name(
 
 // The expansion of the first name of the nest; the expansions of the others are let go.
 fn nest(alloc: Global, count: usize) -> Result<Expansion, Fail> {
-    let text = nested(alloc, count)?;
+    let mut text = Vec::new(alloc);
+    add_sections(&mut text, 0, count.saturating_sub(1), 1)?;
     let files = files_with(alloc, &[(b"a.w", &text)])?;
     let source = read(alloc, &files, None)?;
     let web = scan(alloc, &source)?;

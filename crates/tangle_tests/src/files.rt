@@ -68,7 +68,7 @@ fn assert_full(rt: &impl Abort, files: &Files) -> Result<(), Fail> {
 }
 
 // 255 files, with names of 1 to 255 bytes.
-fn many_files(alloc: Global) -> Result<Files, Fail> {
+pub(crate) fn many_files(alloc: Global) -> Result<Files, Fail> {
     let mut files = Files::new(alloc);
     for length in 1..=255usize {
         files.add(repeated(alloc, b'f', length)?.as_slice(), b"")?;

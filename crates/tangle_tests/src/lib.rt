@@ -6,6 +6,8 @@
 #[cfg(test)]
 mod digraphs;
 #[cfg(test)]
+mod edits;
+#[cfg(test)]
 mod expansions;
 #[cfg(test)]
 mod fault_lines;
@@ -22,6 +24,8 @@ mod loads;
 #[cfg(test)]
 mod messages;
 #[cfg(test)]
+mod outputs;
+#[cfg(test)]
 mod reading;
 #[cfg(test)]
 mod real_folder;
@@ -33,5 +37,7 @@ mod section_names;
 mod stops;
 #[cfg(test)]
 mod support;
+#[cfg(test)]
+mod tangling;
 #[cfg(test)]
 mod words;

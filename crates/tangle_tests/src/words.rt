@@ -1,6 +1,6 @@
 //! The names that words give.
 use crate::support::words_in;
-use ctangle_cli::{WordFault, read_words};
+use ctangle_cli::{RetangleFault, WordFault, read_retangle, read_words};
 use std::alloc::Global;
 use std::process::Abort;
 use std::test::Fail;
@@ -54,5 +54,57 @@ fn other_words_are_misused(rt: HostRuntime) -> Result<(), Fail> {
         );
     }
     assert_eq!(rt; read_words(alloc, &[]).err(), Some(WordFault::Usage));
+    Ok(())
+}
+
+#[test]
+fn values_of_options_are_completed(rt: HostRuntime) -> Result<(), Fail> {
+    let alloc = rt.alloc();
+    let names = read_retangle(alloc, &["retangle", "a", "--out", "z"])?;
+    assert_eq!(rt; names.web(), b"a.w".as_slice());
+    assert!(rt; names.change().is_none());
+    assert_eq!(rt; names.out(), b"z.c".as_slice());
+    let names = read_retangle(alloc, &["retangle", "--change=b", "x/y.web"])?;
+    assert_eq!(rt; names.web(), b"x/y.web".as_slice());
+    assert_eq!(rt; names.change().unwrap_or(b"none"), b"b.ch".as_slice());
+    assert_eq!(rt; names.out(), b"y.c".as_slice());
+    let names = read_retangle(alloc, &["retangle", "a", "--change", "-"])?;
+    assert!(rt; names.change().is_none());
+    Ok(())
+}
+
+#[test]
+fn other_words_are_refused(rt: HostRuntime) -> Result<(), Fail> {
+    let alloc = rt.alloc();
+    assert!(rt;
+        matches!(
+            read_retangle(alloc, &["retangle", "a", "b"]),
+            Err(RetangleFault::Parse(_))
+        )
+    );
+    assert!(rt;
+        matches!(
+            read_retangle(alloc, &["retangle", "--change", "b"]),
+            Err(RetangleFault::Parse(_))
+        )
+    );
+    assert!(rt;
+        matches!(
+            read_retangle(alloc, &["retangle", "a", "--out"]),
+            Err(RetangleFault::Parse(_))
+        )
+    );
+    assert!(rt;
+        matches!(
+            read_retangle(alloc, &["retangle", "--help"]),
+            Err(RetangleFault::Parse(_))
+        )
+    );
+    assert!(rt;
+        matches!(
+            read_retangle(alloc, &["retangle", "--version"]),
+            Err(RetangleFault::Parse(_))
+        )
+    );
     Ok(())
 }

@@ -1,5 +1,5 @@
 -- Names are numbered one after another, so those of tokens stay below their count.
-use Rattle.std.proofs.Common.{◌≡◌, ◌≤◌, ◌<◌, ℕ, zero, suc, ◌+◌, Bool, true, false, ◌||◌, List, [], ◌∷◌, ◌++◌, length, drop, flat_map, refl, ap, arith, if◌then◌else◌, Option, None, Some, option_to_list, length-append, map, subst}
+use Rattle.std.proofs.Common.{◌≡◌, ◌≤◌, ◌<◌, ℕ, zero, suc, ◌+◌, Bool, true, false, ◌||◌, List, [], ◌∷◌, ◌++◌, length, drop, flat_map, refl, ap, arith, if◌then◌else◌, Option, None, Some, option_to_list, length-append}
 use Rattle.std.specs.List.{list_any, AllByRecursion}
 use Rattle.tangle_lines.specs.declared.faults.FaultKind.TheVariants as fault
 use Rattle.tangle_lexer.specs.declared.tokens.Token.{Token}
@@ -13,14 +13,14 @@ use Rattle.tangle_lexer.specs.declared.token_kinds.TokenKind.{TokenKind}
 use Rattle.tangle_lexer.specs.declared.token_kinds.TokenKind.TheVariants as token_kind
 use Rattle.tangle_lexer.specs.declared.regions.Region.TheVariants as region
 use Rattle.tangle_lexer.specs.Bytes.{holds, at_sign, double_quote, apostrophe, greater_sign}
-use Rattle.tangle_lexer.specs.Text.{Cell, byte_at, column_at, line_at, text_from}
+use Rattle.tangle_lexer.specs.Text.{Cell, byte_at, column_at, line_at}
 use Rattle.tangle_lexer.specs.Lexemes.{Lexeme, lexeme_of, in_mode}
 use Rattle.tangle_lexer.specs.Comments.{starts_section}
 use Rattle.tangle_lexer.specs.Quoted.{quote_end}
 use Rattle.tangle_lexer.specs.declared.constants.Constant.{Constant}
 use Rattle.tangle_lexer.specs.Constants.{constant_lexeme, constant_at}
 use Rattle.tangle_lexer.specs.Names.{head_or_mention, head_count, has_single_equals, behind_name}
-use Rattle.tangle_lexer.specs.Steps.{documentation_code, c_code, c_lexeme, macro_code, macro_lexeme, lexeme_in, lexeme, lexemes, tokens_from, names_from, kind_of, code_at, prose, at_first, all_tokens, all_names}
+use Rattle.tangle_lexer.specs.Steps.{documentation_code, c_code, c_lexeme, macro_code, macro_lexeme, lexeme_in, lexeme, lexemes, tokens_from, names_from, kind_of, code_at, prose}
 use Rattle.tangle_lexer.proofs.lemmas.QuietTokens.{AreQuiet, is_loud, seen, quiet-append, fault_if-quiet, white-quiet, line_ends-quiet, verbatim_tokens-quiet, cut_tokens-quiet, quote_end-quiet, constant-quiet}
 
 -- a token that names no occurrence, or one of so many

@@ -11,6 +11,7 @@ use Rattle.tangle_lexer.specs.declared.modes.ScanState.{ScanState}
 use Rattle.tangle_lexer.specs.declared.simple.Simple.{Simple}
 use Rattle.tangle_lexer.specs.declared.simple.Simple.TheVariants as simple
 use Rattle.tangle_lexer.specs.Text.{Cell, byte_at}
+use Rattle.tangle_lexer.specs.Lexemes.{with_include}
 use Rattle.tangle_lexer.specs.Steps.{kind_by, names_from, lexeme, lexeme_in, c_lexeme, macro_lexeme}
 use Rattle.tangle_lexer.specs.Simple.{IsSimple, is_opener, simple_of, simple_kind, is_c_text}
 use Rattle.tangle_lexer.specs.declared.tokens.Token.{Token}
@@ -50,6 +51,25 @@ simple-names simple.Word s text = refl
 simple-names simple.White s text = refl
 simple-names simple.Sign s text = refl
 simple-names simple.LineEnd s text = refl
+
+-- all stays but how much of #include was read
+pub simple-after : (p : Simple) (inc : IncludeState) (s : ScanState) (text : List Cell) →
+    (c_lexeme (simple_kind p) (with_include inc s) text).after ≡ with_include (c_lexeme (simple_kind p) (with_include inc s) text).after.include s
+simple-after simple.Word inc s text = refl
+simple-after simple.White inc s text = refl
+simple-after simple.Sign inc s text = refl
+simple-after simple.LineEnd inc s text = refl
+
+pub simple-again : (old new : List Token) (inc : IncludeState) (s state after : ScanState) (text rest : List Cell) (p : Simple) → state ≡ with_include inc s →
+    IsRead old new text rest after (c_lexeme (simple_kind p) state text) →
+    IsRead old new text rest (with_include after.include s) (c_lexeme (simple_kind p) (with_include inc s) text)
+simple-again old new inc s state after text rest p is read =
+    let again = subst (λ t. IsRead old new text rest after (c_lexeme (simple_kind p) t text)) is read in
+    record {
+      tokens = again.tokens;
+      ahead = again.ahead;
+      state = ap (λ t. with_include t.include s) again.state ∙ sym (simple-after p inc s text);
+    }
 
 pub simple-none : (p : Simple) (s : ScanState) (text : List Cell) → (c_lexeme (simple_kind p) s text).name ≡ None
 simple-none simple.Word s text = refl

@@ -6,7 +6,8 @@ use Rattle.tangle_lines.specs.Lines.{FileTable}
 use Rattle.tangle_lines.specs.Reading.{Line, SourceRead}
 use Rattle.tangle_lexer.specs.declared.tokens.Token.{Token}
 use Rattle.tangle_lexer.specs.declared.tokens.Token.TheVariants as token
-use Rattle.tangle_scan.specs.Web.{body, blocks, block_at, section_behind, section_count, scan_faults, faults_at}
+use Rattle.tangle_scan.specs.Passes.{is_rare}
+use Rattle.tangle_scan.specs.Web.{is_defs, body, blocks, block_at, section_behind, section_count, scan_faults, faults_at}
 use Rattle.tangle_lexer.specs.Heads.{is_head}
 use Rattle.tangle_scan.specs.Gathering.{GatheringRead, gathering_with, with_head, own_fault}
 
@@ -160,3 +161,15 @@ section_behind-limit n _ = omega arith
 pub gathering-nothing : (source : SourceRead) (before : GatheringRead) → gathering_with source before [] ≡ before
 unfolding gathering_with
 gathering-nothing source before = rw (append-nil before.pieces, append-nil before.macros, append-nil before.faults, or-nothing before.has_defs_code) refl
+
+-- without rare tokens there is no @h and no fault
+
+pub rare-defs : (es : List Token) → list_any is_rare es ≡ false → list_any is_defs es ≡ false
+rare-defs [] h = refl
+rare-defs (token.Defs line ∷ es) h = cc
+rare-defs (e ∷ es) h = rare-defs es (or-false (is_rare e) (list_any is_rare es) h).1
+
+pub rare-faults : (files : FileTable) (lines : List Line) (es : List Token) → list_any is_rare es ≡ false → flat_map (own_fault files lines) es ≡ []
+rare-faults files lines [] h = refl
+rare-faults files lines (token.Fault kind line ∷ es) h = cc
+rare-faults files lines (e ∷ es) h = rare-faults files lines es (or-false (is_rare e) (list_any is_rare es) h).1

@@ -8,7 +8,9 @@ use Rattle.tangle_scan.specs.declared.laying.Before.{Before}
 use Rattle.tangle_scan.specs.declared.laying.Count.{Count}
 use Rattle.tangle_scan.specs.declared.laying.Laying.{Laying}
 use Rattle.tangle_lines.specs.Reading.{Line}
-use Rattle.tangle_scan.specs.Rules.{blanks, items_by_place, unmarked_items, line_item, count_behind}
+use Rattle.tangle_lexer.specs.declared.spans.Span.{Span}
+use Rattle.tangle_lexer.specs.declared.tokens.TextKind.{TextKind}
+use Rattle.tangle_scan.specs.Rules.{text_item, blanks, items_by_place, unmarked_items, line_item, count_behind}
 use Rattle.tangle_scan.specs.Passes.{counts, items_ahead, unmarked_from, items_at, count_after, item_of}
 
 -- two pushes in a row
@@ -71,6 +73,18 @@ laid-item lines at e count es other end is =
       items_by_place-step lines (counts at.count) e (blanks true false es) other end,
       is,
     ) refl
+
+pub laid-text : (lines : List Line) (at : Laying) (kind : TextKind) (s : Span) (es : List Token) →
+    (if at.before.item && at.before.white then item.Blank ∷ [] else []) ++ ((text_item kind s ∷ [])
+    ++ items_ahead lines (record { before = record { item = true; white = false }; count = at.count }) es)
+    ≡ items_ahead lines at (token.Text kind s ∷ es)
+laid-text lines at kind s es = laid-item lines at (token.Text kind s) at.count es no-white no-end refl
+  where
+    no-white : token.Text kind s ≡ token.White → ⊥
+    no-white h = cc
+
+    no-end : (line : ℕ) → token.Text kind s ≡ token.LineEnd line → ⊥
+    no-end line h = cc
 
 pub unmarked-white : (at : Before) (es : List Token) → unmarked_from (record { item = at.item; white = true }) es ≡ unmarked_from at (token.White ∷ es)
 unfolding unmarked_from

@@ -6,9 +6,9 @@ use Rattle.tangle_lexer.specs.declared.tokens.Token.TheVariants as token
 use Rattle.tangle_scan.specs.declared.spacing.Stage.{Stage}
 use Rattle.tangle_scan.specs.declared.spacing.Spacing.{Spacing}
 use Rattle.tangle_scan.specs.declared.spacing.Stage.TheVariants as stage
-use Rattle.tangle_scan.specs.Rules.{without_joins, has_join, without_faults, with_spaces, with_name_space, with_space_behind, may_follow_name, would_merge}
+use Rattle.tangle_scan.specs.Rules.{without_joins, has_join, without_faults, without_front_gaps, with_spaces, with_name_space, with_space_behind, may_follow_name, would_merge}
 use Rattle.tangle_scan.proofs.lemmas.RuleLemmas.{run-end, has_join-push}
-use Rattle.tangle_scan.specs.Passes.{without_joins_from, spacing_from, with_white_space, may_change, is_skipped, without_skipped, stage_behind, needs_space}
+use Rattle.tangle_scan.specs.Passes.{without_joins_from, spacing_from, with_white_space, is_rare, behind_front, is_name_spaced, is_skipped, without_skipped, stage_behind, needs_space}
 
 -- rule 1, token by token
 
@@ -113,33 +113,69 @@ or-false : (a b : Bool) → (a || b) ≡ false → (a ≡ false) × (b ≡ false
 or-false true b h = cc
 or-false false b h = (refl, h)
 
-unchanged-faults : (es : List Token) → list_any may_change es ≡ false → without_faults es ≡ es
+unchanged-faults : (es : List Token) → list_any is_rare es ≡ false → without_faults es ≡ es
 unchanged-faults [] h = refl
 unchanged-faults (token.Fault kind line ∷ es) h = cc
-unchanged-faults (e ∷ es) h = ap (λ t. e ∷ t) (unchanged-faults es (or-false (may_change e) (list_any may_change es) h).1)
+unchanged-faults (e ∷ es) h = ap (λ t. e ∷ t) (unchanged-faults es (or-false (is_rare e) (list_any is_rare es) h).1)
 
-unchanged-merge : (e f : Token) → may_change e ≡ false → may_change f ≡ false → would_merge e f ≡ false
+unchanged-merge : (e f : Token) → is_rare e ≡ false → is_rare f ≡ false → would_merge e f ≡ false
 unchanged-merge (token.Constant value line) f h k = cc
 unchanged-merge (token.Text text_kind.Word s) (token.Constant value line) h k = cc
 unchanged-merge (token.Text text_kind.Word s) _ h k = refl
 unchanged-merge _ f h k = refl
 
-unchanged-spaces : (es : List Token) → list_any may_change es ≡ false → with_spaces es ≡ es
+unchanged-spaces : (es : List Token) → list_any is_rare es ≡ false → with_spaces es ≡ es
 unchanged-spaces [] h = refl
 unchanged-spaces (e ∷ []) h = refl
 unchanged-spaces (e ∷ f ∷ es) h =
-    let first = or-false (may_change e) (list_any may_change (f ∷ es)) h in
-    let second = or-false (may_change f) (list_any may_change es) first.1 in
+    let first = or-false (is_rare e) (list_any is_rare (f ∷ es)) h in
+    let second = or-false (is_rare f) (list_any is_rare es) first.1 in
     rw (unchanged-merge e f first.0 second.0) (ap (λ t. e ∷ t) (unchanged-spaces (f ∷ es) first.1))
 
-unchanged-without_joins : (run es : List Token) → has_join run ≡ false → list_any may_change es ≡ false → without_joins run es ≡ run ++ es
+unchanged-without_joins : (run es : List Token) → has_join run ≡ false → list_any is_rare es ≡ false → without_joins run es ≡ run ++ es
 unchanged-without_joins run [] h k = rw h (sym (append-nil run))
 unchanged-without_joins run (token.Join ∷ es) h k = cc
 unchanged-without_joins run (token.White ∷ es) h k =
     unchanged-without_joins (run ++ token.White ∷ []) es (has_join-push run token.White ∙ rw h refl) k ∙ append_assoc run (token.White ∷ []) es
 unchanged-without_joins run (token.LineEnd line ∷ es) h k =
     unchanged-without_joins (run ++ token.LineEnd line ∷ []) es (has_join-push run (token.LineEnd line) ∙ rw h refl) k ∙ append_assoc run (token.LineEnd line ∷ []) es
-unchanged-without_joins run (e ∷ es) h k = rw h (ap (λ t. run ++ e ∷ t) (unchanged-without_joins [] es refl (or-false (may_change e) (list_any may_change es) k).1))
+unchanged-without_joins run (e ∷ es) h k = rw h (ap (λ t. run ++ e ∷ t) (unchanged-without_joins [] es refl (or-false (is_rare e) (list_any is_rare es) k).1))
 
-pub unchanged-stays : (es : List Token) → list_any may_change es ≡ false → es ≡ without_joins [] (with_spaces (without_faults es))
+pub unchanged-stays : (es : List Token) → list_any is_rare es ≡ false → es ≡ without_joins [] (with_spaces (without_faults es))
 unchanged-stays es h = sym (ap (λ t. without_joins [] (with_spaces t)) (unchanged-faults es h) ∙ (ap (without_joins []) (unchanged-spaces es h) ∙ unchanged-without_joins [] es refl h))
+
+-- a macro without rare tokens, whose name needs no white space behind it
+
+behind-front : (es : List Token) → without_front_gaps es ≡ behind_front es
+behind-front [] = refl
+behind-front (token.White ∷ es) = behind-front es
+behind-front (token.LineEnd line ∷ es) = behind-front es
+behind-front (e ∷ es) = refl
+
+behind-rare : (es : List Token) → list_any is_rare es ≡ false → list_any is_rare (behind_front es) ≡ false
+behind-rare [] h = refl
+behind-rare (token.White ∷ es) h = behind-rare es h
+behind-rare (token.LineEnd line ∷ es) h = behind-rare es h
+behind-rare (e ∷ es) h = h
+
+name-stays : (texts : List (List ℕ)) (e : Token) (es : List Token) → is_name_spaced texts (e ∷ es) ≡ true → with_space_behind texts e es ≡ e ∷ es
+name-stays texts e [] h = refl
+name-stays texts e (f ∷ es) h = rw h refl
+
+named-stays : (texts : List (List ℕ)) (es : List Token) → list_any is_rare (behind_front es) ≡ false → is_name_spaced texts (behind_front es) ≡ true →
+    with_name_space texts (behind_front es) ≡ behind_front es
+named-stays texts [] h k = refl
+named-stays texts (token.White ∷ es) h k = named-stays texts es h k
+named-stays texts (token.LineEnd line ∷ es) h k = named-stays texts es h k
+named-stays texts (token.Join ∷ es) h k = cc
+named-stays texts (e ∷ es) h k = name-stays texts e es k
+
+pub unchanged-macro : (texts : List (List ℕ)) (es : List Token) → list_any is_rare es ≡ false → is_name_spaced texts (behind_front es) ≡ true →
+    behind_front es ≡ without_joins [] (with_name_space texts (with_spaces (without_front_gaps (without_faults es))))
+unchanged-macro texts es h k =
+    let rest = behind_front es in
+    let rare = behind-rare es h in
+    let front = ap without_front_gaps (unchanged-faults es h) ∙ behind-front es in
+    let spaced = ap with_spaces front ∙ unchanged-spaces rest rare in
+    let named = ap (with_name_space texts) spaced ∙ named-stays texts es rare k in
+    sym (ap (without_joins []) named ∙ unchanged-without_joins [] rest refl rare)

@@ -1,11 +1,12 @@
-use Rattle.std.proofs.Common.{◌≡◌, ◌+◌, ℕ, Bool, filter, get_or, take, sym, subst, false}
+use Rattle.std.proofs.Common.{◌≡◌, ◌+◌, ℕ, Bool, filter, get_or, take, sym, subst, false, arith}
+use Rattle.std.proofs.lemmas.List.{take_all}
 use Rattle.digraph.specs.Graph.{rows_of}
 use Rattle.tangle_expansion.specs.ItemCodes.{pieces_names}
 use Rattle.tangle_expansion.specs.ItemSlots.{pieces_at, pieces_slots}
 use Rattle.tangle_expansion.specs.NodeTexts.{plan_slots, plan_uses}
 use Rattle.tangle_graph.specs.Nodes.{title_at}
-use Rattle.tangle_graph.specs.Plans.{ArePlans, slots_of, uses_of_plans}
-use Rattle.tangle_graph.proofs.PushLemmas.{plans_more}
+use Rattle.tangle_graph.specs.Plans.{ArePlans, AreTexts, IsTextOf, node_texts, slots_of, uses_of_plans}
+use Rattle.tangle_graph.proofs.PushLemmas.{plans_more, texts_more}
 use Rattle.tangle_graph.proofs.texts.texts_by_node.Goals as goal
 
 pub loop-n-preserved : goal.loop-n-preserved
@@ -19,5 +20,16 @@ loop-n-preserved c =
     let row = c.index-pieces-n.result in
     let slots = subst (λ r. plan_slots text.value ≡ pieces_slots web.texts table has (title_at table.names i) 0 (pieces_at web.pieces r)) c.deref.ensures.value c.in_ok-text_of_node.ensures.slots in
     let uses = subst (λ r. plan_uses text.value ≡ filter has (pieces_names table (pieces_at web.pieces r))) c.deref.ensures.value c.in_ok-text_of_node.ensures.uses in
-    let more = plans_more web table has c.args.pieces.now texts i row text c.loop-n-test.true c.index-pieces-n.is c.loop-n.invariant slots uses in
-    subst (λ ts. ArePlans web table has (rows_of (take (i + 1) c.args.pieces.now)) (slots_of ts) (uses_of_plans ts)) (sym c.in_ok-push.ensures.items) more
+    let more = plans_more web table has c.args.pieces.now texts i row text c.loop-n-test.true c.index-pieces-n.is c.loop-n.invariant.plans slots uses in
+    let one = subst (λ r. IsTextOf web table r text.value) c.deref.ensures.value c.in_ok-text_of_node.ensures.text in
+    let texts_told = texts_more web table c.args.pieces.now texts i row text c.loop-n-test.true c.index-pieces-n.is c.loop-n.invariant.texts one in
+    record {
+      texts = subst (λ ts. AreTexts web table (rows_of (take (i + 1) c.args.pieces.now)) (node_texts ts)) (sym c.in_ok-push.ensures.items) texts_told;
+      plans = subst (λ ts. ArePlans web table has (rows_of (take (i + 1) c.args.pieces.now)) (slots_of ts) (uses_of_plans ts)) (sym c.in_ok-push.ensures.items) more;
+    }
+
+pub returns-clause-plans : goal.returns-clause-plans
+returns-clause-plans c =
+    let has : ℕ → Bool = λ id. get_or c.args.has_piece.now id false in
+    let texts = c.loop-n.texts.items in
+    subst (λ ps. ArePlans c.args.web.now c.args.table.now has (rows_of ps) (slots_of texts) (uses_of_plans texts)) (take_all c.loop-n.n c.args.pieces.now (omega arith)) c.loop-n.invariant.plans

@@ -1,5 +1,6 @@
 use Rattle.std.proofs.Common.{◌≡◌, ◌≤◌, ◌++◌, true, false, length}
 use Rattle.std.specs.List.{list_any}
+use Rattle.tangle_lexer.specs.Lexemes.{with_include}
 use Rattle.tangle_lexer.specs.Simple.{is_c_text}
 use Rattle.tangle_lexer.specs.Steps.{tokens_from, names_from}
 use Rattle.tangle_lexer.specs.Heads.{is_head}
@@ -7,13 +8,12 @@ use Rattle.tangle_lexer.proofs.simple.read_simple.Given as goal
 
 abbrev pub invariant-loop-simple : goal.invariant-loop-simple
 invariant-loop-simple l = record {
-  tokens : l.tokens.items ++ tokens_from l.state l.ahead ≡ l.fn.tokens.items ++ tokens_from l.fn.from l.fn.ahead;
+  tokens : l.tokens.items ++ tokens_from (with_include l.include l.fn.from) l.here ≡ l.fn.tokens.items ++ tokens_from l.fn.from l.fn.ahead;
   no_head : list_any is_head l.fn.tokens.items ≡ false → list_any is_head l.tokens.items ≡ false;
-  names : names_from l.state l.ahead ≡ names_from l.fn.from l.fn.ahead;
-  count : l.state.names ≡ l.fn.from.names;
-  shorter : length l.ahead ≤ length l.fn.ahead;
-  mode : is_c_text l.state.mode ≡ true;
+  names : names_from (with_include l.include l.fn.from) l.here ≡ names_from l.fn.from l.fn.ahead;
+  shorter : length l.here ≤ length l.fn.ahead;
+  mode : is_c_text l.fn.from.mode ≡ true;
 }
 
 abbrev pub decreases-loop-simple : goal.decreases-loop-simple
-decreases-loop-simple l = length l.ahead
+decreases-loop-simple l = length l.here

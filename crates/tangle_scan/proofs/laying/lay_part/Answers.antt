@@ -5,9 +5,9 @@ use Rattle.tangle_scan.specs.Passes.{items_ahead}
 use Rattle.tangle_scan.proofs.lemmas.LayingLemmas.{laid-end}
 use Rattle.tangle_scan.proofs.laying.lay_part.Goals as goal
 
-pub returns : goal.returns
+pub returns-clause-items : goal.returns-clause-items
 unfolding items_ahead
-returns c =
+returns-clause-items c =
     let done = drop_all c.loop-token.token-index c.args.tokens.now (omega arith) in
     laid-end c.args.source.now.lines c.loop-token.at _ _ _ done c.loop-token.invariant.rest
     ∙ ap (λ place. items_by_place c.args.source.now.lines place (blanks false false c.args.tokens.now)) c.place_at-place.ensures

@@ -1,7 +1,7 @@
 use Rattle.std.proofs.Common.{◌≡◌, ◌∙◌, ◌<◌, ℕ, Bool, List, [], length, map, get_or, ap, refl, sym, subst, arith, false, Vec}
 use Rattle.std.specs.Global.{Global}
 use Rattle.std.specs.Prelude.{All}
-use Rattle.std.proofs.lemmas.List.{get_or-map}
+use Rattle.std.proofs.lemmas.List.{get_or-map, length-map}
 use Rattle.std.specs.List.{IsDistinct}
 use Rattle.std.specs.Str.{bytes_eq}
 use Rattle.tangle_names.specs.NameTable.{TableRead}
@@ -13,12 +13,13 @@ use Rattle.digraph.specs.Reach.{ContainsItself}
 use Rattle.digraph.proofs.GraphLemmas.{row_read, rows_size}
 use Rattle.tangle_graph.specs.Nodes.{title_at, node_at}
 use Rattle.tangle_graph.specs.Ordering.{IsOrderIn}
-use Rattle.tangle_graph.specs.Plans.{ArePiecesInside, AreFilled, ArePlans, slots_of, uses_of_plans}
+use Rattle.tangle_graph.specs.Plans.{ArePiecesInside, AreFilled, ArePlans, AreTexts, node_texts, slots_of, uses_of_plans}
 use Rattle.tangle_graph.specs.Rows.{node_rows, texts_of}
 use Rattle.tangle_graph.specs.Stores.{AreWithin, is_filled}
 use Rattle.tangle_graph.proofs.LimitLemmas.{limited, program_filled}
 use Rattle.tangle_graph.proofs.OrderingLemmas.{order_is, grouped_by}
 use Rattle.tangle_graph.proofs.StoreIs.{store_made}
+use Rattle.tangle_graph.proofs.TextLemmas.{names_below}
 use Rattle.tangle_graph.proofs.store.Store.build.Goals as goal
 
 pub build-requires-clause-distinct : goal.build-requires-clause-distinct
@@ -98,15 +99,17 @@ returns-clause-store c =
     let has_is : (id : ℕ) → id < length table.names → has id ≡ is_filled (row_at (rows_of rows) id) = (λ id low. filled.flag id (omega (arith, low, graph.rows_size, rows_size rows))) in
     let planned : ArePlans web table has (rows_of rows) (slots_of c.in_ok-texts_by_node.field-0.items) (uses_of_plans c.in_ok-texts_by_node.field-0.items) =
     subst (λ (g : Graph). ArePlans web table has (rows_of g) (slots_of c.in_ok-texts_by_node.field-0.items) (uses_of_plans c.in_ok-texts_by_node.field-0.items)) c.deref-pieces.ensures.value
-    (subst (λ (fs : List Bool). ArePlans web table (λ id. get_or fs id false) (rows_of c.deref-pieces.result.now) (slots_of c.in_ok-texts_by_node.field-0.items) (uses_of_plans c.in_ok-texts_by_node.field-0.items)) c.deref-5.ensures.value c.in_ok-texts_by_node.ensures) in
+    (subst (λ (fs : List Bool). ArePlans web table (λ id. get_or fs id false) (rows_of c.deref-pieces.result.now) (slots_of c.in_ok-texts_by_node.field-0.items) (uses_of_plans c.in_ok-texts_by_node.field-0.items)) c.deref-5.ensures.value c.in_ok-texts_by_node.ensures.plans) in
+    let shaped : AreTexts web table (rows_of rows) (node_texts c.in_ok-texts_by_node.field-0.items) =
+    subst (λ (g : Graph). AreTexts web table (rows_of g) (node_texts c.in_ok-texts_by_node.field-0.items)) c.deref-pieces.ensures.value c.in_ok-texts_by_node.ensures.texts in
     store_made web table rows uses users c.in_ok-self_containing.field-0.items c.in_ok-weights.weights.items c.in_ok-depths.depths.items flags c.in_ok-outputs.field-0.items c.in_ok-graph_faults.field-0.items
-    (slots_of c.in_ok-texts_by_node.field-0.items) (uses_of_plans c.in_ok-texts_by_node.field-0.items) has
+    (slots_of c.in_ok-texts_by_node.field-0.items) (uses_of_plans c.in_ok-texts_by_node.field-0.items) (node_texts c.in_ok-texts_by_node.field-0.items) has
     (subst (λ (t : TableRead). IsDistinct bytes_eq t.names) (sym c.requires) (c.names_are_the_full_names.ensures.once web.occurrences))
     (subst ResolvesInside (sym c.requires) (c.names_resolve_inside.ensures web))
     graph c.in_ok-graph.ensures.converse c.in_ok-graph.ensures.increasing c.in_ok-graph.ensures.size
     (subst (λ (g : Graph). FlagsJust g c.in_ok-self_containing.field-0.items (ContainsItself (HasUse g))) c.deref-uses.ensures.value c.in_ok-self_containing.ensures.flags)
     weighed measured (limited web table rows uses graph c.in_ok-weights.weights.items c.in_ok-depths.depths.items flags within weighed measured)
-    has_is planned (λ parts node. c.filled_plans_are_right.ensures web table has parts levels node inside)
+    has_is planned shaped (λ parts node. c.filled_plans_are_right.ensures web table has parts levels node inside)
     (texts_of c.in_ok-texts.field-0.items) (node_rows c.in_ok-nodes_by_node.field-0.items) (node_rows c.in_ok-nodes_by_node-2.field-0.items)
     c.in_ok-texts.ensures
     (c.in_ok-nodes_by_node.ensures ∙ (λ i. map (map (node_at (c.count-2.ensures i))) (rows_of (c.deref-uses.ensures.value i))))
@@ -134,8 +137,13 @@ invariant_of-result c =
     let used = c.in_ok-nodes_by_node.ensures ∙ (λ i. map (map (node_at (c.count-2.ensures i))) (rows_of (c.deref-uses.ensures.value i))) in
     let nodes : c.in_ok-nodes_of.field-0.items ≡ map (node_at (length table.names)) order =
     c.in_ok-nodes_of.ensures ∙ (λ i. map (node_at (c.count-4.ensures i)) (c.deref-order.ensures.value i)) in
-    subst (IsOrderIn _) (sym nodes)
-    (order_is web table rows uses order c.in_ok-weights.weights.items c.in_ok-depths.depths.items flags _ graph c.in_ok-graph.ensures.order within measured c.in_ok-texts.ensures used refl)
+    let inside = subst ResolvesInside (sym c.requires) (c.names_resolve_inside.ensures web) in
+    let size : length table.names ≡ length c.in_ok-texts.field-0.items = ap length (sym c.in_ok-texts.ensures) ∙ length-map c.in_ok-texts.field-0.items (λ (text : Vec ℕ Global). text.items) in
+    record {
+      order = subst (IsOrderIn _) (sym nodes)
+          (order_is web table rows uses order c.in_ok-weights.weights.items c.in_ok-depths.depths.items flags _ graph c.in_ok-graph.ensures.order within measured c.in_ok-texts.ensures used refl);
+      uses = names_below web table (rows_of c.deref-pieces.result.now) (node_texts c.in_ok-texts_by_node.field-0.items) (length c.in_ok-texts.field-0.items) inside c.in_ok-texts_by_node.ensures.texts size;
+    }
 
 pub returns-clause-grouped : goal.returns-clause-grouped
 returns-clause-grouped c =

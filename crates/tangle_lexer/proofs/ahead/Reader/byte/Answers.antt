@@ -1,4 +1,4 @@
-use Rattle.std.proofs.Common.{sym, ◌∙◌}
+use Rattle.std.proofs.Common.{sym}
 use Rattle.tangle_lexer.proofs.lemmas.AheadLemmas.{byte_at-rest}
 use Rattle.tangle_lexer.proofs.ahead.Reader.byte.Goals as goal
 

@@ -1,0 +1,31 @@
+use Rattle.std.proofs.Common.{◌++◌, ℕ, [], ap, codes, inl, refl}
+use Rattle.std.specs.Prelude.{decimal}
+use Rattle.tangle_session.specs.Tangle.{output_at}
+use Rattle.ctangle_cli.specs.Conversation.{shown, told_faults}
+use Rattle.ctangle_cli.proofs.RunLemmas.{TakesAll-none}
+use Rattle.ctangle_cli.proofs.conversation.ConversationProject.answer.Goals as goal
+
+pub returns-in-Show : goal.returns-in-Show
+returns-in-Show g c =
+    let s = c.args.session.now in
+    let text = shown c.in-Show.file.now (output_at s.files s.roles c.in-Show.file.now) in
+    rw c.in-Show.is (text, inl (refl, refl), c.show.ensures)
+
+pub returns-in-Faults : goal.returns-in-Faults
+returns-in-Faults g c =
+    rw c.in-Faults.is (told_faults c.faults.result.now, inl ((c.faults.result.now, c.faults.ensures, refl), refl), c.tell_faults.ensures)
+
+pub returns-in-Work : goal.returns-in-Work
+returns-in-Work g c =
+    let told = λ (n : ℕ). codes "work " ++ decimal n ++ codes "\n" in
+    rw c.in-Work.is (told c.last_work.result, inl (ap told c.last_work.ensures, refl), c.tell_work.ensures)
+
+pub returns-in-Quit : goal.returns-in-Quit
+returns-in-Quit g c =
+    let now = g.S.Sink.stream c.args.sink.now in
+    rw c.in-Quit.is (codes "ok\n", inl (refl, refl), c.say.ensures now [] (TakesAll-none now))
+
+pub returns-in-BadCommand : goal.returns-in-BadCommand
+returns-in-BadCommand g c =
+    let now = g.S.Sink.stream c.args.sink.now in
+    rw c.in-BadCommand.is (codes "no BadCommand\n", inl (refl, refl), c.say-in-BadCommand.ensures now [] (TakesAll-none now))

@@ -1,0 +1,5 @@
+mod FilterLemmas
+mod NameLemmas
+mod MarkLemmas
+mod ListLemmas
+mod KeepLemmas

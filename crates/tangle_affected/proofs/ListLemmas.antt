@@ -1,0 +1,97 @@
+-- What is listed along the order is what is affected.
+use Rattle.std.proofs.Common.{◌≡◌, ◌≢◌, ◌∙◌, ◌<◌, ℕ, zero, Bool, true, false, List, [], ◌∷◌, length, take, get_or, refl, sym, subst, arith, Contains}
+use Rattle.std.specs.List.{filter}
+use Rattle.std.proofs.lemmas.Bool.{and_parts, and_from}
+use Rattle.std.proofs.lemmas.List.Kept.{AllPairs-filter}
+use Rattle.tangle_expansion.specs.Affected.{IsAffected}
+use Rattle.tangle_expansion.specs.Limits.{levels, heaviest, IsExpandableNode}
+use Rattle.tangle_expansion.specs.Shapes.{Title, Project, Reaches}
+use Rattle.tangle_expansion.specs.declared.nodes.Node.{Node}
+use Rattle.tangle_expansion.specs.declared.nodes.Node.TheVariants.{Program}
+use Rattle.tangle_graph.specs.Nodes.{UsesTitle}
+use Rattle.tangle_graph.specs.Ordering.{IsOrderIn}
+use Rattle.tangle_graph.specs.Stores.{StoreRead, IsStoreOf, IsNodeIn, is_expandable_at, title_in_store}
+use Rattle.tangle_affected.specs.Affected.{ListsAffected}
+use Rattle.tangle_affected.specs.Keeping.{IsExpandableList, ListsExpandable}
+use Rattle.tangle_affected.specs.Marks.{mark_at, AreMarked, is_listed}
+use Rattle.tangle_affected.proofs.FilterLemmas.{filter_place, out_of_filter, into_filter}
+use Rattle.tangle_affected.proofs.MarkLemmas.{at_place}
+use Rattle.tangle_affected.proofs.NameLemmas.{node_with_piece}
+
+module _ (project : Project) (store : StoreRead) (order : List Node) (is : IsStoreOf project store) (placed : IsOrderIn store order) where
+  -- a node of a filter comes after those of the filter that it uses
+  filtered_after : (p : Node → Bool) (k : ℕ) (used : Node) → k < length (filter p order) → Contains (filter p order) used
+      → UsesTitle project (title_in_store store (get_or (filter p order) k Program)) (title_in_store store used) → Contains (take k (filter p order)) used
+  filtered_after p k used h c u =
+      let place = filter_place p order k Program h in
+      let there = out_of_filter p order used c in
+      let user : UsesTitle project (title_in_store store (get_or order place.at Program)) (title_in_store store used) =
+      subst (λ a. UsesTitle project (title_in_store store a) (title_in_store store used)) (sym place.same) u in
+      let uses = (is.uses (get_or order place.at Program) used (at_place store order placed place.at place.inside)).1 (placed.inside used there.0, user) in
+      let before = placed.after place.at used place.inside uses in
+      subst (λ l. Contains l used) (sym place.front) (into_filter p (take place.at order) used before there.1)
+
+  pub expandable_list : (p : Node → Bool) → ((a : Node) → p a ≡ true → is_expandable_at store a ≡ true) → IsExpandableList project store (filter p order)
+  expandable_list p passes = record {
+    expandable = λ a c. passes a (out_of_filter p order a c).1;
+    after = λ k used h c u. filtered_after p k used h c u;
+  }
+
+  pub lists_expandable : ListsExpandable store (filter (is_expandable_at store) order)
+  lists_expandable = record {
+    once = AllPairs-filter (λ a b. a ≢ b) (is_expandable_at store) order placed.once;
+    just = λ a. (
+      λ c. (let there = out_of_filter (is_expandable_at store) order a c in (placed.inside a there.0, there.1)),
+      λ both. into_filter (is_expandable_at store) order a (placed.expandable a both.0 both.1) both.1,
+    );
+  }
+
+  module _ (old : Project) (marks : List Bool) (are : AreMarked old project store marks order) where
+    pub is_affected : (a : Node) → Contains order a → is_expandable_at store a ≡ true → mark_at (length store.names) marks a ≡ true → IsAffected levels heaviest old project (title_in_store store a)
+    is_affected a c flag mark =
+        let r = (are a c).0 mark in
+        record {
+          expandable = (is.expandable a (placed.inside a c)).0 flag;
+          cause = r.0;
+          reaches = r.1;
+          changed = r.2;
+        }
+
+    -- what has no mark isn't affected
+    pub not_affected : (a : Node) → Contains order a → mark_at (length store.names) marks a ≡ false → IsAffected levels heaviest old project (title_in_store store a) → ⊥
+    not_affected a c mark affected =
+        let marked = (are a c).1 (affected.cause, affected.reaches, affected.changed) in
+        let both : true ≡ false = sym marked ∙ mark in
+        absurd (cc)
+
+    pub lists_affected : ListsAffected old project store (filter (is_listed store marks) order)
+    lists_affected = record {
+      all = λ node affected. all node affected;
+      only = λ a c. only a c;
+      once = AllPairs-filter (λ a b. a ≢ b) (is_listed store marks) order placed.once;
+      after = λ k used h c u. filtered_after (is_listed store marks) k used h c u;
+    }
+      where
+        all : (node : Title) → IsAffected levels heaviest old project node → (a : Node) × (title_in_store store a ≡ node) × Contains (filter (is_listed store marks) order) a
+        all node affected =
+            let at = node_with_piece project store node is affected.expandable.has_piece in
+            let flag = (is.expandable at.0 at.1).1 (subst (IsExpandableNode project) (sym at.2) affected.expandable) in
+            let c = placed.expandable at.0 at.1 flag in
+            let mark = (are at.0 c).1 (affected.cause, subst (λ t. Reaches project t affected.cause) (sym at.2) affected.reaches, affected.changed) in
+            (at.0, at.2, into_filter (is_listed store marks) order at.0 c (and_from (is_expandable_at store at.0) (mark_at (length store.names) marks at.0) flag mark))
+
+        only : (a : Node) → Contains (filter (is_listed store marks) order) a → IsNodeIn store a × IsAffected levels heaviest old project (title_in_store store a)
+        only a c =
+            let there = out_of_filter (is_listed store marks) order a c in
+            let both = and_parts (is_expandable_at store a) (mark_at (length store.names) marks a) there.1 in
+            (placed.inside a there.0, is_affected a there.0 both.0 both.1)
+
+pub listed_expandable : (store : StoreRead) (marks : List Bool) (a : Node) → is_listed store marks a ≡ true → is_expandable_at store a ≡ true
+listed_expandable store marks a e = (and_parts (is_expandable_at store a) (mark_at (length store.names) marks a) e).0
+
+no_element : (nodes : List Node) → ((a : Node) → Contains nodes a → ⊥) → nodes ≡ []
+no_element [] none = refl
+no_element (a ∷ nodes) none = absurd (none a (zero, omega arith, refl))
+
+pub nothing_listed : (old new : Project) (store : StoreRead) (nodes : List Node) → ((node : Title) → new node ≡ old node) → ListsAffected old new store nodes → nodes ≡ []
+nothing_listed old new store nodes alike lists = no_element nodes (λ a c. (let affected = (lists.only a c).1 in affected.changed (alike affected.cause)))

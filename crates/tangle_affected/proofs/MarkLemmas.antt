@@ -1,0 +1,81 @@
+-- One more node along the order is marked or not.
+use Rattle.std.proofs.Common.{◌≡◌, ◌≢◌, ◌∙◌, ◌+◌, ◌<◌, ◌≤◌, ◌↔◌, ℕ, Bool, true, false, List, length, take, get_or, set, refl, ap, sym, subst, inl, inr, arith, get_or-set_same, get_or-set_other, Contains}
+use Rattle.std.proofs.lemmas.List.{get_or_default, take_more}
+use Rattle.std.proofs.lemmas.List.Elements.{Contains-get_or, Contains-push_cases}
+use Rattle.tangle_expansion.specs.Shapes.{Title, Named, Project, Uses, Reaches, here, on}
+use Rattle.tangle_expansion.specs.Shapes as title
+use Rattle.tangle_expansion.specs.declared.nodes.Node.{Node}
+use Rattle.tangle_expansion.specs.declared.nodes.Node.TheVariants.{Program, Name}
+use Rattle.tangle_graph.specs.Nodes.{IsNodeOf, UsesTitle}
+use Rattle.tangle_graph.specs.Ordering.{IsOrderIn}
+use Rattle.tangle_graph.specs.Stores.{StoreRead, IsStoreOf, IsNodeIn, uses_at, title_in_store}
+use Rattle.tangle_affected.specs.Marks.{number_of_node, mark_at, ReachesChanged, AreMarked}
+use Rattle.tangle_affected.proofs.FilterLemmas.{in_front, out_of_take}
+
+pub number_low : (names : List (List ℕ)) (a : Node) → IsNodeOf names a → number_of_node (length names) a ≤ length names
+number_low names Program h = omega arith
+number_low names (Name id) h = omega (arith, h)
+
+pub same_number : (names : List (List ℕ)) (a b : Node) → IsNodeOf names a → IsNodeOf names b → number_of_node (length names) a ≡ number_of_node (length names) b → a ≡ b
+same_number names Program Program ha hb e = refl
+same_number names Program (Name id) ha hb e = absurd (omega (arith, hb, e))
+same_number names (Name id) Program ha hb e = absurd (omega (arith, ha, e))
+same_number names (Name id) (Name other) ha hb e = ap Name e
+
+true_unless : (b : Bool) → ((e : b ≡ false) → ⊥) → b ≡ true
+true_unless true h = refl
+true_unless false h = absurd (h refl)
+
+step_on : (project : Project) (a b c : Title) → UsesTitle project a b → Reaches project b c → Reaches project a c
+step_on project a title.Program c u r = absurd u
+step_on project a (Named name) c u r = on u r
+
+module _ (store : StoreRead) (order : List Node) (placed : IsOrderIn store order) where
+  -- the node at a place of the order, and another one before it
+  pub at_place : (i : ℕ) → i < length order → IsNodeIn store (get_or order i Program)
+  at_place i h = placed.inside (get_or order i Program) (Contains-get_or order i Program h)
+
+  pub apart : (i : ℕ) (a : Node) → i < length order → Contains (take i order) a → a ≢ get_or order i Program
+  apart i a h c same =
+      let at = in_front order i a c in
+      placed.once at.0 i a at.1 h (at.3 ∙ same ∙ get_or_default order i Program a h)
+
+  module _ (old new : Project) (is : IsStoreOf new store) (marks : List Bool) (i : ℕ) (inside : i < length order) (are : AreMarked old new store marks (take i order)) where
+    pub marked_next : (b : Bool) → length marks ≡ length store.names + 1
+        → (b ≡ true → ReachesChanged old new (title_in_store store (get_or order i Program))) → (b ≡ false → ReachesChanged old new (title_in_store store (get_or order i Program)) → ⊥)
+        → AreMarked old new store (set marks (number_of_node (length store.names) (get_or order i Program)) b) (take (i + 1) order)
+    marked_next b size reached not a c =
+        let low : number_of_node (length store.names) (get_or order i Program) < length marks = omega (arith, number_low store.names (get_or order i Program) (at_place i inside), size) in
+        let is_set = get_or-set_same marks (number_of_node (length store.names) (get_or order i Program)) b false low in
+        elim (Contains-push_cases (take i order) (get_or order i Program) a (subst (λ l. Contains l a) (take_more order i Program inside) c)) [
+          | inl before ↦ (let other : number_of_node (length store.names) a ≢ number_of_node (length store.names) (get_or order i Program) =
+              (λ e. apart i a inside before (same_number store.names a (get_or order i Program) (placed.inside a (out_of_take order i a before)) (at_place i inside) e)) in
+              let stays = get_or-set_other marks (number_of_node (length store.names) (get_or order i Program)) (number_of_node (length store.names) a) b false other in
+              ((λ f. (are a before).0 (sym stays ∙ f)), (λ r. stays ∙ (are a before).1 r)))
+          | inr e ↦ subst (λ m. (mark_at (length store.names) (set marks (number_of_node (length store.names) (get_or order i Program)) b) m ≡ true) ↔ ReachesChanged old new (title_in_store store m)) e
+              ((λ f. reached (sym is_set ∙ f)), (λ r. is_set ∙ true_unless b (λ off. not off r)))
+        ]
+
+    -- a use that is marked
+    pub reached_by_use : (m : Node) → Contains (uses_at store (get_or order i Program)) m → mark_at (length store.names) marks m ≡ true
+        → ReachesChanged old new (title_in_store store (get_or order i Program))
+    reached_by_use m used mark =
+        let r = (are m (placed.after i m inside used)).0 mark in
+        let u = (is.uses (get_or order i Program) m (at_place i inside)).0 used in
+        (r.0, step_on new (title_in_store store (get_or order i Program)) (title_in_store store m) r.0 u.1 r.1, r.2)
+
+    -- it is not changed, and no use is marked
+    pub not_reached : (changed : Bool) → ((changed ≡ true) ↔ (new (title_in_store store (get_or order i Program)) ≢ old (title_in_store store (get_or order i Program)))) → changed ≡ false
+        → ((m : Node) → Contains (uses_at store (get_or order i Program)) m → mark_at (length store.names) marks m ≡ false) → ReachesChanged old new (title_in_store store (get_or order i Program)) → ⊥
+    not_reached changed told same none r = from (title_in_store store (get_or order i Program)) r.0 r.1 r.2 refl
+      where
+        from : (a c : Title) → Reaches new a c → new c ≢ old c → a ≡ title_in_store store (get_or order i Program) → ⊥
+        from a c here differs e = (let both : true ≡ false = sym (told.1 (subst (λ t. new t ≢ old t) e differs)) ∙ same in absurd (cc))
+        from a c (on {name = name} u s) differs e =
+            let this = title_in_store store (get_or order i Program) in
+            let uses : Uses new (title_in_store store (get_or order i Program)) name = subst (λ t. Uses new t name) e u in
+            let m = is.used (get_or order i Program) name (at_place i inside) uses in
+            let used = (is.uses (get_or order i Program) m.0 (at_place i inside)).1 (m.1, subst (UsesTitle new this) (sym m.2) uses) in
+            let mark = (are m.0 (placed.after i m.0 inside used)).1 (c, subst (λ t. Reaches new t c) (sym m.2) s, differs) in
+            let both : true ≡ false = sym mark ∙ none m.0 used in
+            absurd (cc)

@@ -1,0 +1,16 @@
+use Rattle.std.proofs.Common.{subst}
+use Rattle.std.specs.Prelude.{OnOk}
+use Rattle.tangle_expansion.specs.Kept.{PutsKept}
+use Rattle.tangle_affected.proofs.KeepLemmas.{expandable_in, plan_kept}
+use Rattle.tangle_affected.proofs.keeping.expand_next.Goals as goal
+
+pub expand_one-requires-clause-kept : goal.expand_one-requires-clause-kept
+expand_one-requires-clause-kept c = λ id h.
+    let store = c.args.store.now in
+    let node = c.args.node in
+    let used = c.requires.used in
+    plan_kept used.0 store c.args.kept.now node id used.2 (used.1.plan_uses node id (expandable_in store node c.requires.expandable) h)
+
+pub returns-clause-kept : goal.returns-clause-kept
+returns-clause-kept c = λ project is keeps.
+    subst (λ parts. OnOk c.put.result (PutsKept c.args.kept.now c.put.new.self c.args.node parts)) (c.in_ok-expansion.ensures.right project is keeps) c.put.ensures.ok

@@ -1,0 +1,57 @@
+use Rattle.std.proofs.Common.{◌∙◌, get_or, length, sym}
+use Rattle.std.proofs.lemmas.List.Elements.{Contains-get_or}
+use Rattle.tangle_expansion.specs.declared.nodes.Node.TheVariants.{Program}
+use Rattle.tangle_affected.specs.Marks.{mark_at}
+use Rattle.tangle_affected.proofs.KeepLemmas.{true_false, unmarked_more, unmarked_same}
+use Rattle.tangle_affected.proofs.ListLemmas.{not_affected}
+use Rattle.tangle_affected.proofs.MarkLemmas.{at_place}
+use Rattle.tangle_affected.proofs.keeping.share_unmarked.Goals as goal
+use Rattle.tangle_affected.proofs.keeping.share_unmarked.Goals.{then-expandable+then-not-is_marked+in_ok-keep_share, else-expandable, else-expandable-via-then-expandable+else-not-is_marked, else-expandable-via-else-expandable}
+
+pub keep_share-requires : goal.keep_share-requires
+keep_share-requires c =
+    let new = c.args.new.now in
+    let order = c.args.order.now in
+    let i = c.loop-node.node-index in
+    let h = c.loop-node-test.true in
+    let change = c.requires.change.0 in
+    let is = c.requires.change.1 in
+    let placed = c.requires.order in
+    let node = get_or order i Program in
+    let inside = at_place new order placed i h in
+    let unmarked = rw c.name_count-count.ensures at (sym c.is_marked.ensures ∙ c.if-not-is_marked.true) in
+    record {
+      old_table = c.requires.old_table;
+      new_table = c.requires.new_table;
+      node = inside;
+      change = (
+        change,
+        is,
+        (
+          (is.after.expandable node inside).0 (sym c.expandable.ensures ∙ c.if-expandable.true),
+          not_affected change.new new order is.after placed change.old c.args.marks.now (c.requires.marks change is) node (Contains-get_or order i Program h) unmarked,
+        ),
+      );
+    }
+
+pub loop-node-preserved : goal.loop-node-preserved
+loop-node-preserved c =
+    let new = c.args.new.now in
+    let order = c.args.order.now in
+    let i = c.loop-node.node-index in
+    let h = c.loop-node-test.true in
+    let placed = c.requires.order in
+    let node = get_or order i Program in
+    let marked = mark_at (length new.names) c.args.marks.now in
+    elim c.if-expandable.branch [
+      | then-expandable+then-not-is_marked+in_ok-keep_share w ↦ rw w.kept-is (λ change is.
+          let flag = sym c.expandable.ensures ∙ w.if-expandable.true in
+          let unmarked = rw c.name_count-count.ensures at (sym w.is_marked.ensures ∙ w.if-not-is_marked.true) in
+          let unaffected = not_affected change.new new order is.after placed change.old c.args.marks.now (c.requires.marks change is) node (Contains-get_or order i Program h) unmarked in
+          unmarked_more change.new new order placed marked i c.loop-node.kept _ h flag (c.loop-node.invariant change is)
+          (w.in_ok-keep_share.ensures change is ((is.after.expandable node (at_place new order placed i h)).0 flag, unaffected)))
+      | else-expandable w ↦ rw w.kept-is (λ change is. unmarked_same change.new new order placed marked i c.loop-node.kept h (λ e m. elim w.else-expandable.branch [
+        | else-expandable-via-then-expandable+else-not-is_marked v ↦ true_false (mark_at (length new.names) c.args.marks.now (get_or order i Program)) (rw c.name_count-count.ensures at (sym v.is_marked.ensures ∙ v.if-not-is_marked.false)) m
+        | else-expandable-via-else-expandable v ↦ true_false c.expandable.result (c.expandable.ensures ∙ e) v.if-expandable.false
+      ]) (c.loop-node.invariant change is))
+    ]

@@ -1,0 +1,150 @@
+//! The nodes that an edit affects.
+ghost use Rattle.std.specs.Prelude.{◌≡◌, ◌≢◌, ◌+◌, ◌↔◌, ℕ, length, true, false, filter, IfOk, IfSome, None, Contains, vec_len};
+ghost use Rattle.tangle_expansion.specs.Shapes.{Project};
+ghost use Rattle.tangle_expansion.specs.declared.nodes.Node.{Node};
+ghost use Rattle.tangle_graph.specs.Nodes.{IsNodeOf, title_of_node};
+ghost use Rattle.tangle_graph.specs.Ordering.{IsOrderIn};
+ghost use Rattle.tangle_graph.specs.Stores.{IsStoreOf, IsNodeIn, title_in_store};
+ghost use Rattle.tangle_affected.specs.Affected.{ListsAffected};
+ghost use Rattle.tangle_affected.specs.Marks.{number_of_node, mark_at, AreMarked, is_listed};
+
+use std::alloc::Global;
+use tangle_expansion::{Node, PiecesByNode};
+use tangle_graph::{Store, same_shape};
+use tangle_lines::NoMemory;
+use tangle_names::NameTable;
+
+/// The nodes that an edit affects: those that are expandable in the new store and reach, in it, a node whose shape in the old one isn't the
+/// same. Each comes once, and after those of the list that it uses. Nodes are matched by name, the program by the program.
+///
+/// # Errors
+///
+/// `NoMemory`.
+pub fn affected(
+    alloc: Global,
+    old: &Store,
+    old_names: &NameTable,
+    new: &Store,
+    new_names: &NameTable,
+) -> Result<Vec<Node>, NoMemory>
+    requires old_table { old_names.now.names ≡ old.now.names }
+    requires new_table { new_names.now.names ≡ new.now.names }
+    ensures { (old_project new_project : Project) → IsStoreOf old_project old.now → IsStoreOf new_project new.now
+        → IfOk result (λ nodes. ListsAffected old_project new_project new.now nodes.items) }
+{
+    let order = new.order();
+    let marks = reaching_changed(alloc, old, old_names, new, new_names, order)?;
+    listed_nodes(alloc, new, &marks, order)
+}
+
+/// Marks, along the order, the nodes that reach a changed one.
+pub(crate) fn reaching_changed(
+    alloc: Global,
+    old: &Store,
+    old_names: &NameTable,
+    new: &Store,
+    new_names: &NameTable,
+    order: &[Node],
+) -> Result<Vec<bool>, NoMemory>
+    requires old_table { old_names.now.names ≡ old.now.names }
+    requires new_table { new_names.now.names ≡ new.now.names }
+    requires order { IsOrderIn new.now order.now }
+    ensures { (old_project new_project : Project) → IsStoreOf old_project old.now → IsStoreOf new_project new.now
+        → IfOk result (λ marks. AreMarked old_project new_project new.now marks.items order.now) }
+{
+    let count = new.name_count();
+    let mut marks = vec![in alloc; false; count]?;
+    marks.push(false)?;
+    for node in order {
+        let mark = is_changed(old, old_names, new, new_names, *node)
+            || any_marked(count, &marks, new.uses(*node));
+        marks[number_of(count, *node)] = mark;
+    }
+    Ok(marks)
+}
+
+/// Whether the shape of the node is not the old one.
+fn is_changed(
+    old: &Store,
+    old_names: &NameTable,
+    new: &Store,
+    new_names: &NameTable,
+    node: Node,
+) -> bool
+    requires old_table { old_names.now.names ≡ old.now.names }
+    requires new_table { new_names.now.names ≡ new.now.names }
+    requires node { IsNodeIn new.now node }
+    ensures { (old_project new_project : Project) → IsStoreOf old_project old.now → IsStoreOf new_project new.now
+        → ((result ≡ true) ↔ (new_project (title_in_store new.now node) ≢ old_project (title_in_store new.now node))) }
+{
+    match node_before(old_names, new_names, node) {
+        Some(before) => !same_shape(old, before, new, node),
+        None => new.has_piece(node),
+    }
+}
+
+/// The node of the old table that has the title of this one of the new table, if there is one.
+pub(crate) fn node_before(old_names: &NameTable, new_names: &NameTable, node: Node) -> Option<Node>
+    requires { IsNodeOf new_names.now.names node }
+    ensures some { IfSome result (λ before. IsNodeOf old_names.now.names before
+        × (title_of_node old_names.now.names before ≡ title_of_node new_names.now.names node)) }
+    ensures none { result ≡ None → (other : Node) → IsNodeOf old_names.now.names other
+        → title_of_node old_names.now.names other ≢ title_of_node new_names.now.names node }
+{
+    match node {
+        Node::Program => Some(Node::Program),
+        Node::Name(id) => match old_names.find(new_names.text(id)) {
+            Some(before) => Some(Node::Name(before)),
+            None => None,
+        },
+    }
+}
+
+/// The number of the node, where so many names come before the program.
+fn number_of(count: usize, node: Node) -> usize
+    ensures { result ≡ number_of_node count node }
+{
+    match node {
+        Node::Program => count,
+        Node::Name(id) => id,
+    }
+}
+
+/// Whether the node is marked.
+pub(crate) fn is_marked(count: usize, marks: &[bool], node: Node) -> bool
+    ensures { result ≡ mark_at count marks.now node }
+{
+    marks.get(number_of(count, node)) == Some(&true)
+}
+
+/// Whether some node of the row is marked.
+fn any_marked(count: usize, marks: &[bool], row: &[Node]) -> bool
+    ensures one { result ≡ true → (m : Node) × Contains row.now m × (mark_at count marks.now m ≡ true) }
+    ensures none { result ≡ false → (m : Node) → Contains row.now m → mark_at count marks.now m ≡ false }
+{
+    for m in row {
+        if is_marked(count, marks, *m) {
+            return true;
+        }
+    }
+    false
+}
+
+/// The expandable and marked nodes, in the order.
+pub(crate) fn listed_nodes(
+    alloc: Global,
+    store: &Store,
+    marks: &[bool],
+    order: &[Node],
+) -> Result<Vec<Node>, NoMemory>
+    ensures { IfOk result (λ nodes. nodes.items ≡ filter (is_listed store.now marks.now) order.now) }
+{
+    let mut nodes = Vec::new(alloc);
+    let count = store.name_count();
+    for node in order {
+        if store.expandable(*node) && is_marked(count, marks, *node) {
+            nodes.push(*node)?;
+        }
+    }
+    Ok(nodes)
+}

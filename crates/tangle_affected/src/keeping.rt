@@ -1,0 +1,189 @@
+//! The expansions of a web: all of them anew, or after an edit, where those that it doesn't affect are shared.
+ghost use Rattle.std.specs.Prelude.{◌≡◌, ◌++◌, ◌∷◌, [], ℕ, List, length, true, false, filter, IfOk, OnOk, None, Contains};
+ghost use Rattle.tangle_expansion.specs.Kept.{kept_at, PutsKept};
+ghost use Rattle.tangle_expansion.specs.Limits.{flat_of};
+ghost use Rattle.tangle_expansion.specs.Shapes.{Project};
+ghost use Rattle.tangle_graph.specs.Ordering.{IsOrderIn};
+ghost use Rattle.tangle_graph.specs.Stores.{IsStoreOf, IsNodeIn, KeepsUsed, is_expandable_at, title_in_store};
+ghost use Rattle.tangle_affected.specs.Affected.{Change, ListsAffectedBehind};
+ghost use Rattle.tangle_affected.specs.Keeping.{KeepsJust, KeepsUnmarked, ListsExpandableBehind, IsChangeOf, IsUnaffected, CanExpand};
+ghost use Rattle.tangle_affected.specs.Marks.{AreMarked, mark_at};
+
+use crate::edits::{is_marked, listed_nodes, node_before, reaching_changed};
+use std::alloc::Global;
+use tangle_expansion::{
+    Expansion, Kept, Node, PiecesByNode, Work, unaffected_nodes_stay, used_names_are_expandable,
+};
+use tangle_graph::{Store, expand_one};
+use tangle_lines::NoMemory;
+use tangle_names::NameTable;
+
+/// Expands each expandable node of the store, and keeps what it expands to. The nodes go last in the work's list.
+///
+/// # Errors
+///
+/// `NoMemory`.
+pub fn expand_all(alloc: Global, store: &Store, work: &mut Work) -> Result<Kept, NoMemory>
+    requires { (project : Project) × IsStoreOf project store.now }
+    ensures kept { (project : Project) → IsStoreOf project store.now → IfOk result (λ kept. KeepsJust project store.now kept) }
+    ensures work { OnOk result (ListsExpandableBehind store.now work.old work.new) }
+{
+    let list = expandable_nodes(alloc, store, store.order())?;
+    let mut kept = Kept::new(alloc);
+    expand_list(alloc, store, &list, &mut kept, work)?;
+    Ok(kept)
+}
+
+/// Shares the old expansion of each expandable node that the edit doesn't affect, and expands the affected ones, each after those that it
+/// uses. The affected nodes go last in the work's list.
+///
+/// # Errors
+///
+/// `NoMemory`. The old expansions stay as they are.
+pub fn expand_again(
+    alloc: Global,
+    old: &Store,
+    old_names: &NameTable,
+    old_kept: &Kept,
+    new: &Store,
+    new_names: &NameTable,
+    work: &mut Work,
+) -> Result<Kept, NoMemory>
+    requires old_table { old_names.now.names ≡ old.now.names }
+    requires new_table { new_names.now.names ≡ new.now.names }
+    requires change { (change : Change) × IsChangeOf old.now new.now old_kept.now change }
+    ensures kept { (change : Change) → IsChangeOf old.now new.now old_kept.now change → IfOk result (λ kept. KeepsJust change.new new.now kept) }
+    ensures work { (change : Change) → IsChangeOf old.now new.now old_kept.now change
+        → OnOk result (ListsAffectedBehind change.old change.new new.now work.old work.new) }
+{
+    let order = new.order();
+    let marks = reaching_changed(alloc, old, old_names, new, new_names, order)?;
+    let list = listed_nodes(alloc, new, &marks, order)?;
+    let mut kept = Kept::new(alloc);
+    share_unmarked(
+        old, old_names, old_kept, new, new_names, order, &marks, &mut kept,
+    )?;
+    expand_list(alloc, new, &list, &mut kept, work)?;
+    Ok(kept)
+}
+
+/// The expandable nodes, in the order.
+fn expandable_nodes(alloc: Global, store: &Store, order: &[Node]) -> Result<Vec<Node>, NoMemory>
+    ensures { IfOk result (λ nodes. nodes.items ≡ filter (is_expandable_at store.now) order.now) }
+{
+    let mut nodes = Vec::new(alloc);
+    for node in order {
+        if store.expandable(*node) {
+            nodes.push(*node)?;
+        }
+    }
+    Ok(nodes)
+}
+
+/// A share of the old expansion of the node, which is matched by name.
+fn share_old(
+    old: &Store,
+    old_names: &NameTable,
+    old_kept: &Kept,
+    new: &Store,
+    new_names: &NameTable,
+    node: Node,
+) -> Result<Expansion, NoMemory>
+    requires old_table { old_names.now.names ≡ old.now.names }
+    requires new_table { new_names.now.names ≡ new.now.names }
+    requires node { IsNodeIn new.now node }
+    requires change { (change : Change) × IsChangeOf old.now new.now old_kept.now change × IsUnaffected new.now change node }
+    ensures { (change : Change) → IsChangeOf old.now new.now old_kept.now change → IsUnaffected new.now change node
+        → IfOk result (λ e. e ≡ flat_of change.new (title_in_store new.now node)) }
+{
+    unaffected_nodes_stay();
+    let before = node_before(old_names, new_names, node).unwrap();
+    old_kept.get(before).unwrap().share()
+}
+
+/// Keeps a share of the old expansion of an expandable node that isn't affected.
+fn keep_share(
+    old: &Store,
+    old_names: &NameTable,
+    old_kept: &Kept,
+    new: &Store,
+    new_names: &NameTable,
+    node: Node,
+    kept: &mut Kept,
+) -> Result<(), NoMemory>
+    requires old_table { old_names.now.names ≡ old.now.names }
+    requires new_table { new_names.now.names ≡ new.now.names }
+    requires node { IsNodeIn new.now node }
+    requires change { (change : Change) × IsChangeOf old.now new.now old_kept.now change × IsUnaffected new.now change node }
+    ensures { (change : Change) → IsChangeOf old.now new.now old_kept.now change → IsUnaffected new.now change node
+        → OnOk result (PutsKept kept.old kept.new node (flat_of change.new (title_in_store new.now node))) }
+{
+    let share = share_old(old, old_names, old_kept, new, new_names, node)?;
+    kept.put(node, share)
+}
+
+/// Keeps a share of the old expansion of each expandable node without a mark.
+fn share_unmarked(
+    old: &Store,
+    old_names: &NameTable,
+    old_kept: &Kept,
+    new: &Store,
+    new_names: &NameTable,
+    order: &[Node],
+    marks: &[bool],
+    kept: &mut Kept,
+) -> Result<(), NoMemory>
+    requires old_table { old_names.now.names ≡ old.now.names }
+    requires new_table { new_names.now.names ≡ new.now.names }
+    requires order { IsOrderIn new.now order.now }
+    requires change { (change : Change) × IsChangeOf old.now new.now old_kept.now change }
+    requires marks { (change : Change) → IsChangeOf old.now new.now old_kept.now change → AreMarked change.old change.new new.now marks.now order.now }
+    requires empty { (node : Node) → kept_at kept.old node ≡ None }
+    ensures { (change : Change) → IsChangeOf old.now new.now old_kept.now change
+        → OnOk result (KeepsUnmarked change.new new.now (mark_at (length new.now.names) marks.now) order.now kept.new) }
+{
+    let count = new.name_count();
+    for node in order {
+        if new.expandable(*node) && !is_marked(count, marks, *node) {
+            keep_share(old, old_names, old_kept, new, new_names, *node, kept)?;
+        }
+    }
+    Ok(())
+}
+
+/// Expands a node, and keeps its expansion.
+fn expand_next(
+    alloc: Global,
+    store: &Store,
+    node: Node,
+    kept: &mut Kept,
+    work: &mut Work,
+) -> Result<(), NoMemory>
+    requires expandable { is_expandable_at store.now node ≡ true }
+    requires used { (project : Project) × IsStoreOf project store.now × KeepsUsed project store.now kept.old node }
+    ensures kept { (project : Project) → IsStoreOf project store.now → KeepsUsed project store.now kept.old node
+        → OnOk result (PutsKept kept.old kept.new node (flat_of project (title_in_store store.now node))) }
+    ensures listed { OnOk result (work.new ≡ work.old ++ node ∷ []) }
+{
+    let expansion = expand_one(alloc, store, node, kept, work)?;
+    kept.put(node, expansion)
+}
+
+/// Expands the nodes of the list in its order, each over what is kept by then.
+fn expand_list(
+    alloc: Global,
+    store: &Store,
+    list: &[Node],
+    kept: &mut Kept,
+    work: &mut Work,
+) -> Result<(), NoMemory>
+    requires { (project : Project) × CanExpand project store.now list.now kept.old }
+    ensures kept { (project : Project) → CanExpand project store.now list.now kept.old → OnOk result (KeepsJust project store.now kept.new) }
+    ensures work { OnOk result (work.new ≡ work.old ++ list.now) }
+{
+    used_names_are_expandable();
+    for node in list {
+        expand_next(alloc, store, *node, kept, work)?;
+    }
+    Ok(())
+}

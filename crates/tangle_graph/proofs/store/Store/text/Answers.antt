@@ -1,0 +1,24 @@
+use Rattle.std.proofs.Common.{◌≡◌, ◌∙◌, List, Vec, ℕ, length, ap, sym}
+use Rattle.std.specs.Global.{Global}
+use Rattle.std.specs.Prelude.{All, slice_get}
+use Rattle.std.proofs.lemmas.List.{length-map}
+use Rattle.tangle_expansion.specs.NodeTexts.{node_uses}
+use Rattle.tangle_expansion.specs.declared.expansion.NodeText.{NodeText}
+use Rattle.tangle_graph.specs.Nodes.{entry_if}
+use Rattle.tangle_graph.specs.Stores.{StoreRead}
+use Rattle.tangle_graph.specs.Plans.{node_texts}
+use Rattle.tangle_graph.proofs.TextLemmas.{names_of_read, none_read}
+use Rattle.tangle_graph.proofs.store.Store.text.Goals as goal
+
+pub returns-in-Some-get-clause-uses : goal.returns-in-Some-get-clause-uses
+returns-in-Some-get-clause-uses c =
+    let inside = c.self.inside in
+    let size : length inside.names.items ≡ length c.args.self.now.names =
+    sym (length-map inside.names.items (λ (text : Vec ℕ Global). text.items)) ∙ ap (λ (s : StoreRead). length s.names) c.self.view_is in
+    rw c.deref-text.ensures (names_of_read c.deref.result.now c.in-Some.n (length inside.names.items) (length c.args.self.now.names) c.in-Some-get.text.now
+    (rw c.deref.ensures.value c.self.invariant.uses) size c.in-Some-get.ensures.lookup.0 c.in-Some-get.ensures.lookup.1)
+
+pub returns-in-None-get-clause-text : goal.returns-in-None-get-clause-text
+returns-in-None-get-clause-text c =
+    let same : node_texts c.deref.result.now ≡ c.args.self.now.texts = ap node_texts c.deref.ensures.value ∙ ap (λ (s : StoreRead). s.texts) c.self.view_is in
+    sym (ap (entry_if c.args.self.now.texts) (sym c.number.ensures ∙ c.in-Some.is) ∙ ap (λ ts. slice_get ts c.in-Some.n) (sym same) ∙ none_read c.deref.result.now c.in-Some.n c.in-None-get.ensures.lookup.0)

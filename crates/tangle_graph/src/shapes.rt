@@ -1,0 +1,22 @@
+//! Comparing the shapes of two nodes, each of a store of its own.
+ghost use Rattle.std.specs.Prelude.{◌≡◌, ◌↔◌, true};
+ghost use Rattle.tangle_expansion.specs.Shapes.{Project};
+ghost use Rattle.tangle_graph.specs.Stores.{IsStoreOf, shape_in_store};
+
+use crate::store::Store;
+use tangle_expansion::Node;
+
+/// Whether the two nodes have the same shape: the same pieces, with section numbers, file names and line numbers struck out and each use as
+/// the name that it resolves to. What names have no piece, and what a store doesn't have, is alike.
+pub fn same_shape(old: &Store, old_node: Node, new: &Store, new_node: Node) -> bool
+    ensures { (old_project new_project : Project) → IsStoreOf old_project old.now → IsStoreOf new_project new.now
+        → ((result ≡ true) ↔ (shape_in_store old.now old_project old_node ≡ shape_in_store new.now new_project new_node)) }
+{
+    match old.text(old_node) {
+        Some(text) => match new.text(new_node) {
+            Some(other) => tangle_expansion::same_shape(old, text, new, other),
+            None => !old.has_piece(old_node),
+        },
+        None => !new.has_piece(new_node),
+    }
+}

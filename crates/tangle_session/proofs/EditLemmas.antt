@@ -1,0 +1,143 @@
+-- The web and the change file are there after an edit that is not refused.
+use Rattle.std.proofs.Common.{◌≡◌, ◌∙◌, ◌||◌, ℕ, Bool, true, false, cond, List, [], ◌∷◌, ◌++◌, Option, None, Some, refl, ap, sym}
+use Rattle.std.specs.Prelude.{is_some, IfSome, IfNone}
+use Rattle.std.specs.Map.{lookup, set_value, remove_entry}
+use Rattle.std.specs.Option.{option_map_or}
+use Rattle.std.specs.Str.{bytes_eq}
+use Rattle.std.proofs.lemmas.Bool.{and_parts, and_from}
+use Rattle.std.proofs.lemmas.Slice.Eq.{bytes_eq-Decides}
+use Rattle.tangle_lines.specs.Edited.{edited, with_lines_changed}
+use Rattle.tangle_lines.specs.Edits.{edit_refusal, or_else, refusal_if}
+use Rattle.tangle_lines.specs.Lines.{FileTable, lines_of}
+use Rattle.tangle_lines.specs.Roles.{RoleNames, fits, is_there, is_there_if_any}
+use Rattle.tangle_lines.specs.declared.edits.Edit.{Edit}
+use Rattle.tangle_lines.specs.declared.edits.Edit.TheVariants.{Insert, Remove, Replace, Create, Discard}
+use Rattle.tangle_lines.specs.declared.refusal.Refusal.{Refusal}
+use Rattle.tangle_lines.specs.declared.refusal.Refusal.TheVariants.{RoleFile}
+use Rattle.tangle_session.specs.Edits.{has_role, role_refusal, session_refusal}
+use Rattle.tangle_session.proofs.TangleLemmas.{there_is}
+
+-- where neither of two refusals applies
+both_none : (a b : Option Refusal) → None ≡ or_else a b → (None ≡ a) × (None ≡ b)
+both_none None b h = (refl, h)
+both_none (Some e) b h = absurd (cc)
+
+not_refused : (b : Bool) (e : Refusal) → None ≡ refusal_if b e → b ≡ false
+not_refused true e h = absurd (cc)
+not_refused false e h = refl
+
+neither : (a b : Bool) → (a || b) ≡ false → (a ≡ false) × (b ≡ false)
+neither false b h = (refl, h)
+neither true b h = absurd (cc)
+
+-- no file goes where lines change
+kept_changed : (files : FileTable) (name other : List ℕ) (lines : List (List ℕ)) → is_some (lookup (bytes_eq other) (set_value (bytes_eq name) files lines)) ≡ is_some (lines_of files other)
+kept_changed [] name other lines = refl
+kept_changed (f ∷ files) name other lines = by (bytes_eq name f.0) (kept_changed files name other lines)
+  where
+    hit : (b : Bool) → is_some (cond b (Some lines) (lines_of files other)) ≡ is_some (cond b (Some f.1) (lines_of files other))
+    hit true = refl
+    hit false = refl
+
+    miss : (b : Bool) → is_some (lookup (bytes_eq other) (set_value (bytes_eq name) files lines)) ≡ is_some (lines_of files other)
+        → is_some (cond b (Some f.1) (lookup (bytes_eq other) (set_value (bytes_eq name) files lines))) ≡ is_some (cond b (Some f.1) (lines_of files other))
+    miss true h = refl
+    miss false h = h
+
+    by : (a : Bool) → is_some (lookup (bytes_eq other) (set_value (bytes_eq name) files lines)) ≡ is_some (lines_of files other)
+        → is_some (lookup (bytes_eq other) (cond a ((f.0, lines) ∷ files) (f ∷ set_value (bytes_eq name) files lines))) ≡ is_some (cond (bytes_eq other f.0) (Some f.1) (lines_of files other))
+    by true h = hit (bytes_eq other f.0)
+    by false h = miss (bytes_eq other f.0) h
+
+kept_with_changed : (files : FileTable) (name other : List ℕ) (change : List (List ℕ) → List (List ℕ)) → is_some (lines_of (with_lines_changed files name change) other) ≡ is_some (lines_of files other)
+kept_with_changed files name other change = by (lines_of files name)
+  where
+    by : (o : Option (List (List ℕ))) → is_some (lines_of (option_map_or (λ lines. set_value (bytes_eq name) files (change lines)) o files) other) ≡ is_some (lines_of files other)
+    by None = refl
+    by (Some lines) = kept_changed files name other (change lines)
+
+kept_behind : (files : FileTable) (name other : List ℕ) → is_some (lines_of files other) ≡ true → is_some (lines_of (files ++ (name, []) ∷ []) other) ≡ true
+kept_behind [] name other h = absurd (cc)
+kept_behind (f ∷ files) name other h = by (bytes_eq other f.0) h (kept_behind files name other)
+  where
+    by : (b : Bool) → is_some (cond b (Some f.1) (lines_of files other)) ≡ true → (is_some (lines_of files other) ≡ true → is_some (lines_of (files ++ (name, []) ∷ []) other) ≡ true)
+        → is_some (cond b (Some f.1) (lines_of (files ++ (name, []) ∷ []) other)) ≡ true
+    by true h rest = refl
+    by false h rest = rest h
+
+-- another file than the one that is discarded stays
+kept_apart : (files : FileTable) (name other : List ℕ) → bytes_eq name other ≡ false → is_some (lookup (bytes_eq other) (remove_entry (bytes_eq name) files)) ≡ is_some (lines_of files other)
+kept_apart [] name other apart = refl
+kept_apart (f ∷ files) name other apart = by (bytes_eq name f.0) refl (kept_apart files name other apart)
+  where
+    hit : (b : Bool) → bytes_eq other f.0 ≡ b → bytes_eq name f.0 ≡ true → is_some (lines_of files other) ≡ is_some (cond b (Some f.1) (lines_of files other))
+    hit false g e = refl
+    hit true g e =
+        let named : name ≡ f.0 = (bytes_eq-Decides name f.0).0 e in
+        let same : bytes_eq name other ≡ true = (bytes_eq-Decides name other).1 (named ∙ sym ((bytes_eq-Decides other f.0).0 g)) in
+        absurd (let both : true ≡ false = sym same ∙ apart in cc)
+
+    miss : (b : Bool) → is_some (lookup (bytes_eq other) (remove_entry (bytes_eq name) files)) ≡ is_some (lines_of files other)
+        → is_some (cond b (Some f.1) (lookup (bytes_eq other) (remove_entry (bytes_eq name) files))) ≡ is_some (cond b (Some f.1) (lines_of files other))
+    miss true h = refl
+    miss false h = h
+
+    by : (a : Bool) → bytes_eq name f.0 ≡ a → is_some (lookup (bytes_eq other) (remove_entry (bytes_eq name) files)) ≡ is_some (lines_of files other)
+        → is_some (lookup (bytes_eq other) (cond a files (f ∷ remove_entry (bytes_eq name) files))) ≡ is_some (cond (bytes_eq other f.0) (Some f.1) (lines_of files other))
+    by true e h = hit (bytes_eq other f.0) refl e
+    by false e h = miss (bytes_eq other f.0) h
+
+-- the edit doesn't discard the file of this name
+abbrev Spares : Edit → List ℕ → Type 0
+Spares (Insert file at text) other = Unit {0}
+Spares (Remove file at) other = Unit {0}
+Spares (Replace file at text) other = Unit {0}
+Spares (Create file) other = Unit {0}
+Spares (Discard file) other = bytes_eq file.items other ≡ false
+
+lines_stay : (files : FileTable) (edit : Edit) (other : List ℕ) → is_some (lines_of files other) ≡ true → Spares edit other → is_some (lines_of (edited files edit) other) ≡ true
+lines_stay files (Insert file at text) other h s = kept_with_changed files file.items other _ ∙ h
+lines_stay files (Remove file at) other h s = kept_with_changed files file.items other _ ∙ h
+lines_stay files (Replace file at text) other h s = kept_with_changed files file.items other _ ∙ h
+lines_stay files (Create file) other h s = kept_behind files file.items other h
+lines_stay files (Discard file) other h s = kept_apart files file.items other s ∙ h
+
+stays_there : (files : FileTable) (edit : Edit) (other : List ℕ) → is_there files other ≡ true → Spares edit other → is_there (edited files edit) other ≡ true
+stays_there files edit other h s = sym (there_is (edited files edit) other) ∙ lines_stay files edit other (there_is files other ∙ h) s
+
+abbrev SparesRoles : Edit → RoleNames → Type 0
+SparesRoles edit roles = Spares edit roles.web × ((name : List ℕ) → roles.change ≡ Some name → Spares edit name)
+
+spares_roles : (roles : RoleNames) (edit : Edit) → None ≡ role_refusal roles edit → SparesRoles edit roles
+spares_roles roles (Insert file at text) h = (tt, λ name e. tt)
+spares_roles roles (Remove file at) h = (tt, λ name e. tt)
+spares_roles roles (Replace file at text) h = (tt, λ name e. tt)
+spares_roles roles (Create file) h = (tt, λ name e. tt)
+spares_roles roles (Discard file) h =
+    let parts = neither (bytes_eq file.items roles.web) (option_map_or (bytes_eq file.items) roles.change false) (not_refused (has_role roles file.items) RoleFile h) in
+    (parts.0, λ name e. sym (ap (λ o. option_map_or (bytes_eq file.items) o false) e) ∙ parts.1)
+
+any_stays : (files : FileTable) (edit : Edit) (o : Option (List ℕ)) → is_there_if_any files o ≡ true → ((name : List ℕ) → o ≡ Some name → Spares edit name)
+    → is_there_if_any (edited files edit) o ≡ true
+any_stays files edit None h s = refl
+any_stays files edit (Some name) h s = stays_there files edit name h (s name refl)
+
+pub fits_edited : (files : FileTable) (roles : RoleNames) (edit : Edit) → fits files roles ≡ true → None ≡ session_refusal files roles edit → fits (edited files edit) roles ≡ true
+fits_edited files roles edit h none =
+    let parts = and_parts (is_there files roles.web) (is_there_if_any files roles.change) h in
+    let spared = spares_roles roles edit (both_none (edit_refusal files edit) (role_refusal roles edit) none).1 in
+    and_from (is_there (edited files edit) roles.web) (is_there_if_any (edited files edit) roles.change)
+    (stays_there files edit roles.web parts.0 spared.0) (any_stays files edit roles.change parts.1 spared.1)
+
+-- the files refuse no edit that the session doesn't
+pub files_take : (files : FileTable) (roles : RoleNames) (edit : Edit) → None ≡ session_refusal files roles edit → None ≡ edit_refusal files edit
+files_take files roles edit none = (both_none (edit_refusal files edit) (role_refusal roles edit) none).0
+
+-- where nothing refuses, what holds of a refusal holds
+pub of_none : (o : Option Refusal) (P : Refusal → Type 0) → None ≡ o → IfSome o P
+of_none None P h = tt
+of_none (Some e) P h = absurd (cc)
+
+pub none_or : (o : Option Refusal) (P : Type 0) → P → IfNone o P
+none_or None P h = h
+none_or (Some e) P h = tt

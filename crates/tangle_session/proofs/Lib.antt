@@ -1,0 +1,5 @@
+mod OutputLemmas
+mod TangleLemmas
+mod EditLemmas
+mod LawLemmas
+mod NameLemmas

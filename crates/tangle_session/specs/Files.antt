@@ -1,0 +1,39 @@
+-- The web of files with roles, and the output files that a web has.
+use Rattle.std.specs.Prelude.{ℕ, List, map}
+use Rattle.tangle_lines.specs.Lines.{FileTable}
+use Rattle.tangle_lines.specs.Roles.{RoleNames}
+use Rattle.tangle_lines.specs.Reading.{SourceRead, source_of}
+use Rattle.tangle_scan.specs.Web.{WebRead, web_of}
+use Rattle.tangle_names.specs.NameTable.{table_of}
+use Rattle.tangle_expansion.specs.Limits.{flat_of}
+use Rattle.tangle_expansion.specs.Numbers.{numbers_of}
+use Rattle.tangle_expansion.specs.Outputs.{OutputRead, file_text}
+use Rattle.tangle_expansion.specs.Projects.{project}
+use Rattle.tangle_expansion.specs.Shapes.{Project}
+use Rattle.tangle_graph.specs.Nodes.{title_of_node}
+use Rattle.tangle_graph.specs.Outputs.{outputs}
+
+-- the source that is read from the files
+unfoldable pub source_at : FileTable → RoleNames → SourceRead
+source_at files roles = source_of files roles
+
+-- the web that is scanned from it
+unfoldable pub web_at : FileTable → RoleNames → WebRead
+web_at files roles = web_of (source_at files roles)
+
+module _ (web : WebRead) where
+  -- the shape of each node of a web
+  abbrev pub project_of : Project
+  project_of = project web (table_of web)
+
+  -- the bytes of an output file of a web
+  abbrev pub output_bytes : OutputRead → List ℕ
+  output_bytes output = file_text (numbers_of web (table_of web)) output.has_macros output.has_piece
+      (flat_of project_of (title_of_node (table_of web).names output.node))
+
+  abbrev pub written : OutputRead → List ℕ × List ℕ
+  written output = (output.name, output_bytes output)
+
+  -- the output files of a web with a main file of this name, in order: each a name and its bytes
+  abbrev pub written_outputs : List ℕ → List (List ℕ × List ℕ)
+  written_outputs out = map written (outputs web (table_of web) out)

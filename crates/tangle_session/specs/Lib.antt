@@ -1,0 +1,7 @@
+pub mod Tangle
+pub mod Faults
+pub mod Files
+pub mod Edits
+pub mod Sessions
+pub mod Writes
+pub mod Laws

@@ -1,0 +1,65 @@
+-- What a session shows, and what it holds besides.
+use Rattle.std.specs.Prelude.{◌≡◌, ◌≢◌, ◌↔◌, ℕ, true, List, None, Some, Option, AllPairs, Contains, if◌then◌else◌}
+use Rattle.tangle_lines.specs.Lines.{FileTable}
+use Rattle.tangle_lines.specs.Roles.{RoleNames, fits, is_there, is_there_if_any}
+use Rattle.tangle_lines.specs.Reading.{SourceRead}
+use Rattle.tangle_lines.specs.declared.refusal.Refusal.{Refusal}
+use Rattle.tangle_lines.specs.declared.refusal.Refusal.TheVariants.{NoWeb, NoChange}
+use Rattle.tangle_scan.specs.LineTruth.{PiecesStandAtTheirLines}
+use Rattle.tangle_scan.specs.Web.{WebRead}
+use Rattle.tangle_names.specs.NameTable.{table_of}
+use Rattle.tangle_expansion.specs.Affected.{IsAffected}
+use Rattle.tangle_expansion.specs.Limits.{levels, heaviest, IsExpandableNode}
+use Rattle.tangle_expansion.specs.Numbers.{numbers_of}
+use Rattle.tangle_expansion.specs.declared.nodes.Node.{Node}
+use Rattle.tangle_graph.specs.Nodes.{IsNodeOf, title_of_node}
+use Rattle.tangle_graph.specs.Outputs.{outputs}
+use Rattle.tangle_graph.specs.Stores.{IsStoreOf}
+use Rattle.tangle_affected.specs.Keeping.{KeepsJust}
+use Rattle.tangle_session.specs.Faults.{AreFaults}
+use Rattle.tangle_session.specs.Files.{project_of, source_at, web_at}
+use Rattle.tangle_session.specs.declared.ground.Ground.{Ground}
+use Rattle.tangle_session.specs.declared.tangling.Tangled.{Tangled}
+
+-- the files, the roles, and the nodes that were expanded in the start or in the last accepted edit
+pub record SessionRead : Type 0 where
+  pub files : FileTable
+  pub roles : RoleNames
+  pub work : List Node
+
+-- the first refusal that applies to a start, but for want of memory
+abbrev pub start_refusal : FileTable → RoleNames → Option Refusal
+start_refusal files roles =
+    if is_there files roles.web then (if is_there_if_any files roles.change then None else Some NoChange) else Some NoWeb
+
+-- the list has each expandable node of the web once, and no other
+pub record ListsExpandable (web : WebRead) (nodes : List Node) : Type 0 where
+  pub once : AllPairs (λ a b. a ≢ b) nodes
+  pub just : (node : Node) → Contains nodes node
+      ↔ (IsNodeOf (table_of web).names node × IsExpandableNode (project_of web) (title_of_node (table_of web).names node))
+
+-- the list has each affected node of the new web once, and no other
+pub record ListsAffected (old new : WebRead) (nodes : List Node) : Type 0 where
+  pub once : AllPairs (λ a b. a ≢ b) nodes
+  pub just : (node : Node) → Contains nodes node
+      ↔ (IsNodeOf (table_of new).names node × IsAffected levels heaviest (project_of old) (project_of new) (title_of_node (table_of new).names node))
+
+-- The ground is what the web of a source makes, for a main file of this name: its names, its store and its numbers, and the faults.
+pub record IsGroundOf (source : SourceRead) (web : WebRead) (out : List ℕ) (ground : Ground) : Type 0 where
+  pub names : ground.table.names ≡ (table_of web).names
+  pub store : IsStoreOf (project_of web) ground.store
+  pub store_names : ground.store.names ≡ (table_of web).names
+  pub outputs_are : ground.store.outputs ≡ outputs web (table_of web) out
+  pub numbers : ground.numbers ≡ numbers_of web (table_of web)
+  pub faults : AreFaults source web out ground.faults.items
+  pub line_truth : PiecesStandAtTheirLines source web
+
+-- the ground is what the files make
+abbrev pub IsGroundAt : FileTable → RoleNames → Ground → Type 0
+IsGroundAt files roles ground = IsGroundOf (source_at files roles) (web_at files roles) roles.out ground
+
+-- What is held is what the files make, with what each expandable node expands to; and the web and the change file are there.
+pub record Holds (files : FileTable) (roles : RoleNames) (tangled : Tangled) : Type 0 where
+  pub are_there : fits files roles ≡ true
+  pub ground : IsGroundAt files roles tangled.ground
+  pub kept : KeepsJust (project_of (web_at files roles)) tangled.ground.store tangled.kept

@@ -1,0 +1,32 @@
+-- Tangling: the faults and the output files of files with roles.
+use Rattle.std.specs.Prelude.{◌≡◌, ℕ, List, Option}
+use Rattle.std.specs.Map.{lookup}
+use Rattle.std.specs.Str.{bytes_eq}
+use Rattle.tangle_lines.specs.Faults.{Finding}
+use Rattle.tangle_lines.specs.Lines.{FileTable}
+use Rattle.tangle_lines.specs.Roles.{RoleNames}
+use Rattle.tangle_session.specs.Faults.{AreFaults}
+use Rattle.tangle_session.specs.Files.{source_at, web_at, written_outputs}
+
+-- the faults in order, and the output files: each a name and its bytes
+pub record Tangling : Type 0 where
+  pub faults : List Finding
+  pub outputs : List (List ℕ × List ℕ)
+
+module _ (files : FileTable) (roles : RoleNames) where
+  -- the output files, in order
+  abbrev pub outputs_of : List (List ℕ × List ℕ)
+  outputs_of = written_outputs (web_at files roles) roles.out
+
+  -- the bytes of the output file of this name
+  abbrev pub output_at : List ℕ → Option (List ℕ)
+  output_at name = lookup (bytes_eq name) outputs_of
+
+  -- the faults, in order
+  abbrev pub AreFaultsOf : List Finding → Type 0
+  AreFaultsOf faults = AreFaults (source_at files roles) (web_at files roles) roles.out faults
+
+-- what tangling of the files gives
+pub record IsTanglingOf (files : FileTable) (roles : RoleNames) (tangling : Tangling) : Type 0 where
+  pub faults : AreFaultsOf files roles tangling.faults
+  pub outputs : tangling.outputs ≡ outputs_of files roles

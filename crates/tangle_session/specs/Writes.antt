@@ -1,0 +1,46 @@
+-- How the writing of an output ends, and that its bytes are true to the lines of the source.
+use Rattle.std.specs.Prelude.{◌≡◌, ℕ, List, [], ◌∷◌, ◌++◌, if◌then◌else◌, Option, Some, None, Result, Ok, Err, find}
+use Rattle.std.specs.Str.{bytes_eq}
+use Rattle.tangle_lines.specs.Bytes.{line_feed}
+use Rattle.tangle_lines.specs.Lines.{FileTable}
+use Rattle.tangle_lines.specs.Roles.{RoleNames}
+use Rattle.tangle_lines.specs.Reading.{SourceRead}
+use Rattle.tangle_lines.specs.declared.refusal.Refusal.{Refusal}
+use Rattle.tangle_lines.specs.declared.refusal.Refusal.TheVariants as refusal
+use Rattle.tangle_streams.specs.Streams.{Stream, PutsOut}
+use Rattle.tangle_scan.specs.Web.{WebRead}
+use Rattle.tangle_names.specs.NameTable.{table_of}
+use Rattle.tangle_expansion.specs.Numbers.{numbers_of}
+use Rattle.tangle_expansion.specs.Outputs.{OutputRead, front_text, IsTrueToLines}
+use Rattle.tangle_graph.specs.Nodes.{title_of_node}
+use Rattle.tangle_graph.specs.Outputs.{outputs}
+use Rattle.tangle_session.specs.Files.{source_at, web_at}
+use Rattle.tangle_session.specs.Tangle.{output_at}
+
+-- An output of these bytes was written. At Ok the writer has all of them; at a fault of the writer exactly the front that the number
+-- says. There is no other refusal.
+abbrev pub WritesOut : Stream → Stream → List ℕ → Result ℕ Refusal → Type 0
+WritesOut old new bytes (Ok n) = PutsOut old new bytes (Ok n)
+WritesOut old new bytes (Err (refusal.WriteFault n)) = PutsOut old new bytes (Err (record { 0 = n }))
+WritesOut old new bytes (Err _) = ⊥
+
+-- The output of a name is written, where it has these bytes; where there is none, nothing is written, and it is refused.
+abbrev pub WritesOutput : Option (List ℕ) → Stream → Stream → Result ℕ Refusal → Type 0
+WritesOutput None old new result = (result ≡ Err refusal.NoOutput) × (new ≡ old)
+WritesOutput (Some bytes) old new result = WritesOut old new bytes result
+
+-- The bytes of an output are the macros, if they begin it, and the text of its node and a line feed, if the node has a piece; and each
+-- byte of a word, sign, quoted text, verbatim text or ASCII code in that text that is in no stretch stands at the compiler's place that
+-- is its own.
+pub record IsTrueOutput (source : SourceRead) (web : WebRead) (output : OutputRead) (bytes : List ℕ) : Type 0 where
+  pub text : List ℕ
+  pub made : bytes ≡ front_text (numbers_of web (table_of web)) output.has_macros ++ (if output.has_piece then text ++ line_feed ∷ [] else [])
+  pub true_to_lines : IsTrueToLines source web (title_of_node (table_of web).names output.node) text
+
+-- the output file of this name, and its bytes, which are true to the lines of the source
+pub record IsTrueFile (files : FileTable) (roles : RoleNames) (name : List ℕ) : Type 0 where
+  pub output : OutputRead
+  pub named : find (λ o. bytes_eq name o.name) (outputs (web_at files roles) (table_of (web_at files roles)) roles.out) ≡ Some output
+  pub bytes : List ℕ
+  pub are_its : output_at files roles name ≡ Some bytes
+  pub true_to_lines : IsTrueOutput (source_at files roles) (web_at files roles) output bytes

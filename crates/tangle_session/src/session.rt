@@ -1,0 +1,243 @@
+//! A started session.
+ghost use Rattle.std.specs.Prelude.{◌≡◌, length, map, IfOk, OnOk, OnErr, IfSome, IfNone, IsOkUnless, Err};
+ghost use Rattle.std.specs.Option.{option_map};
+ghost use Rattle.tangle_lines.specs.declared.refusal.Refusal.TheVariants.{NoMemory as no_memory};
+ghost use Rattle.tangle_session.specs.Files.{web_at};
+ghost use Rattle.tangle_lines.specs.Edited.{edited};
+ghost use Rattle.tangle_session.specs.Edits.{has_role, role_refusal, session_refusal};
+ghost use Rattle.tangle_session.specs.Sessions.{ListsAffected, ListsExpandable, start_refusal};
+ghost use Rattle.tangle_session.specs.Tangle.{AreFaultsOf, output_at, outputs_of};
+ghost use Rattle.tangle_session.specs.Writes.{IsTrueFile, WritesOutput};
+
+use crate::ground::Ground;
+use crate::outputs::OutputNames;
+use crate::tangling::{Tangled, tangle_again};
+use std::alloc::Global;
+use std::marker::Model;
+use tangle_affected::expand_all;
+use tangle_expansion::{
+    Work, expandable_nodes_are_light, file_size, names_resolve_inside, texts_are_true_to_lines,
+    write_file,
+};
+use tangle_lines::{Edit, Fault, Files, Refusal, Roles, Sink, WriteFault};
+
+/// A project that is tangled: its files and roles, its output files and its faults. It holds no bytes of outputs; these are made as they are
+/// written.
+#[derive(Drop)]
+pub struct Session {
+    roles: Roles,
+    tangled: Tangled,
+    alloc: Global,
+}
+
+impl Model for Session {
+    ghost use Rattle.tangle_session.specs.Sessions.{SessionRead, Holds};
+
+    ghost Value = { SessionRead };
+
+    ghost view = { λ s. record { files = s.tangled.files; roles = s.roles; work = s.tangled.work } };
+
+    ghost invariant = { λ s. Holds s.tangled.files s.roles s.tangled };
+}
+
+/// Why a session is not to be started with these files and roles, but for want of memory.
+fn refusal_to_start(files: &Files, roles: &Roles) -> Option<Refusal>
+    ensures { result ≡ start_refusal files.now roles.now }
+{
+    if roles.fits(files) {
+        return None;
+    }
+    if files.lines(roles.web()).is_some() {
+        Some(Refusal::NoChange)
+    } else {
+        Some(Refusal::NoWeb)
+    }
+}
+
+/// Whether the file of this name is the web or the change file.
+fn has_role(roles: &Roles, name: &[u8]) -> bool
+    ensures { result ≡ has_role roles.now name.now }
+{
+    if name == roles.web() {
+        return true;
+    }
+    match roles.change() {
+        Some(change) => name == change,
+        None => false,
+    }
+}
+
+/// Why a file with a role is not to be discarded.
+fn refusal_of_role(roles: &Roles, edit: &Edit) -> Option<Refusal>
+    ensures { result ≡ role_refusal roles.now edit.now }
+{
+    match edit {
+        Edit::Discard { file } => {
+            if has_role(roles, file) {
+                return Some(Refusal::RoleFile);
+            }
+            None
+        }
+        _ => None,
+    }
+}
+
+/// Why an edit is refused in a session, but for want of memory. Only a file that is there, and has a role, is refused for that.
+fn refusal_to_apply(files: &Files, roles: &Roles, edit: &Edit) -> Option<Refusal>
+    ensures { result ≡ session_refusal files.now roles.now edit.now }
+{
+    if let Some(refusal) = files.refusal_to_edit(edit) {
+        return Some(refusal);
+    }
+    refusal_of_role(roles, edit)
+}
+
+impl Session {
+    /// Starts a session: reads, scans and tangles the web of these roles, with its change file. Each node that can be expanded is expanded
+    /// once.
+    ///
+    /// # Errors
+    ///
+    /// `NoWeb` where the web isn't among the files, else `NoChange` where the change file that is named isn't, else `NoMemory` where a growth
+    /// was refused. The files and the roles are handed back as they were.
+    pub fn start(
+        alloc: Global,
+        files: Files,
+        roles: Roles,
+    ) -> Result<Session, (Files, Roles, Refusal)>
+        ensures files { IfOk result (λ session. session.files ≡ files) }
+        ensures roles { IfOk result (λ session. session.roles ≡ roles) }
+        ensures work { IfOk result (λ session. ListsExpandable (web_at files roles) session.work) }
+        ensures refused { IfSome (start_refusal files roles) (λ refusal. result ≡ Err (files, roles, refusal)) }
+        ensures only { IfNone (start_refusal files roles) (IsOkUnless result (files, roles, no_memory)) }
+    {
+        if let Some(refusal) = refusal_to_start(&files, &roles) {
+            return Err((files, roles, refusal));
+        }
+        let ground = match Ground::build(alloc, &files, &roles) {
+            Ok(ground) => ground,
+            Err(_) => return Err((files, roles, Refusal::NoMemory)),
+        };
+        let mut work = Work::new(alloc);
+        match expand_all(alloc, &ground.store, &mut work) {
+            Ok(kept) => Ok(Session {
+                tangled: Tangled {
+                    files,
+                    ground,
+                    kept,
+                    work,
+                },
+                roles,
+                alloc,
+            }),
+            Err(_) => Err((files, roles, Refusal::NoMemory)),
+        }
+    }
+
+    /// Makes an edit of the files, and tangles them anew. Just those nodes are expanded that can be expanded and reach one whose shape isn't
+    /// what it was, each once; of the others the expansions are kept. The new state is built beside the old one and takes its place at once.
+    ///
+    /// # Errors
+    ///
+    /// That of [`Files::refusal_to_edit`] if there is one, else `RoleFile` where the web or the change file is to be discarded, else
+    /// `NoMemory` where a growth was refused; and then nothing changes.
+    pub fn apply(&mut self, edit: &Edit) -> Result<(), Refusal>
+        ensures files { OnOk result (self.new.files ≡ edited self.old.files edit.now) }
+        ensures roles { OnOk result (self.new.roles ≡ self.old.roles) }
+        ensures work { OnOk result (ListsAffected (web_at self.old.files self.old.roles) (web_at self.new.files self.new.roles) self.new.work) }
+        ensures refused { IfSome (session_refusal self.old.files self.old.roles edit.now) (λ refusal. result ≡ Err refusal) }
+        ensures only { IfNone (session_refusal self.old.files self.old.roles edit.now) (IsOkUnless result no_memory) }
+        ensures err { OnErr result (self.new ≡ self.old) }
+    {
+        if let Some(refusal) = refusal_to_apply(&self.tangled.files, &self.roles, edit) {
+            return Err(refusal);
+        }
+        let work = Work::new(self.alloc);
+        let next = tangle_again(self.alloc, &self.tangled, &self.roles, edit, work)?;
+        self.tangled = next;
+        Ok(())
+    }
+
+    /// The names of the output files, in the order in which they are to be written: the main file first, if the program has no piece or can
+    /// be expanded, and then the named files in the order of their first occurrences with `@(`.
+    pub fn output_names(&self) -> OutputNames<'_>
+        ensures { result ≡ map (λ output. output.0) (outputs_of self.now.files self.now.roles) }
+    {
+        OutputNames::new(self.tangled.ground.store.outputs())
+    }
+
+    /// How many bytes the output file of this name has: `None` where no output file has the name.
+    pub fn output_size(&self, name: &[u8]) -> Option<u128>
+        ensures { result ≡ option_map length (output_at self.now.files self.now.roles name.now) }
+    {
+        names_resolve_inside();
+        expandable_nodes_are_light();
+        match self.tangled.find_output(name) {
+            Some(output) => Some(file_size(
+                output,
+                &self.tangled.kept,
+                &self.tangled.ground.numbers,
+            )),
+            None => None,
+        }
+    }
+
+    /// Writes the output file of this name: how many bytes it has. At Ok each byte of a word, a sign, a quoted or verbatim text or an ASCII
+    /// code stands at the compiler's place that is its own, but for those behind a line end that a quoted text or a join took, up to the
+    /// next line end or mark.
+    ///
+    /// # Errors
+    ///
+    /// `NoOutput` where no output file has the name, and then nothing is written; `WriteFault(n)` where the sink failed, or took no byte,
+    /// after the first `n` bytes of the file.
+    pub fn write_output<S: Sink>(&self, name: &[u8], sink: &mut S) -> Result<u128, Refusal>
+        ensures written { WritesOutput (output_at self.now.files self.now.roles name.now) (S.stream sink.old) (S.stream sink.new) result }
+        ensures line_truth { OnOk result (IsTrueFile self.now.files self.now.roles name.now) }
+    {
+        names_resolve_inside();
+        expandable_nodes_are_light();
+        texts_are_true_to_lines();
+        match self.tangled.find_output(name) {
+            Some(output) => {
+                match write_file(
+                    output,
+                    &self.tangled.kept,
+                    &self.tangled.ground.numbers,
+                    sink,
+                ) {
+                    Ok(size) => Ok(size),
+                    Err(WriteFault(size)) => Err(Refusal::WriteFault(size)),
+                }
+            }
+            None => Err(Refusal::NoOutput),
+        }
+    }
+
+    /// The faults: those of the change file and of reading, of scanning, of names, and of the graph of names, each in its order.
+    pub fn faults(&self) -> &[Fault]
+        ensures { AreFaultsOf self.now.files self.now.roles result.now }
+    {
+        self.tangled.ground.faults.as_slice()
+    }
+
+    /// The files.
+    pub fn files(&self) -> &Files
+        ensures { result.now ≡ self.now.files }
+    {
+        &self.tangled.files
+    }
+
+    /// The roles.
+    pub fn roles(&self) -> &Roles
+        ensures { result.now ≡ self.now.roles }
+    {
+        &self.roles
+    }
+
+    /// How many nodes were expanded in the start or in the last accepted edit.
+    pub fn last_work(&self) -> u64
+        ensures { result ≡ length self.now.work }
+    {
+        self.tangled.work.made()
+    }
+}

@@ -1,0 +1,182 @@
+//! The output files of webs, and how many nodes were expanded for them.
+ghost use Rattle.tangle_tests.specs.Keeping.{KeepsWritable};
+
+use crate::support::{AMPLE, doubling};
+use crate::tangling::{Tangled, tangle, write_output};
+use std::alloc::Global;
+use std::io::{self, Write};
+use std::process::Abort;
+use std::test::Fail;
+use tangle_expansion::Output;
+use tangle_folders::MemorySink;
+use tangle_lines::{IoSink, WriteFault, put};
+
+// Webs, with their output files, of which each is its name on a line and its bytes, and the number of the nodes that are expanded: a piece
+// alone, a name and the program that uses it, the same below a line and below a section more, an abbreviation of one name and of two, macros
+// where no piece asks for them, where the program does and where a piece does that nothing uses, names that use each other, a name in place
+// of the cycle, a file with the main file's name, and a name over four levels.
+const WEBS: [(&[u8], &[u8], u64); 12] = [
+    (
+        b"@ A.\n@c\nint x;\n",
+        b"a.c\n/*1:*/\n#line 2 \"a.w\"\n\nint x;\n/*:1*/\n",
+        1,
+    ),
+    (
+        b"@ A.\n@c\nint x=@<v@>;\n@ @<v@>=\n1\n",
+        b"a.c\n/*1:*/\n#line 2 \"a.w\"\n\nint x= /*2:*/\n#line 4 \"a.w\"\n\n1\n/*:2*/\n#line 3 \"a.w\"\n;\n/*:1*/\n",
+        2,
+    ),
+    (
+        b"% top\n@ A.\n@c\nint x=@<v@>;\n@ @<v@>=\n1\n",
+        b"a.c\n/*1:*/\n#line 3 \"a.w\"\n\nint x= /*2:*/\n#line 5 \"a.w\"\n\n1\n/*:2*/\n#line 4 \"a.w\"\n;\n/*:1*/\n",
+        2,
+    ),
+    (
+        b"@ Z.\n@ A.\n@c\nint x=@<v@>;\n@ @<v@>=\n1\n",
+        b"a.c\n/*2:*/\n#line 3 \"a.w\"\n\nint x= /*3:*/\n#line 5 \"a.w\"\n\n1\n/*:3*/\n#line 4 \"a.w\"\n;\n/*:2*/\n",
+        2,
+    ),
+    (
+        b"@ A.\n@c\n@<Ini...@>\n@ @<Initialize@>=\nx=0;\n",
+        b"a.c\n/*1:*/\n#line 2 \"a.w\"\n\n /*2:*/\n#line 4 \"a.w\"\n\nx=0;\n/*:2*/\n#line 3 \"a.w\"\n\n/*:1*/\n",
+        2,
+    ),
+    (
+        b"@ A.\n@c\n@<Ini...@>\n@ @<Initialize@>=\nx=0;\n@ @<Init table@>=\n",
+        b"a.c\n/*1:*/\n#line 2 \"a.w\"\n\n \n#line 3 \"a.w\"\n\n/*:1*/\n",
+        3,
+    ),
+    (
+        b"@ A.\n@d N 10\n@c\nx\n@ @<u@>=\n@h\n",
+        b"a.c\n/*1:*/\n#line 3 \"a.w\"\n\nx\n/*:1*/\n",
+        2,
+    ),
+    (
+        b"@ A.\n@d N 10\n@c\n@h\nint x=N;\n",
+        b"a.c\n/*1:*/\n#line 3 \"a.w\"\n\n\n#define N 10\n\n#line 4 \"a.w\"\n\nint x=N;\n/*:1*/\n",
+        1,
+    ),
+    (
+        b"@ P.\n@c\n@<A@>\n@ @<A@>=\n@<B@>\n@ @<B@>=\n@<A@>\n@ @(h.h@>=\nint h;\n",
+        b"h.h\n/*4:*/\n#line 8 \"a.w\"\n\nint h;\n/*:4*/\n",
+        1,
+    ),
+    (
+        b"@ P.\n@c\n@<A@>\n@ @<A@>=\n@<B@>\n@ @<B@>=\nb;\n@ @(h.h@>=\nint h;\n",
+        b"a.c\n/*1:*/\n#line 2 \"a.w\"\n\n /*2:*/\n#line 4 \"a.w\"\n\n /*3:*/\n#line 6 \"a.w\"\n\nb;\n/*:3*/\n#line 5 \"a.w\"\n\n/*:2*/\n#line 3 \"a.w\"\n\n/*:1*/\nh.h\n/*4:*/\n#line 8 \"a.w\"\n\nint h;\n/*:4*/\n",
+        4,
+    ),
+    (b"@ A.\n@(a.c@>=\nx\n", b"a.c\n", 1),
+    (
+        b"@ P.\n@c\n@<A@>@<S@>\n@ @<A@>=\n@<B@>\n@ @<B@>=\n@<C@>\n@ @<C@>=\n1\n@ @<S@>=\n2\n",
+        b"a.c\n/*1:*/\n#line 2 \"a.w\"\n\n /*2:*/\n#line 4 \"a.w\"\n\n /*3:*/\n#line 6 \"a.w\"\n\n /*4:*/\n#line 8 \"a.w\"\n\n1\n/*:4*/\n#line 7 \"a.w\"\n\n/*:3*/\n#line 5 \"a.w\"\n\n/*:2*/\n#line 3 \"a.w\"\n /*5:*/\n#line 10 \"a.w\"\n\n2\n/*:5*/\n#line 3 \"a.w\"\n\n/*:1*/\n",
+        5,
+    ),
+];
+
+// Adds the output file to the list: its name on a line, and its bytes.
+fn add_output(tangled: &Tangled, output: &Output, list: &mut MemorySink) -> Result<(), Fail>
+    requires { KeepsWritable tangled.now.store tangled.now.kept }
+{
+    put(list, Ok(0), output.name())?;
+    put(list, Ok(0), b"\n")?;
+    let (size, written) = write_output(tangled, output, list)?;
+    if written != Ok(size) {
+        return Err(Fail::from("another size than was written"));
+    }
+    Ok(())
+}
+
+// The output files, one after another.
+fn list_outputs(alloc: Global, tangled: &Tangled) -> Result<MemorySink, Fail>
+    requires { KeepsWritable tangled.now.store tangled.now.kept }
+{
+    let mut list = MemorySink::new(alloc, AMPLE);
+    for output in tangled.store.outputs() {
+        add_output(tangled, output, &mut list)?;
+    }
+    Ok(list)
+}
+
+// The web with this text has these output files, for which so many nodes are expanded.
+fn check_outputs(
+    rt: &impl Abort,
+    alloc: Global,
+    text: &[u8],
+    files: &[u8],
+    made: u64,
+) -> Result<(), Fail> {
+    let tangled = tangle(alloc, text)?;
+    assert!(rt; list_outputs(alloc, &tangled)?.bytes() == files);
+    assert_eq!(rt; tangled.work.made(), made);
+    Ok(())
+}
+
+#[test]
+fn outputs_of_webs(rt: HostRuntime) -> Result<(), Fail> {
+    for (text, files, made) in &WEBS {
+        check_outputs(&rt, rt.alloc(), text, files, *made)?;
+    }
+    Ok(())
+}
+
+const NAMED_FILE: &[u8] = b"/*32:*/\n#line 64 \"a.w\"\n\n1\n/*:32*/\n";
+
+// A writer that takes the bytes of the named file, one a call, and no other byte.
+#[derive(Drop)]
+struct Single {
+    taken: usize,
+}
+
+impl Write for Single {
+    fn write(&mut self, bytes: &[u8]) -> io::Result<usize> {
+        if self.taken < NAMED_FILE.len() && bytes.first() == NAMED_FILE.get(self.taken) {
+            self.taken += 1;
+            Ok(1)
+        } else {
+            Ok(0)
+        }
+    }
+
+    fn flush(&mut self) -> io::Result<()> {
+        Ok(())
+    }
+}
+
+#[test]
+fn a_writer_that_takes_one_byte_a_call(rt: HostRuntime) -> Result<(), Fail> {
+    let tangled = tangle(rt.alloc(), doubling(rt.alloc())?.as_slice())?;
+    let output = tangled.store.outputs().first().ok_or("an output")?;
+    let mut sink = IoSink::new(Single { taken: 0 });
+    let (size, written) = write_output(&tangled, output, &mut sink)?;
+    assert_eq!(rt; size, 34);
+    assert_eq!(rt; written, Ok(34));
+    Ok(())
+}
+
+// A writer that fails after so many bytes of the output has taken the front of the named file.
+fn check_cut_off(
+    rt: &impl Abort,
+    alloc: Global,
+    tangled: &Tangled,
+    output: &Output,
+    room: usize,
+) -> Result<(), Fail>
+    requires { KeepsWritable tangled.now.store tangled.now.kept }
+{
+    let mut sink = MemorySink::new(alloc, room);
+    let (_, written) = write_output(tangled, output, &mut sink)?;
+    assert_eq!(rt; written, Err(WriteFault(room as u128)));
+    assert!(rt; sink.bytes().len() == room && NAMED_FILE.starts_with(sink.bytes()));
+    Ok(())
+}
+
+#[test]
+fn a_writer_that_fails_after_each_byte(rt: HostRuntime) -> Result<(), Fail> {
+    let tangled = tangle(rt.alloc(), doubling(rt.alloc())?.as_slice())?;
+    let output = tangled.store.outputs().first().ok_or("an output")?;
+    for room in 0..NAMED_FILE.len() {
+        check_cut_off(&rt, rt.alloc(), &tangled, output, room)?;
+    }
+    Ok(())
+}

@@ -1,0 +1,135 @@
+//! Webs that are tangled by the calls of the graph and of expansions.
+ghost use Rattle.std.specs.Prelude.{◌≡◌, ℕ, true, IfOk, OnOk, IsSome, Contains};
+ghost use Rattle.tangle_names.specs.NameTable.{table_of};
+ghost use Rattle.tangle_expansion.specs.Kept.{kept_at, PutsKept};
+ghost use Rattle.tangle_expansion.specs.Limits.{flat_of};
+ghost use Rattle.tangle_expansion.specs.Outputs.{IsReady};
+ghost use Rattle.tangle_expansion.specs.Shapes.{Project};
+ghost use Rattle.tangle_expansion.specs.declared.nodes.Node.TheVariants as node_kind;
+ghost use Rattle.tangle_graph.specs.Stores.{IsStoreOf, KeepsUsed, is_expandable_at, plan_uses_at, title_in_store};
+ghost use Rattle.tangle_tests.specs.Keeping.{KeepsWritable};
+
+use crate::support::{files_with, read};
+use std::alloc::Global;
+use std::test::Fail;
+use tangle_expansion::{
+    Kept, Node, Numbers, Output, Work, expandable_nodes_are_light, file_size,
+    used_names_are_expandable, write_file,
+};
+use tangle_graph::{Store, expand_one};
+use tangle_lines::{NoMemory, Sink, Source, WriteFault};
+use tangle_names::NameTable;
+use tangle_scan::{Web, scan};
+
+/// What tangling of a web makes: its store, the expansions of its nodes, the numbers that their texts take, and which nodes were expanded.
+#[derive(Drop)]
+pub(crate) struct Tangled {
+    pub(crate) store: Store,
+    pub(crate) kept: Kept,
+    pub(crate) numbers: Numbers,
+    pub(crate) work: Work,
+}
+
+// Expands a node, and keeps its expansion.
+fn expand_next(
+    alloc: Global,
+    store: &Store,
+    node: Node,
+    kept: &mut Kept,
+    work: &mut Work,
+) -> Result<(), NoMemory>
+    requires expandable { is_expandable_at store.now node ≡ true }
+    requires used { (id : ℕ) → Contains (plan_uses_at store.now node) id → IsSome (kept_at kept.old (node_kind.Name id)) }
+    ensures { (project : Project) → IsStoreOf project store.now → KeepsUsed project store.now kept.old node
+        → OnOk result (PutsKept kept.old kept.new node (flat_of project (title_in_store store.now node))) }
+{
+    let expansion = expand_one(alloc, store, node, kept, work)?;
+    kept.put(node, expansion)
+}
+
+// Expands each expandable node.
+fn expand_all(alloc: Global, store: &Store, work: &mut Work) -> Result<Kept, NoMemory>
+    requires { (project : Project) × IsStoreOf project store.now }
+    ensures { IfOk result (KeepsWritable store.now) }
+{
+    used_names_are_expandable();
+    expandable_nodes_are_light();
+    let mut kept = Kept::new(alloc);
+    for node in store.order() {
+        if store.expandable(*node) {
+            expand_next(alloc, store, *node, &mut kept, work)?;
+        }
+    }
+    Ok(kept)
+}
+
+/// Tangles a web, for the main file `a.c`.
+pub(crate) fn tangle_web(alloc: Global, web: &Web, table: &NameTable) -> Result<Tangled, NoMemory>
+    requires { table.now ≡ table_of web.now }
+    ensures { IfOk result (λ tangled. KeepsWritable tangled.store tangled.kept) }
+{
+    let store = Store::build(alloc, web, table, b"a.c")?;
+    let numbers = Numbers::build(alloc, web, &store)?;
+    let mut work = Work::new(alloc);
+    let kept = expand_all(alloc, &store, &mut work)?;
+    Ok(Tangled {
+        store,
+        kept,
+        numbers,
+        work,
+    })
+}
+
+/// Tangles a source, for the main file `a.c`.
+fn tangle_source(alloc: Global, source: &Source) -> Result<Tangled, NoMemory>
+    ensures { IfOk result (λ tangled. KeepsWritable tangled.store tangled.kept) }
+{
+    let web = scan(alloc, source)?;
+    let table = NameTable::build(alloc, &web)?;
+    tangle_web(alloc, &web, &table)
+}
+
+/// Tangles the web with this text, for the main file `a.c`.
+pub(crate) fn tangle(alloc: Global, text: &[u8]) -> Result<Tangled, Fail>
+    ensures { IfOk result (λ tangled. KeepsWritable tangled.store tangled.kept) }
+{
+    let files = files_with(alloc, &[(b"a.w", text)])?;
+    let source = read(alloc, &files, None)?;
+    Ok(tangle_source(alloc, &source)?)
+}
+
+/// Whether the output can be written: its node has an expansion, if it has a piece.
+pub(crate) fn is_ready(tangled: &Tangled, output: &Output) -> bool
+    requires { KeepsWritable tangled.now.store tangled.now.kept }
+    ensures { result ≡ true → IsReady output.now tangled.now.kept }
+{
+    !output.has_piece() || tangled.store.expandable(output.node())
+}
+
+// Writes an output file, and says how many bytes it was to have.
+fn write_ready<S: Sink>(
+    tangled: &Tangled,
+    output: &Output,
+    sink: &mut S,
+) -> (u128, Result<u128, WriteFault>)
+    requires { IsReady output.now tangled.now.kept }
+{
+    let size = file_size(output, &tangled.kept, &tangled.numbers);
+    let written = write_file(output, &tangled.kept, &tangled.numbers, sink);
+    (size, written)
+}
+
+/// Writes an output file. It answers how many bytes the file has, and how many went out.
+pub(crate) fn write_output<S: Sink>(
+    tangled: &Tangled,
+    output: &Output,
+    sink: &mut S,
+) -> Result<(u128, Result<u128, WriteFault>), Fail>
+    requires { KeepsWritable tangled.now.store tangled.now.kept }
+{
+    if is_ready(tangled, output) {
+        Ok(write_ready(tangled, output, sink))
+    } else {
+        Err(Fail::from("the node of an output file has no expansion"))
+    }
+}

@@ -1,0 +1,310 @@
+"""Conversations with the built retangle, held against the reference, and scripts that try to break it.
+
+usage: talks.py PROGRAM TOP        TOP is the folder of the repository
+
+In a conversation each command is sent when the command before it is answered, through two pipes. The last line is
+'N passed, M failed'.
+"""
+import os
+import re
+import resource
+import select
+import signal
+import socket
+import subprocess
+import sys
+import tempfile
+import time
+
+program, top = (os.path.abspath(path) for path in sys.argv[1:3])
+sys.path.insert(0, os.path.join(top, 'tests', 'reference'))
+from files import Roles, add
+from scripts import Script
+from sessions import Session
+
+PATIENCE = 60           # seconds for an answer, and for a script
+SCRIPT_BYTES = 67108864
+WEB = b'@ A.\n@c\nint x;\n'
+ROLES = Roles(b'a.w', None, b'a.c')
+
+counts = {True: 0, False: 0}
+
+
+def check(holds, name, problem):
+    counts[bool(holds)] += 1
+    if not holds:
+        print('FAIL %s: %s' % (name, problem))
+
+
+class Room:
+    """A folder with these files, in which retangle runs."""
+
+    def __init__(self, files):
+        self.folder = tempfile.TemporaryDirectory()
+        for name, text in files.items():
+            with open(os.path.join(self.folder.name, name), 'wb') as file:
+                file.write(text)
+
+    def start(self, words, **streams):
+        talk = subprocess.Popen([program] + words, cwd=self.folder.name, bufsize=0,
+                                stderr=subprocess.PIPE, **streams)
+        talk.room = self    # the folder goes with its room, so the room stays as long as the talk
+        return talk
+
+
+def read_within(pipe, end):
+    """The next bytes of a pipe: none at its end, or where they do not come in time."""
+    ready, _, _ = select.select([pipe], [], [], max(0, end - time.monotonic()))
+    return os.read(pipe.fileno(), 65536) if ready else b''
+
+
+def send(pipe, text, size):
+    for at in range(0, len(text), size):
+        pipe.write(text[at:at + size])
+    pipe.close()
+
+
+def run_script(room, words, script, size=1 << 20):
+    """What is written and the status for a script that is sent in pieces of this size, without waiting."""
+    with tempfile.TemporaryFile() as answers:
+        talk = room.start(words, stdin=subprocess.PIPE, stdout=answers)
+        try:
+            send(talk.stdin, script, size)
+        except BrokenPipeError:
+            pass
+        status = talk.wait(PATIENCE)
+        answers.seek(0)
+        return answers.read(), status, talk.stderr.read()
+
+
+# ------------------------------------------------------------------ waiting for each answer
+
+def converse(name, files, words, turns):
+    """Sends each command and waits for its answer before the next one."""
+    talk = Room(files).start(words, stdin=subprocess.PIPE, stdout=subprocess.PIPE)
+    for command, answer in turns:
+        talk.stdin.write(command)
+        got, end = b'', time.monotonic() + PATIENCE
+        while len(got) < len(answer):
+            more = read_within(talk.stdout, end)
+            if not more:
+                break
+            got += more
+        check(got == answer, name, 'to %r the answer is %r' % (command, got))
+        if got != answer:
+            break
+    talk.stdin.close()
+    return talk.wait(PATIENCE)
+
+
+def turns_of(conversation):
+    """The commands, with their texts, and the answers of a conversation in which > stands before what is typed."""
+    turns, takes_text = [], False
+    for line in conversation.splitlines(True):
+        if line.startswith(b'> '):
+            if takes_text:
+                turns[-1][0] += line[2:]
+                takes_text = False
+                continue
+            turns.append([line[2:], b''])
+            takes_text = line[2:].startswith((b'insert ', b'replace '))
+        else:
+            turns[-1][1] += line
+    return turns
+
+
+def test_document():
+    with open(os.path.join(top, 'docs', 'sessions.md'), 'rb') as source:
+        blocks = re.findall(rb'(?:^(?:    .*)?\n)*^    .*\n', source.read(), re.M)
+    at = next(number for number, block in enumerate(blocks) if b'$ retangle a\n' in block)
+    web, talk = (re.sub(b'^    ', b'', block, flags=re.M).strip(b'\n') + b'\n' for block in blocks[at - 1:at + 1])
+    conversation = talk.split(b'\n', 1)[1]
+    status = converse('docs/sessions.md', {'a.w': web}, ['a'], turns_of(conversation))
+    check(status == 0, 'docs/sessions.md', 'status %d' % status)
+
+
+def test_stored_talks():
+    folder = os.path.join(top, 'tests', 'talks')
+    for name in sorted(os.listdir(folder)):
+        case = {}
+        for part in ('words', 'stdin', 'stdout', 'status'):
+            with open(os.path.join(folder, name, part), 'rb') as file:
+                case[part] = file.read()
+        files = {}
+        for file_name in os.listdir(os.path.join(folder, name, 'in')):
+            with open(os.path.join(folder, name, 'in', file_name), 'rb') as file:
+                files[file_name] = file.read()
+        for size in (1, 7, 1 << 20):
+            written, status, errors = run_script(Room(files), case['words'].decode().split(), case['stdin'], size)
+            check((written, status) == (case['stdout'], int(case['status'])), name, '%r, status %d' % (written, status))
+            check(not errors, name, errors)
+
+
+# ------------------------------------------------------------------ scripts that try to break it
+
+def answered(script, files=(), roles=ROLES):
+    table = []
+    for name, text in [(b'a.w', WEB)] + list(files):
+        table = add(table, name, text)
+    done = Script(Session(table, roles), script, has_lists=False)
+    return done.written, done.status
+
+
+MALFORMED = [
+    b'insert', b'insert ', b'insert 1', b'insert 1 ', b'insert  1 a.w', b'insert 1  a.w', b'insert -1 a.w', b'insert +1 a.w',
+    b'insert 0x1 a.w', b'insert 1234567890 a.w', b'insert 000000001 a.w', b'insert 999999999 a.w', b'insert 0 a.w',
+    b'insert 4 a.w', b'insert 5 a.w', b'Insert 1 a.w', b' insert 1 a.w', b'insert\t1 a.w', b'insert 1 a.w ', b'insert a.w 1',
+    b'replace', b'replace ', b'replace 1', b'replace 0 a.w', b'replace 4 a.w', b'replace 1 zz', b'replace 1234567890 a.w',
+    b'remove', b'remove ', b'remove 1', b'remove 1 ', b'remove 0 a.w', b'remove 4 a.w', b'remove x a.w', b'remove 1234567890 a.w',
+    b'create', b'create ', b'create a.w', b'create ' + b'x' * 255, b'create ' + b'x' * 256, b'create  b', b'create b\xff\x00',
+    b'discard', b'discard ', b'discard a.w', b'discard zz', b'discard b\xff\x00',
+    b'show', b'show ', b'show zz', b'show a.c ', b'show  a.c', b'show a.c',
+    b'faults ', b'faults 1', b'work ', b'work 1', b'Work', b'quit ', b'quit 1', b'begin', b'commit', b'cancel', b'marks full',
+    b'\x00', b'\xff\xfe', b'\r', b'work\r', b' ', b'', b'x' * 100000,
+]
+
+
+def test_malformed():
+    script = b''
+    for line in MALFORMED:
+        script += line + b'\n'
+        if line.startswith((b'insert ', b'replace ')):
+            script += b'@ \n'
+    script += b'show a.c\nfaults\nwork\n'
+    for size in (1, 5, 4095, 4096, 4097, 1 << 20):
+        written, status, _ = run_script(Room({'a.w': WEB}), ['a'], script, size)
+        check((written, status) == answered(script), 'malformed lines', 'in pieces of %d: %r' % (size, written))
+    for line in MALFORMED:                      # each as the last line, which nothing ends
+        written, status, _ = run_script(Room({'a.w': WEB}), ['a'], b'work\n' + line)
+        check((written, status) == answered(b'work\n' + line), 'malformed last line', '%r: %r' % (line[:40], written))
+
+
+def test_ends():
+    for script in (b'', b'\n', b'quit', b'quit\nwork\n', b'work\nquit\ninsert 1 a.w\n', b'insert 1 a.w', b'insert 1 a.w\n',
+                   b'insert 1 a.w\n\n', b'insert 1 a.w\n@ ', b'replace 3 a.w\n"x\n', b'discard b.w\nshow a.c\n'):
+        written, status, _ = run_script(Room({'a.w': WEB}), ['a'], script)
+        check((written, status) == answered(script), 'ends of scripts', '%r: %r, status %d' % (script, written, status))
+
+
+def test_long_texts():
+    for size in (1 << 20, 4096, 1000):
+        script = b'replace 3 a.w\n' + b'x' * 60000000 + b'\nwork\nshow a.c\n'
+        start = time.monotonic()
+        written, status, _ = run_script(Room({'a.w': WEB}), ['a'], script, size)
+        check((written, status) == (b'no LineTooLong\nwork 1\n= a.c 36\n' + answered(b'show a.c\n')[0].split(b'\n', 1)[1], 0),
+              'text of 60,000,000 bytes', 'in pieces of %d: %r, status %d' % (size, written[:100], status))
+        check(time.monotonic() - start < 30, 'text of 60,000,000 bytes', 'it took too long')
+    fits = b'replace 3 a.w\n' + b'x' * 65535 + b'\nreplace 3 a.w\n' + b'x' * 65535 + b'   \nreplace 3 a.w\n' + b'x' * 65536 + b'\n'
+    written, status, _ = run_script(Room({'a.w': WEB}), ['a'], fits)
+    check((written, status) == (b'ok\nok\nno LineTooLong\n', 0), 'texts at the limit', '%r' % written)
+
+
+def test_longest_script():
+    whole = b'work\n' + b'\n' * (SCRIPT_BYTES - 10) + b'work\n'
+    for more, status in ((b'', 0), (b'\n', 3), (b'work\n', 3)):
+        written, ended, _ = run_script(Room({'a.w': WEB}), ['a'], whole + more)
+        check((written, ended) == (b'work 1\nwork 1\n', status), 'longest script', '%r, status %d' % (written, ended))
+
+
+def test_many_edits():
+    script = b''.join(b'replace 3 a.w\nint x%d;\n' % (n % 7) if n % 3 else b'insert 4 a.w\n%d\nremove 4 a.w\n' % n
+                      for n in range(7500)) + b'show a.c\nwork\n'
+    written, status, _ = run_script(Room({'a.w': WEB}), ['a'], script)
+    check(written.count(b'ok\n') == 10000 and status == 0, 'ten thousand edits', 'status %d' % status)
+    check(written.endswith(answered(b'replace 3 a.w\nint x%d;\nshow a.c\n' % (7499 % 7))[0][3:] + b'work 1\n'), 'ten thousand edits',
+          '%r' % written[-100:])
+
+
+def test_change_file():
+    files = {'a.w': WEB, 'a.ch': b'@x\nint x;\n@y\nint z;\n@z\n'}
+    script = b'show a.c\ndiscard a.ch\nremove 1 a.ch\nfaults\ninsert 1 a.ch\n@x\nshow a.c\n'
+    roles = Roles(b'a.w', b'a.ch', b'a.c')
+    written, status, _ = run_script(Room(files), ['a', '--change', 'a'], script)
+    check((written, status) == answered(script, [(b'a.ch', files['a.ch'])], roles), 'change file', '%r' % written)
+
+
+def test_most_lines():
+    files = {'a.w': WEB + b'@i b.w\n', 'b.w': b'\n' * 999999}
+    script = (b'insert 1 b.w\nx\ninsert 1 b.w\ny\nremove 1 b.w\ninsert 1000000 b.w\nz\nreplace 1000000 b.w\nw\n'
+              b'insert 1 b.w\nv\nfaults\nquit\n')
+    written, status, _ = run_script(Room(files), ['a'], script)
+    check((written, status) == (b'ok\nno TooManyLines\nok\nok\nok\nno TooManyLines\nfaults 0\nok\n', 0), 'a million lines',
+          '%r, status %d' % (written, status))
+
+
+# ------------------------------------------------------------------ streams that fail
+
+def test_failing_reader():
+    """The reader fails in mid-line: what was ended is answered, and the rest is not carried out."""
+    for rest in (b'repl', b'insert 1 a.w\n% half'):
+        server = socket.create_server(('127.0.0.1', 0))
+        here = socket.create_connection(server.getsockname())
+        there, _ = server.accept()
+        talk = Room({'a.w': WEB}).start(['a'], stdin=there, stdout=subprocess.PIPE)
+        there.close()
+        here.sendall(b'work\n' + rest)
+        got = read_within(talk.stdout, time.monotonic() + PATIENCE)
+        time.sleep(0.2)
+        here.setsockopt(socket.SOL_SOCKET, socket.SO_LINGER, b'\1\0\0\0\0\0\0\0')      # to close is to reset
+        here.close()
+        server.close()
+        status = talk.wait(PATIENCE)
+        check((got + talk.stdout.read(), status) == (b'work 1\n', 3), 'failing reader', '%r: status %d' % (rest, status))
+    folder = os.open('/', os.O_RDONLY)
+    talk = Room({'a.w': WEB}).start(['a'], stdin=folder, stdout=subprocess.PIPE)
+    os.close(folder)
+    check((talk.stdout.read(), talk.wait(PATIENCE)) == (b'', 3), 'standard input is a folder', 'another end')
+
+
+def test_failing_writer():
+    """The writer fails at each byte of the answers: what went out is the front of them, and the status is 3."""
+    script = b'work\nreplace 3 a.w\nint y;\nshow a.c\nshow b\nfaults\nquit\n'
+    whole, _ = answered(script)
+    for room in range(len(whole)):
+        def limited():
+            signal.signal(signal.SIGXFSZ, signal.SIG_IGN)
+            resource.setrlimit(resource.RLIMIT_FSIZE, (room, room))
+        with tempfile.TemporaryFile() as answers:
+            talk = Room({'a.w': WEB}).start(['a'], stdin=subprocess.PIPE, stdout=answers, preexec_fn=limited)
+            try:
+                send(talk.stdin, script, len(script))
+            except BrokenPipeError:
+                pass
+            status = talk.wait(PATIENCE)
+            answers.seek(0)
+            written = answers.read()
+        check((written, status) == (whole[:room], 3), 'failing writer', 'at byte %d: %r, status %d' % (room, written, status))
+    full = open('/dev/full', 'wb')
+    talk = Room({'a.w': WEB}).start(['a'], stdin=subprocess.PIPE, stdout=full)
+    send(talk.stdin, b'work\n', 5)
+    check(talk.wait(PATIENCE) == 3, 'full disk', 'another status')
+
+
+# ------------------------------------------------------------------ words and loading
+
+def test_words():
+    for words, told in (([], b'<WEB>'), (['a', 'b'], b"'b'"), (['a', '--out'], b'--out <FILE>'), (['a', '--nothing'], b'--nothing'),
+                        (['--help'], b'Usage: retangle [OPTIONS] <WEB>'), (['-V'], b'retangle 1.0'), ([b'\xff'], b'<WEB>')):
+        written, status, errors = run_script(Room({'a.w': WEB}), words, b'work\n')
+        check((written, status) == (b'', 2) and told in errors, 'words', '%r: %r, status %d' % (words, errors, status))
+    for words, files, told in ((['none'], {}, b'retangle: cannot read none.w\n'),
+                               (['a', '--change', 'b'], {'a.w': WEB}, b'retangle: cannot read b.ch\n'),
+                               (['a'], {'a.w': b'x' * 65536}, b'retangle: a.w: LineTooLong\n'),
+                               (['a', '--out', 'x' * 254], {'a.w': WEB}, b'retangle: %s.c: BadName\n' % (b'x' * 254))):
+        written, status, errors = run_script(Room(files), words, b'work\n')
+        check((written, status, errors) == (b'', 3, told), 'loading', '%r: %r, status %d' % (words, errors, status))
+    for words, name in ((['a', '--out', 'z'], b'z.c'), (['--out=d/z.h', 'a.w'], b'd/z.h'), (['--change', '-', 'a'], b'a.c')):
+        written, status, _ = run_script(Room({'a.w': WEB}), words, b'show %s\n' % name)
+        check((written, status) == (b'= %s 36\n' % name + answered(b'show a.c\n')[0].split(b'\n', 1)[1], 0), 'words', '%r: %r' % (words, written))
+
+
+def main():
+    for test in (test_document, test_stored_talks, test_malformed, test_ends, test_change_file, test_words, test_failing_reader,
+                 test_failing_writer, test_many_edits, test_most_lines, test_long_texts, test_longest_script):
+        test()
+    print('%d passed, %d failed' % (counts[True], counts[False]))
+    return 1 if counts[False] else 0
+
+
+if __name__ == '__main__':
+    sys.exit(main())
