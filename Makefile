@@ -1,6 +1,7 @@
 # make           proves and builds the programs into bin/
 # make example   tangles the web in examples/, compiles it and runs it, and edits it by a script
 # make check     runs the gate and the tests over the built programs; it ends with 'N passed, M failed'
+# make further   tries the wrong bodies that the gate leaves out for their time, over proved crates
 #
 # The kit's command rt, cc and python3 have to be on the path.
 
@@ -23,13 +24,16 @@ bin/retangle: $(sources)
 example: bin/ctangle bin/retangle
 	$(MAKE) -C examples run CTANGLE=../bin/ctangle RETANGLE=../bin/retangle
 
-bench: bin/ctangle
-	python3 -B bench/run.py bin/ctangle
+bench: bin/ctangle bin/retangle
+	python3 -B bench/run.py bin/ctangle bin/retangle
 
 check:
 	tests/check.sh
 
+further:
+	tests/wrong_bodies.sh
+
 clean:
 	rm -rf bin examples/out
 
-.PHONY: all example bench check clean
+.PHONY: all example bench check further clean

@@ -1,10 +1,16 @@
-"""Times the built ctangle on generated webs, and prints tables with ratios. It passes or fails nothing.
+"""Times the built programs on generated webs, and prints tables with ratios and limits. It passes or fails nothing.
 
-usage: bench/run.py CTANGLE [PART..]      the parts are cutting, reading, scanning, names, whole
+usage: bench/run.py CTANGLE RETANGLE [PART..]      the parts are cutting, reading, scanning, names, whole, edits
 
-Layers are told apart by where a run ends: a change file that is not there ends it once the web is cut into
-lines, an inclusion that cannot be read once the sources were read, and a fault that cannot be told, since
-standard error is full, once all names are resolved and before the first file is written.
+Layers are told apart by where a run ends, and by what it finds. A change file that is not there ends it once the web
+is cut into lines, an inclusion that cannot be read once the sources were read, and a fault that cannot be told, since
+standard error is full, once all is tangled and before the first file is written. Scanning has no end of its own. But
+a part whose name is an abbreviation of no name is read and scanned like any other, and then dropped: no text, weight
+or number of it is made. So a run over such parts that ends at its first fault is a run up to the end of scanning, but
+for what these names and their faults take, which is told from two webs with the names alone and with control texts in
+their place. Where parts with names are told from dropped ones, what is behind scanning lies between two numbers: with
+the table of names in it, and without, but also without the faults of names that are none.
+What an edit takes is told from two scripts, one with more edits than the other.
 Instructions are counted by perf where it counts them here, else by valgrind; without both they are left out.
 """
 import os
@@ -19,6 +25,7 @@ import webs
 HERE = os.path.dirname(os.path.abspath(__file__))
 RUNS = 5
 UNTOLD = '@i'                                   # an inclusion without a name: a fault at once, and no further file
+DROPPED = '...'                                 # behind the names of parts: they are abbreviations of none
 
 
 class Run:
@@ -27,8 +34,8 @@ class Run:
 
 
 class Bench:
-    def __init__(self, program, room):
-        self.program, self.room = program, room
+    def __init__(self, program, editor, room):
+        self.program, self.editor, self.room = program, editor, room
         self.measurer = os.path.join(room, 'measure')
         subprocess.check_call(['cc', '-O2', '-o', self.measurer, os.path.join(HERE, '..', 'tests', 'measure.c')])
         self.counter = find_counter()
@@ -53,10 +60,11 @@ class Bench:
             sys.exit('%s ended with status %d' % (' '.join(command), fastest.status))
         return fastest
 
-    def run_once(self, command, folder, told='/dev/full'):
+    def run_once(self, command, folder, told='/dev/full', script=os.devnull):
         used = os.path.join(self.room, 'used')
-        with open(told, 'w') as full:
-            status = subprocess.call([self.measurer, used] + command, cwd=folder, stdout=subprocess.DEVNULL, stderr=full)
+        with open(told, 'w') as full, open(script) as given:
+            status = subprocess.call([self.measurer, used] + command, cwd=folder, stdin=given, stdout=subprocess.DEVNULL,
+                                     stderr=full)
         with open(used) as taken:
             microseconds, kilobytes = map(int, taken.read().split())
         return Run(microseconds / 1e6, kilobytes, status)
@@ -71,21 +79,44 @@ class Bench:
     def instructions(self, folder, words, program=None):
         return self.counter and self.counter([program or self.program] + words, folder)
 
+    def scanned(self, lines, names):
+        """The instructions over a web whose parts are dropped, since their names are these: up to the end of scanning, and with the names."""
+        if not self.counter:
+            return None, None
+        over, as_names, as_texts = (self.instructions(self.folder({'a.w': web + [UNTOLD]}), ['a'])
+                                    for web in (lines, webs.uses_alone(names, '@<'), webs.uses_alone(names, '@^')))
+        return over - (as_names - as_texts), over
 
-def count_by_perf(command, folder, told='/dev/full'):
-    with tempfile.NamedTemporaryFile('r') as log:
+    def script(self, commands):
+        """A new file with these commands."""
+        handle, path = tempfile.mkstemp(dir=self.room)
+        with os.fdopen(handle, 'w') as out:
+            out.writelines(command + '\n' for command in commands)
+        return path
+
+    def edits(self, folder, commands):
+        """The instructions of a run of the editor that is given these commands."""
+        return self.counter and self.counter([self.editor, 'a'], folder, '/dev/null', self.script(commands))
+
+    def answers(self, folder, commands):
+        with open(self.script(commands)) as given:
+            return subprocess.run([self.editor, 'a'], cwd=folder, stdin=given, stdout=subprocess.PIPE).stdout.decode().split('\n')
+
+
+def count_by_perf(command, folder, told='/dev/full', script=os.devnull):
+    with tempfile.NamedTemporaryFile('r') as log, open(script) as given:
         full = ['sh', '-c', 'exec "$@" 2>' + told, 'sh'] + command
-        subprocess.run(['perf', 'stat', '-x,', '-o', log.name, '-e', 'instructions:u'] + full, cwd=folder,
+        subprocess.run(['perf', 'stat', '-x,', '-o', log.name, '-e', 'instructions:u'] + full, cwd=folder, stdin=given,
                        stdout=subprocess.DEVNULL)
         found = re.search(r'^(\d+),', log.read(), re.M)
     return int(found.group(1)) if found else None
 
 
-def count_by_valgrind(command, folder, told='/dev/full'):
-    with tempfile.NamedTemporaryFile('r') as log, open(told, 'w') as full:
+def count_by_valgrind(command, folder, told='/dev/full', script=os.devnull):
+    with tempfile.NamedTemporaryFile('r') as log, open(told, 'w') as full, open(script) as given:
         valgrind = ['valgrind', '--tool=cachegrind', '--cache-sim=no', '--cachegrind-out-file=/dev/null',
                     '--log-file=' + log.name]
-        subprocess.run(valgrind + command, cwd=folder, stdout=subprocess.DEVNULL, stderr=full)
+        subprocess.run(valgrind + command, cwd=folder, stdin=given, stdout=subprocess.DEVNULL, stderr=full)
         found = re.search(r'I\s+refs:\s+([\d,]+)', log.read())
     return int(found.group(1).replace(',', '')) if found else None
 
@@ -146,14 +177,14 @@ def bench_reading(bench):
 
 
 def bench_scanning(bench):
-    # Parts of one section name are read and scanned like others, and not written. A run that lacks its change
-    # file ends when the lines are cut, so the difference is reading and scanning.
+    # The parts are scanned and dropped. A run that lacks its change file ends when the lines are cut, so the
+    # difference is reading and scanning.
     rows = []
     for count in (10000, 100000, 1000000):
-        lines = webs.c_program(count - 1, '@<Functions@>=') + [UNTOLD]
+        lines = webs.c_program(count - 1, '@<Functions...@>=')
         size = sum(len(line) + 1 for line in lines)
-        folder = bench.folder({'a.w': lines})
-        scanned = bench.instructions(folder, ['a'])
+        folder = bench.folder({'a.w': lines + [UNTOLD]})
+        scanned, _ = bench.scanned(lines, ['Functions...'] * sum(line == '@<Functions...@>=' for line in lines))
         cut = bench.instructions(folder, ['a', 'none'])
         run = bench.measure(folder, ['a'], runs=1 if count > 100000 else RUNS)
         whole = bench.instructions(bench.folder({'a.w': webs.c_program(count)}), ['a'])
@@ -185,20 +216,67 @@ def bench_names(bench):
 def bench_whole(bench):
     """Whole runs over webs with names and named files, beside another ctangle on the path, which has limits of its own."""
     other = shutil.which('ctangle')
-    cases = [('{:,} lines'.format(count), webs.named_program(count)) for count in (10000, 100000, 1000000)]
-    cases.append(('40,000 sections, 30,000 names', webs.many_names(40000, 30000)))
+    cases = [('{:,} lines'.format(count), webs.named_program(count), webs.named_program(count, tail=DROPPED)) for count in (10000, 100000, 1000000)]
+    cases.append(('40,000 sections, 30,000 names', webs.many_names(40000, 30000), None))
     rows = []
-    for name, lines in cases:
+    for name, lines, dropped in cases:
         folder = bench.folder({'a.w': lines})
         ours = bench.whole(folder, bench.program, len(lines))
+        scanned = bench.scanned(dropped, webs.names_in(dropped)) if dropped else (None, None)
+        behind = [ours.instructions - per(count, len(lines), 1000) if count else '-' for count in reversed(scanned)]
         theirs = bench.whole(folder, other, len(lines)) if other else None
         size = sum(len(line) + 1 for line in lines)
         held = (ours.run.kilobytes - bench.least) * 1024 / size
-        rows.append([name] + ours.cells() + [held] + (theirs.cells() if theirs else ['-'] * 4) + ours.ratios(theirs))
-    table('Whole runs (wanted: at most 2,200,000 instructions per 1,000 lines, flat; at most 7.5 bytes of memory a byte); '
-          'the other is %s' % (other or 'none on the path'),
-          ['', 'seconds', 'instructions per 1,000 lines', 'KB', 'status', 'memory per byte', 'other: seconds', 'instructions', 'KB', 'status',
-           'seconds, ctangle to it', 'instructions, to it'], rows)
+        rows.append([name] + ours.cells() + behind + [held] + (theirs.cells() if theirs else ['-'] * 4) + ours.ratios(theirs))
+    table('Whole runs (wanted: at most 2,200,000 instructions per 1,000 lines, flat, of them at most 700,000 behind scanning, for store, '
+          'expansions and writing; at most 7.5 bytes of memory a byte); the other is %s' % (other or 'none on the path'),
+          ['', 'seconds', 'instructions per 1,000 lines', 'KB', 'status', 'behind scanning, at least', 'at most', 'memory per byte',
+           'other: seconds', 'instructions', 'KB', 'status', 'seconds, ctangle to it', 'instructions, to it'], rows)
+
+
+def bench_edits(bench):
+    """Edits over a web of 35,000 lines with 3,000 names."""
+    lines, dropped = webs.leaves(35000, 3000), webs.leaves(35000, 3000, tail=DROPPED)
+    folder = bench.folder({'a.w': lines})
+    whole = bench.counter and bench.counter([bench.program, 'a'], folder, '/dev/null')
+    edit = cost_of_one(bench, folder, replaces(lines, 2), replaces(lines, 12), 'ok')
+    # The same edits where the parts are dropped: copying, reading and scanning, and the names that are no names.
+    names = webs.names_in(dropped)
+    others = (dropped, webs.uses_alone(names, '@<'), webs.uses_alone(names, '@^'))
+    scanned, as_names, as_texts = (cost_of_one(bench, bench.folder({'a.w': web}), replaces(web, 2), replaces(web, 12), 'ok') for web in others)
+    least, most = (edit - scanned, edit - scanned + as_names - as_texts) if edit is not None else (None, None)
+    refused = cost_of_one(bench, folder, refusals(10), refusals(110), 'no NoSuchLine')
+    few, many = (bench.run_once([bench.editor, 'a'], folder, '/dev/null', bench.script(replaces(lines, count))).kilobytes for count in (10, 1000))
+    table('Edits by retangle of a web of 35,000 lines with 3,000 names, of which ctangle takes %s instructions' % show(whole),
+          ['', 'instructions or KB', 'ratio', 'wanted'],
+          [['one replace of a line of a leaf', edit, ratio(edit, whole), 'at most 0.8 of a whole run'],
+           ['  of it store, comparison, sharing, expansion: at least', least, ratio(least, whole), 'at most 0.25 of a whole run'],
+           ['  at most, with the table of names', most, ratio(most, whole), ''],
+           ['one refused edit', refused, '', 'under 10,000'],
+           ['most memory in 1,000 edits, KB', many, ratio(many, few), 'no more than in ten']])
+
+
+def cost_of_one(bench, folder, few, more, answer):
+    """What one of the commands takes by which the second list is longer, each of which has to be answered so."""
+    answers = bench.answers(folder, more)
+    if set(answers) - {answer, ''}:
+        sys.exit('an edit was answered otherwise: %s' % (set(answers) - {answer}))
+    if not bench.counter:
+        return None
+    return (bench.edits(folder, more) - bench.edits(folder, few)) * 2 // (len(more) - len(few))
+
+
+def replaces(lines, count):
+    """So many commands that each replace the last line of a leaf, or of a web without leaves; each is two lines."""
+    ends = [number for number in range(len(lines) - 1) if lines[number + 1].startswith('@ Leaf')][1:] or [len(lines) - 1]
+    made = []
+    for number in range(count):
+        made += ['replace %d a.w' % (ends[number * 37 % len(ends)] + 1), 'edited(%d);' % number]
+    return made
+
+
+def refusals(count):
+    return ['replace 99999 a.w', 'x'] * count
 
 
 class WholeRun:
@@ -216,15 +294,15 @@ class WholeRun:
 
 
 PARTS = {'cutting': bench_cutting, 'reading': bench_reading, 'scanning': bench_scanning, 'names': bench_names,
-         'whole': bench_whole}
+         'whole': bench_whole, 'edits': bench_edits}
 
 
 def main():
     os.environ['CWEBINPUTS'] = '.'                  # where another ctangle looks for its webs
-    program = os.path.abspath(sys.argv[1])
+    program, editor = map(os.path.abspath, sys.argv[1:3])
     with tempfile.TemporaryDirectory() as room:
-        bench = Bench(program, room)
-        for part in sys.argv[2:] or PARTS:
+        bench = Bench(program, editor, room)
+        for part in sys.argv[3:] or PARTS:
             PARTS[part](bench)
 
 

@@ -61,10 +61,11 @@ def names(count, as_names=True):
     return made
 
 
-def named_program(lines, parts=1000, files=10):
+def named_program(lines, parts=1000, files=10, tail=''):
     """A program of so many lines in parts with names, which the program and named files use.
 
     There are at most so many parts, and each tenth begins a named file or the program: it uses those behind it.
+    The tail stands at the end of each name but a file's; dots make it an abbreviation.
     """
     size = max(16, lines // parts)
     made, bodies = [], []
@@ -75,11 +76,40 @@ def named_program(lines, parts=1000, files=10):
     for group in range(groups):
         members = range(group, count, groups)
         made += ['@ A file of the program.', '@c' if group == 0 else '@(part%d.h@>=' % group]
-        made += ['@<Part %d of the program@>' % number for number in members]
+        made += ['@<Part %d of the program%s@>' % (number, tail) for number in members]
     for number, body in enumerate(bodies):
-        made += ['@ Part %d.' % number, '@<Part %d of the program@>=' % number]
+        made += ['@ Part %d.' % number, '@<Part %d of the program%s@>=' % (number, tail)]
         made += [line for line in body if not line.startswith('@')]
     return made[:lines]
+
+
+def leaves(lines, names, groups=30, tail=''):
+    """A program of so many lines and names: it uses groups, and each group uses leaves, which use nothing.
+
+    The tail stands at the end of each leaf's name; dots make it an abbreviation.
+    """
+    count = names - groups
+    made = ['@ The program uses each group.', '@c'] + ['@<Group %d@>' % group for group in range(groups)]
+    for group in range(groups):
+        made += ['@ Group %d.' % group, '@<Group %d@>=' % group]
+        made += ['@<Leaf %d of the program%s@>' % (number, tail) for number in range(group, count, groups)]
+    code = [line for line in c_program(2 * lines, '') if line and not line.startswith(('@', 'The'))]
+    left = lines - len(made)
+    for number in range(count):
+        size = left * (number + 1) // count - left * number // count - 2
+        made += ['@ Leaf %d.' % number, '@<Leaf %d of the program%s@>=' % (number, tail)]
+        made += [code[(8 * number + line) % len(code)] for line in range(size)]
+    return made
+
+
+def names_in(lines):
+    """The abbreviations that stand alone in their lines, uses and definitions, as often as they stand there."""
+    return [line[2:line.index('@>')] for line in lines if line.startswith('@<') and '...@>' in line]
+
+
+def uses_alone(names, opener):
+    """A piece that uses these names; with another opener they are control texts."""
+    return ['@ The piece.', '@c'] + ['%s%s@>' % (opener, name) for name in names] + ['end();']
 
 
 def many_names(sections, names):

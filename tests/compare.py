@@ -4,6 +4,7 @@ usage: compare.py generated STAGE CTANGLE FIRST COUNT      generated webs, by th
        compare.py short STAGE CTANGLE MOST                 short webs over small alphabets, so many of each kind
        compare.py cut STAGE CTANGLE WEB..                  webs cut after every byte
        compare.py scripts RETANGLE FIRST COUNT [--no-lists] [--all-work]
+       compare.py edited RETANGLE WEB..                    webs edited line by line into what a cut leaves, and back
 
 STAGE is front or whole. A program at front reads, scans and resolves names: the main file has the unnamed pieces
 alone, and the faults are those that need no graph of names. Whole is all that ctangle does: every output file, all
@@ -24,6 +25,7 @@ import generator
 import programs
 import short_webs
 from faults import fault_line, status_of
+from files import Roles, add
 from scripts import Script
 from sessions import Session
 from tangling import Tangling
@@ -31,6 +33,7 @@ from tangling import Tangling
 SECONDS = 60
 SHOWN = 5
 LONGEST = 2000
+ROLES = Roles(b'a.w', None, b'a.c')
 
 
 def tangled(stage, words, folder):
@@ -157,6 +160,63 @@ class Comparison:
                        (done.returncode, done.stdout, done.stderr))
 
 
+    def edited(self, folder, webs):
+        """A session that is edited from a whole web into one of its cuts, and back, answers as a session started there."""
+        cuts = 0
+        for web in webs:
+            with open(web, 'rb') as source:
+                text = source.read()
+            for size in range(len(text) + 1):
+                self.compare_edited('%s edited into its first %d bytes' % (web, size), text, text[:size], folder)
+            cuts += len(text) + 1
+        print('%d cuts of %d webs, each made by edits of lines and undone by others' % (cuts, len(webs)))
+
+    def compare_edited(self, name, whole, part, folder):
+        whole, part = lines_of(whole), lines_of(part)
+        there, back = edits_into_front(whole, part), edits_into_whole(whole, part)
+        questions = questions_about(whole, part)
+        of_part, of_whole = (answers_to(questions, lines) for lines in (part, whole))
+        self.count(name + ', started there', (of_part.status, of_part.written, b''), self.answers(folder, part, questions))
+        answers = b'ok\n' * len(there) + of_part.written + b'ok\n' * len(back) + of_whole.written
+        self.count(name, (of_whole.status, answers, b''),
+                   self.answers(folder, whole, b''.join(there) + questions + b''.join(back) + questions))
+
+    def answers(self, folder, lines, script):
+        lay(folder, [(b'a.w', lines)])
+        done = run(self.program, ['a'], folder, script)
+        return done.returncode, done.stdout, done.stderr
+
+
+def lines_of(text):
+    lines = text.split(b'\n')
+    return lines if lines[-1] else lines[:-1]
+
+
+def edits_into_front(whole, part):
+    """Edits that leave the first lines of a web, of which the last may be cut."""
+    edits = [b'remove %d a.w\n' % number for number in range(len(whole), len(part), -1)]
+    return edits + ([b'replace %d a.w\n%s\n' % (len(part), part[-1])] if part else [])
+
+
+def edits_into_whole(whole, part):
+    edits = [b'replace %d a.w\n%s\n' % (len(part), whole[len(part) - 1])] if part else []
+    return edits + [b'insert %d a.w\n%s\n' % (number, whole[number - 1]) for number in range(len(part) + 1, len(whole) + 1)]
+
+
+def questions_about(*webs):
+    """What is asked of each of these webs: every output file that one of them has, and the faults."""
+    names = {name for web in webs for name, _ in Tangling(files_with(web), ROLES).files()}
+    return b''.join(b'show %s\n' % name for name in sorted(names | {b'a.c'})) + b'faults\n'
+
+
+def answers_to(script, web):
+    return Script(Session(files_with(web), ROLES), script, has_lists=False)
+
+
+def files_with(lines):
+    return add([], b'a.w', b''.join(line + b'\n' for line in lines))
+
+
 class TooLarge(Exception):
     pass
 
@@ -170,12 +230,14 @@ def main():
     mode, rest = sys.argv[1], sys.argv[2:]
     flags = [word for word in rest if word.startswith('--')]
     rest = [word for word in rest if word not in flags]
-    stage = None if mode == 'scripts' else rest.pop(0)
+    stage = None if mode in ('scripts', 'edited') else rest.pop(0)
     comparison = Comparison(rest.pop(0))
     with tempfile.TemporaryDirectory() as room:
         folder = os.path.join(room, 'folder')
         if mode == 'cut':
             comparison.cut(folder, stage, rest)
+        elif mode == 'edited':
+            comparison.edited(folder, rest)
         elif mode == 'short':
             comparison.short(folder, stage, int(rest[0]))
         elif mode == 'generated':

@@ -1,5 +1,6 @@
-# 2,100 generated webs (and two that are too large), short webs, webs cut after every byte, and 4,000 projects with scripts, against the reference tangler. The file tests/stage says how much the
-# built ctangle does: front or whole (tests/compare.py).
+# 2,100 generated webs (and two that are too large), short webs, webs cut after every byte, in a folder and by the edits of a session, and
+# 4,000 projects with scripts, against the reference tangler. The file tests/stage says how much the built ctangle does: front or whole
+# (tests/compare.py).
 
 compare() { # NAME WORD..
     _name=$1
@@ -11,8 +12,10 @@ compare() { # NAME WORD..
 test_comparison() {
     compare 'generated webs' generated "$stage" "$room/ctangle" 0 2102
     compare 'short webs' short "$stage" "$room/ctangle" 50
-    for group in scanning names; do
-        compare "cut webs of $group" cut "$stage" "$room/ctangle" "$top/tests/cases/$group"/*/in/a.w
-    done
+    set -- "$top"/tests/cases/scanning/*/in/a.w "$top"/tests/cases/names/*/in/a.w \
+        "$top/tests/cases/output/names-that-contain-each-other-have-no-output/in/a.w" \
+        "$top/tests/cases/output/name-over-two-sections-and-a-named-file/in/a.w"
+    compare 'cut webs' cut "$stage" "$room/ctangle" "$@"
+    compare 'webs edited into their cuts' edited "${RETANGLE:-$top/bin/retangle}" "$@"
     compare 'scripts' scripts "${RETANGLE:-$top/bin/retangle}" 0 4000 --no-lists
 }

@@ -8,7 +8,8 @@ usage: documents.py [FOLDER]      the folder of the repository
 - docs/sessions.md, where it is: the reference answers its conversation so. README.md names each page of docs/.
 - crates/*/must-fail: each public function that is no law has an edit of its own, or of a private function that it calls,
   unless docs/wrong-bodies.md has it in a row '| `CRATE` | without an edit: `TYPE::NAME`, `NAME` | why |'. Each text that
-  an edit replaces stands once in its file.
+  an edit replaces stands once in its file, also of those in tests/wrong-bodies.
+- crates/tangle_session: work is begun once in a start and once in an edit, and output files are written in one place (ONLY_IN).
 The last line is 'N passed, M failed'.
 """
 import os
@@ -23,6 +24,11 @@ from sessions import Session
 DEFINITION = r'^ *(?:(?:abbrev|unfoldable) )?pub (?:record |data )?%s(?: |$)'
 FUNCTION = re.compile(r'^\s*(pub |pub\(crate\) )?(?:const )?fn (\w+)', re.M)
 CODED = re.compile(r'`([^`]+)`')
+
+# What the code of a crate calls, and the functions in which it stands, once in each: a session has one work for a start and one for an
+# edit (`expand_over`, by which `apply` alone tangles anew), and so last_work() counts all that was expanded for it. It writes texts by
+# the one call that writes a file.
+ONLY_IN = {'tangle_session': {'Work::new': {'start', 'expand_over'}, 'write_file': {'write_output'}, 'write_text': set()}}
 
 counts = {True: 0, False: 0}
 
@@ -48,6 +54,7 @@ class Crate:
         self.specs = texts_in(os.path.join(folder, 'specs'), '.antt')
         self.code = texts_in(os.path.join(folder, 'src'), '.rt')
         self.edits = texts_in(os.path.join(folder, 'must-fail'), '.edit')
+        self.further_edits = texts_in(os.path.join(folder, '../../tests/wrong-bodies', os.path.basename(folder)), '.edit')
         self.whole = '\n'.join(self.code.values())
 
 
@@ -169,7 +176,7 @@ def check_edits(crate, here, excused):
 
 def check_edits_apply(crate, here):
     """Each text that an edit replaces stands once in its file, when its turn comes."""
-    for name, edit in here.edits.items():
+    for name, edit in [*here.edits.items(), *here.further_edits.items()]:
         texts, file = dict(here.code), None
         turns = re.findall(r'^(?:file: src/(\S+)\n)?old: ?(.*)\nnew: ?(.*)', edit, re.M)
         check(turns, '%s/must-fail/%s' % (crate, name), 'nothing is replaced')
@@ -178,6 +185,22 @@ def check_edits_apply(crate, here):
             times = texts.get(file, '').count(old)
             check(times == 1, '%s/must-fail/%s' % (crate, name), '%d times %s' % (times, old))
             texts[file] = texts.get(file, '').replace(old, new, 1)
+
+
+def check_calls(crate, here):
+    """A word of ONLY_IN stands in these functions alone, once in each; it has no other name."""
+    for called, wanted in ONLY_IN.get(crate, {}).items():
+        name = 'crates/%s, %s' % (crate, called)
+        word = re.compile(r'\b%s\b' % called.replace('::', r'\s*::\s*'))
+        found = []
+        for file, text in here.code.items():
+            text = re.sub(r'//.*', '', text)
+            check(not re.search(r'\b%s\s+as\b' % called.split('::')[0], text), name, 'another name for it in %s' % file)
+            body = re.sub(r'^\s*(?:pub(?:\(crate\))? )?use [^;]*;', '', text, flags=re.M)
+            found += [one[2] for one in functions_in(body) for _ in word.findall(one[4])]
+            outside = len(word.findall(body)) - sum(len(word.findall(one[4])) for one in functions_in(body))
+            check(outside == 0, name, 'outside of functions in %s' % file)
+        check(sorted(found) == sorted(wanted), name, 'in %s' % (', '.join(found) or 'no function'))
 
 
 def is_law(text):
@@ -232,6 +255,7 @@ def main():
     for crate, here in crates.items():
         check_edits(crate, here, {name for row in rows if row[0] == crate for name in CODED.findall(row[1])})
         check_edits_apply(crate, here)
+        check_calls(crate, here)
     print('%d passed, %d failed' % (counts[True], counts[False]))
     return 1 if counts[False] else 0
 

@@ -1,11 +1,13 @@
 # Runs in which the machine refuses something: a stream, a permission, room on the disk.
 
 one_piece="$top/tests/cases/reading/one-web-makes-one-c-file"
+two_outputs="$top/tests/cases/output/name-over-two-sections-and-a-named-file"
 with_a_fault="$top/tests/cases/reading/old-lines-of-a-change-do-not-match"
 
 test_machine() {
     test_standard_error
     test_permissions
+    test_second_output
     test_full_disk
 }
 
@@ -69,6 +71,24 @@ test_permissions() {
     must_end 3 'ctangle: cannot write d/out.c'
     locked=d
     run_case 'output folder without permission' "$case" locked_away
+}
+
+# A folder stands where the named file is to be written, behind the main file. Of three files the last is not tried.
+test_second_output() {
+    begin_case a
+    cp -R "$two_outputs/in/." "$case/in"
+    cp "$two_outputs/want/a.c" "$case/want"
+    mkdir "$case/in/h.h"
+    must_end 3 'ctangle: cannot write h.h'
+    run_case 'second output is a folder' "$case"
+
+    printf '@ @(k.h@>=\nint k;\n' >>"$case/in/a.w"
+    run_case 'second output of three is a folder' "$case"
+
+    # the faults are told first
+    printf '@ @<C@>=\n' >>"$case/in/a.w"
+    must_end 3 'a.w:12: warning: never used: <C>' 'ctangle: cannot write h.h'
+    run_case 'second output is a folder, and there is a fault' "$case"
 }
 
 # The output is a link to a device that is always full, so no byte can be written.

@@ -1,4 +1,4 @@
-# Each growth of a run refused in turn, by a library that stands before the C library's malloc.
+# Each growth of a run, of a conversation and of calls refused in turn, by a library that stands before the C library's malloc.
 
 test_memory() {
     if ! cc -O2 -shared -fPIC -o "$room/refuse.so" "$top/tests/refuse.c"; then
@@ -10,7 +10,18 @@ test_memory() {
         output/names-that-contain-each-other-have-no-output; do
         refuse_each_growth "${name#*/}" "$top/tests/cases/$name"
     done
+    test_conversation
     test_crates
+}
+
+test_conversation() {
+    retangle=${RETANGLE:-$top/bin/retangle}
+    if [ ! -x "$retangle" ]; then
+        fail 'refused growths of a conversation' "$retangle is not there: run make first"
+        return
+    fi
+    python3 -B "$top/tests/refused.py" "$retangle" "$room/refuse.so" "$top" >"$room/log" 2>&1
+    count_last_line 'refused growths of a conversation' "$room/log"
 }
 
 refusing() {
@@ -66,20 +77,26 @@ survived_as() { # FILE OLD WANTED
     fi
 }
 
-# The tests of the crates, which ask the library for their own refusals. The library makes the file when it refuses a
-# growth; without it the tests would pass and show nothing.
+# The tests of the crates, which ask the library for their own refusals.
 test_crates() {
     kit=$(dirname "$(rt doc)")
-    tests=$top/crates/tangle_tests/out/tangle_tests_tests
+    for crate in tangle_tests tangle_session_tests; do
+        test_crate "$crate"
+    done
+}
+
+# The library makes the file when it refuses a growth; without it the tests would pass and show nothing.
+test_crate() { # CRATE
+    tests=$top/crates/$1/out/$1_tests
+    rm -rf "$room/tests" "$room/told"
     mkdir "$room/tests"
-    rm -f "$room/told"
     if [ ! -x "$tests" ]; then
-        fail 'refused growths in the crates' 'no test program: run make check'
+        fail "refused growths of $1" 'no test program: run make check'
     elif ! (cd "$room/tests" && REFUSE_TOLD="$room/told" LD_PRELOAD="$room/refuse.so" "$kit/bin/rattle-test" --seconds 60 "$tests") \
         >"$room/log" 2>&1; then
-        fail 'refused growths in the crates' "$(tail -n 5 "$room/log")"
+        fail "refused growths of $1" "$(tail -n 5 "$room/log")"
     elif [ ! -e "$room/told" ]; then
-        fail 'refused growths in the crates' 'no growth was refused'
+        fail "refused growths of $1" 'no growth was refused'
     else
         pass
     fi

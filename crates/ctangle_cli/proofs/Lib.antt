@@ -1,3 +1,4 @@
+mod AskLemmas
 mod LoadLemmas
 mod MissingLemmas
 mod Quiet

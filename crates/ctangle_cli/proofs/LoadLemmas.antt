@@ -17,7 +17,7 @@ use Rattle.tangle_lines.specs.Adding.{add_refusal, with_file, has_file, is_name}
 use Rattle.tangle_lines.specs.Roles.{RoleNames, is_there, is_there_if_any, fits}
 use Rattle.tangle_streams.specs.Streams.{Failed}
 use Rattle.tangle_folders.specs.Folder.{File, Reads, bytes_of, file_limit, with_asked}
-use Rattle.ctangle_cli.specs.Loading.{AreAbsent, missing_of, Ending, Grows, IsEnding, Loaded, LoadsTo, StopsFor, TellsLastAsked, add_bytes, add_present, after_round, and_then, refused_as, rounds_from, rounds_in, unless_refused, with_inclusion, with_inclusions, with_round, with_wanted}
+use Rattle.ctangle_cli.specs.Loading.{AreAbsent, missing_of, Ending, Grows, IsEnding, Loaded, LoadsTo, StopsFor, TellsLastAsked, add_bytes, add_present, after_round, and_then, refused_as, rounds_from, rounds_in, bad_name, load_of, load_unless, unless_refused, with_inclusion, with_inclusions, with_round, with_wanted}
 use Rattle.ctangle_cli.specs.Loading.Ending.{Unreadable, Refuses, Memory}
 
 -- want of memory is no claim
@@ -304,7 +304,7 @@ is_some-position p xs = by (nat_lt (position_or_len p xs) (length xs)) ∙ place
     by true = refl
     by false = refl
 
-has_any : (files : FileTable) (name : List ℕ) → has_file files name ≡ list_any (λ f. bytes_eq name f.0) files
+pub has_any : (files : FileTable) (name : List ℕ) → has_file files name ≡ list_any (λ f. bytes_eq name f.0) files
 has_any [] name = refl
 has_any (f ∷ files) name = by (bytes_eq name f.0) (has_any files name)
   where
@@ -384,3 +384,9 @@ refused_last asked name refusal given which = elim which [
   | inl e ↦ subst (TellsLastAsked asked) (sym e) (told_refused asked name refusal)
   | inr e ↦ subst (TellsLastAsked asked) (sym e) tt
 ]
+
+-- the names are file names
+pub loads_named : (told : Option (List File)) (roles names : RoleNames) (files : FileTable) → bad_name names ≡ None → roles ≡ names
+    → IfSome told (λ all. load_unless all roles None ≡ Ok files) → IfSome told (λ all. load_of all names ≡ Ok files)
+loads_named None roles names files fine same loads = tt
+loads_named (Some all) roles names files fine same loads = ap (load_unless all names) fine ∙ ap (λ r. load_unless all r None) (sym same) ∙ loads

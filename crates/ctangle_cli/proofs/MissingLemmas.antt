@@ -13,7 +13,7 @@ use Rattle.ctangle_cli.specs.Loading.Ending.{Unreadable}
 use Rattle.ctangle_cli.proofs.LoadLemmas.{grows_all, grows_one, longer}
 
 -- a table that has grown and is no longer is the same
-same_table : (files next : FileTable) → Grows files next → length next ≡ length files → next ≡ files
+pub same_table : (files next : FileTable) → Grows files next → length next ≡ length files → next ≡ files
 same_table files next g same = by g.more g.is
   where
     by : (more : FileTable) → next ≡ files ++ more → next ≡ files

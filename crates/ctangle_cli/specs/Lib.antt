@@ -4,4 +4,6 @@ pub mod Writing
 pub mod Loading
 pub mod Messages
 pub mod Run
+pub mod Asking
+pub mod Tries
 pub mod Conversation

@@ -1,5 +1,5 @@
 //! Loading: the files that a run reads.
-ghost use Rattle.std.specs.Prelude.{◌≡◌, ◌≤◌, ◌∷◌, ℕ, List, [], length, map, true, Option, unwrap_or, IfOk, IfErr, IfSome, OnOk, None};
+ghost use Rattle.std.specs.Prelude.{◌≡◌, ◌≤◌, ◌∷◌, ◌||◌, ℕ, List, [], length, map, true, false, Option, unwrap_or, IfOk, IfErr, IfSome, OnOk, OnErr, None};
 ghost use Rattle.std.specs.List.{list_any};
 ghost use Rattle.std.specs.Option.{option_copied};
 ghost use Rattle.std.specs.Str.{bytes_eq};
@@ -7,6 +7,8 @@ ghost use Rattle.tangle_folders.specs.Folder.{file_limit};
 ghost use Rattle.tangle_lines.specs.Adding.{has_file};
 ghost use Rattle.tangle_lines.specs.Roles.{fits, is_there, is_there_if_any};
 ghost use Rattle.tangle_lines.specs.Lines.{FileTable};
+ghost use Rattle.ctangle_cli.specs.Asking.{AsksForAll, AsksOnce};
+ghost use Rattle.ctangle_cli.specs.Tries.{AsksOn, RoundsOnce, StopsAsking, TriesAll, named_in, tried};
 ghost use Rattle.ctangle_cli.specs.Loading.{AreAbsent, Grows, IsEnding, LoadsTo, StopsFor, TellsLastAsked, add_bytes, bad_name, ending_of, is_missing_kind, load_of, load_unless, missed_in, missing_of, refused_as, rounds_from, with_change, with_inclusion, with_inclusions, with_wanted};
 ghost use Rattle.ctangle_cli.specs.Loading.Ending.{Unreadable};
 
@@ -70,8 +72,10 @@ impl Absent {
     }
 
     fn insert(&mut self, alloc: Global, name: &[u8]) -> Result<(), NoMemory>
-        ensures { OnOk result ((told : Option _) → AreAbsent told self.old
+        ensures absent { OnOk result ((told : Option _) → AreAbsent told self.old
             → AreAbsent told (name.now ∷ []) → AreAbsent told self.new) }
+        ensures holds { OnOk result ((other : List ℕ) → list_any (bytes_eq other) self.new
+            ≡ (list_any (bytes_eq other) self.old || bytes_eq other name.now)) }
     {
         let name = Vec::from_slice(alloc, name)?;
         self.names.insert(name)?;
@@ -131,6 +135,7 @@ fn read_wanted<F: Folder>(
     files: &mut Files,
     name: &[u8],
 ) -> Result<(), LoadFault>
+    requires { has_file files.old name.now ≡ false }
     ensures ok { OnOk result (LoadsTo (F.files folder.old) (λ all. with_wanted all files.old name.now)
         (F.failures folder.old) (F.failures folder.new) files.new) }
     ensures err { IfErr result (λ fault. StopsFor (F.files folder.old) (λ all. with_wanted all files.old name.now)
@@ -138,6 +143,9 @@ fn read_wanted<F: Folder>(
     ensures grows { OnOk result (Grows files.old files.new) }
     ensures there { OnOk result (is_there files.new name.now ≡ true) }
     ensures told { IfErr result (λ fault. TellsLastAsked (F.asked folder.new) (ending_of fault)) }
+    ensures asks { OnOk result (AsksOn (tried (F.asked folder.old) files.old []) (tried (F.asked folder.new) files.new [])
+        (name.now ∷ [])) }
+    ensures stops { OnErr result (StopsAsking (tried (F.asked folder.old) files.old []) (F.asked folder.new)) }
     ensures files_stay { F.files folder.new ≡ F.files folder.old }
     ensures created_stay { F.created folder.new ≡ F.created folder.old }
 {
@@ -165,6 +173,9 @@ fn read_change<F: Folder>(
     ensures grows { OnOk result (Grows files.old files.new) }
     ensures there { OnOk result (is_there_if_any files.new (option_copied change.entry) ≡ true) }
     ensures told { IfErr result (λ fault. TellsLastAsked (F.asked folder.new) (ending_of fault)) }
+    ensures asks { OnOk result (AsksOn (tried (F.asked folder.old) files.old []) (tried (F.asked folder.new) files.new [])
+        (named_in (option_copied change.entry))) }
+    ensures stops { OnErr result (StopsAsking (tried (F.asked folder.old) files.old []) (F.asked folder.new)) }
     ensures files_stay { F.files folder.new ≡ F.files folder.old }
     ensures created_stay { F.created folder.new ≡ F.created folder.old }
 {
@@ -195,6 +206,11 @@ fn read_inclusion<F: Folder>(
     ensures grows { OnOk result (Grows files.old files.new) }
     ensures absent { OnOk result (AreAbsent (F.files folder.old) absent.new) }
     ensures told { IfErr result (λ fault. TellsLastAsked (F.asked folder.new) (ending_of fault)) }
+    ensures asks { OnOk result (AsksOn (tried (F.asked folder.old) files.old absent.old)
+        (tried (F.asked folder.new) files.new absent.new) (name.now ∷ [])) }
+    ensures tries { OnOk result (TriesAll (tried (F.asked folder.old) files.old absent.old)
+        (tried (F.asked folder.new) files.new absent.new) (name.now ∷ [])) }
+    ensures stops { OnErr result (StopsAsking (tried (F.asked folder.old) files.old absent.old) (F.asked folder.new)) }
     ensures files_stay { F.files folder.new ≡ F.files folder.old }
     ensures created_stay { F.created folder.new ≡ F.created folder.old }
 {
@@ -239,6 +255,11 @@ fn read_inclusions<F: Folder>(
     ensures grows { OnOk result (Grows files.old files.new) }
     ensures absent { OnOk result (AreAbsent (F.files folder.old) absent.new) }
     ensures told { IfErr result (λ fault. TellsLastAsked (F.asked folder.new) (ending_of fault)) }
+    ensures asks { OnOk result (AsksOn (tried (F.asked folder.old) files.old absent.old)
+        (tried (F.asked folder.new) files.new absent.new) (missed_in faults.now)) }
+    ensures tries { OnOk result (TriesAll (tried (F.asked folder.old) files.old absent.old)
+        (tried (F.asked folder.new) files.new absent.new) (missed_in faults.now)) }
+    ensures stops { OnErr result (StopsAsking (tried (F.asked folder.old) files.old absent.old) (F.asked folder.new)) }
     ensures files_stay { F.files folder.new ≡ F.files folder.old }
     ensures created_stay { F.created folder.new ≡ F.created folder.old }
 {
@@ -273,6 +294,10 @@ fn read_rounds<F: Folder>(
         (F.failures folder.old) (F.failures folder.new) (ending_of fault)) }
     ensures fits { OnOk result (fits files.new roles.now ≡ true) }
     ensures told { IfErr result (λ fault. TellsLastAsked (F.asked folder.new) (ending_of fault)) }
+    ensures asks { OnOk result ((before : Option _) → RoundsOnce before (tried (F.asked folder.old) files.old []) roles.now
+        → AsksForAll before (F.asked folder.new) files.new roles.now) }
+    ensures stops { OnErr result ((before : Option _) → RoundsOnce before (tried (F.asked folder.old) files.old []) roles.now
+        → AsksOnce before (F.asked folder.new)) }
     ensures files_stay { F.files folder.new ≡ F.files folder.old }
     ensures created_stay { F.created folder.new ≡ F.created folder.old }
 {
@@ -312,6 +337,8 @@ fn load_files<F: Folder>(alloc: Global, roles: &Roles, folder: &mut F) -> Result
         (F.failures folder.old) (F.failures folder.new) (ending_of fault)) }
     ensures fits { IfOk result (λ files. fits files roles.now ≡ true) }
     ensures told { IfErr result (λ fault. TellsLastAsked (F.asked folder.new) (ending_of fault)) }
+    ensures asks { IfOk result (λ files. AsksForAll (F.asked folder.old) (F.asked folder.new) files roles.now) }
+    ensures once { AsksOnce (F.asked folder.old) (F.asked folder.new) }
     ensures files_stay { F.files folder.new ≡ F.files folder.old }
     ensures created_stay { F.created folder.new ≡ F.created folder.old }
 {
@@ -350,6 +377,8 @@ pub fn load<F: Folder>(
     ensures err { IfErr result (λ fault. StopsFor (F.files folder.old) (λ all. load_of all words.now)
         (F.failures folder.old) (F.failures folder.new) (ending_of fault)) }
     ensures told { IfErr result (λ fault. TellsLastAsked (F.asked folder.new) (ending_of fault)) }
+    ensures asks { IfOk result (λ r. AsksForAll (F.asked folder.old) (F.asked folder.new) r.0 r.1) }
+    ensures once { AsksOnce (F.asked folder.old) (F.asked folder.new) }
     ensures files_stay { F.files folder.new ≡ F.files folder.old }
     ensures created_stay { F.created folder.new ≡ F.created folder.old }
 {

@@ -1,5 +1,7 @@
 //! A run of `ctangle`.
-ghost use Rattle.std.specs.Prelude.{◌≡◌, ℕ, List, map};
+ghost use Rattle.std.specs.Prelude.{◌≡◌, ℕ, List, Option, IfOk, map};
+ghost use Rattle.tangle_folders.specs.Folder.{File};
+ghost use Rattle.ctangle_cli.specs.Loading.{LoadsTo, load_of};
 ghost use Rattle.ctangle_cli.specs.Messages.{status_of};
 ghost use Rattle.ctangle_cli.specs.Run.{NamedEnds, RunEnds, SessionEnds, quiet};
 
@@ -10,7 +12,7 @@ use crate::words::{WordFault, Words, read_words};
 use crate::writing::write_outputs;
 use std::alloc::Global;
 use tangle_folders::Folder;
-use tangle_lines::{Fault, Sink};
+use tangle_lines::{Fault, Files, NoMemory, Roles, Sink};
 use tangle_session::Session;
 
 fn status(faults: &[Fault]) -> u8
@@ -59,6 +61,44 @@ fn run_session<F: Folder, E: Sink>(
     }
 }
 
+// A session of these files. They have the web and the change file that is named, so memory alone can be wanting.
+fn started(alloc: Global, files: Files, roles: Roles) -> Result<Session, NoMemory>
+    ensures files { IfOk result (λ session. session.files ≡ files) }
+    ensures roles { IfOk result (λ session. session.roles ≡ roles) }
+{
+    match Session::start(alloc, files, roles) {
+        Ok(session) => Ok(session),
+        Err(_) => Err(NoMemory),
+    }
+}
+
+// Starts a session of the files that were loaded, and runs it.
+fn run_loaded<F: Folder, E: Sink>(
+    alloc: Global,
+    files: Files,
+    roles: Roles,
+    folder: &mut F,
+    err: &mut E,
+) -> u8
+    ensures { (all created : Option (List File)) (failures : ℕ) → LoadsTo all (λ all. load_of all roles) failures (F.failures folder.old) files
+        → F.files folder.old ≡ all → F.created folder.old ≡ created → NamedEnds roles
+        (record { files = all; created = created; folder_failures = failures; stream = E.stream err.old })
+        (record {
+          files = F.files folder.new;
+          created = F.created folder.new;
+          folder_failures = F.failures folder.new;
+          stream = E.stream err.new;
+        }) result }
+{
+    match started(alloc, files, roles) {
+        Err(_) => {
+            let _ = write_load(b"ctangle", &LoadFault::NoMemory, err);
+            3
+        }
+        Ok(session) => run_session(alloc, &session, folder, err),
+    }
+}
+
 // Loads the files of these names, and starts a session of them.
 fn run_named<F: Folder, E: Sink>(alloc: Global, words: &Words, folder: &mut F, err: &mut E) -> u8
     ensures { NamedEnds words.now
@@ -80,14 +120,7 @@ fn run_named<F: Folder, E: Sink>(alloc: Global, words: &Words, folder: &mut F, e
             let _ = write_load(b"ctangle", &fault, err);
             3
         }
-        // The files have the web and the change file that is named, so memory alone can be wanting.
-        Ok((files, roles)) => match Session::start(alloc, files, roles) {
-            Err(_) => {
-                let _ = write_load(b"ctangle", &LoadFault::NoMemory, err);
-                3
-            }
-            Ok(session) => run_session(alloc, &session, folder, err),
-        },
+        Ok((files, roles)) => run_loaded(alloc, files, roles, folder, err),
     }
 }
 

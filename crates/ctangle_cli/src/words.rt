@@ -6,50 +6,9 @@ ghost use Rattle.ctangle_cli.specs.Words.{base_name, change_of, completed_names,
 ghost use Rattle.ctangle_cli.specs.declared.words.WordFault.TheVariants.{NoMemory};
 
 use std::alloc::{AllocError, Global};
-use std::marker::Model;
 
-/// The names that the words of a run give: of the web, of the change file or none, and of the main file.
-#[derive(Drop)]
-pub struct Words {
-    web: Vec<u8>,
-    change: Option<Vec<u8>>,
-    out: Vec<u8>,
-}
-
-impl Model for Words {
-    ghost use Rattle.std.specs.Option.{option_map};
-    ghost use Rattle.tangle_lines.specs.Roles.{RoleNames};
-
-    ghost Value = { RoleNames };
-
-    ghost view = { λ r. record { web = r.web.items; change = option_map (λ v. v.items) r.change; out = r.out.items } };
-}
-
-impl Words {
-    /// The name of the web.
-    pub fn web(&self) -> &[u8]
-        ensures { result.now ≡ self.now.web }
-    {
-        self.web.as_slice()
-    }
-
-    /// The name of the change file.
-    pub fn change(&self) -> Option<&[u8]>
-        ensures { option_copied result ≡ self.now.change }
-    {
-        match &self.change {
-            Some(name) => Some(name.as_slice()),
-            None => None,
-        }
-    }
-
-    /// The name of the main file.
-    pub fn out(&self) -> &[u8]
-        ensures { result.now ≡ self.now.out }
-    {
-        self.out.as_slice()
-    }
-}
+// What the words of a run give: names that nobody has tested.
+pub use tangle_lines::RoleNames as Words;
 
 /// Why words give no names.
 #[derive(Clone, Copy, Debug, PartialEq, Eq)]
@@ -155,7 +114,7 @@ pub fn complete(
     let web = extended(alloc, web, b".w")?;
     let change = change_for(alloc, change)?;
     let out = out_for(alloc, web.as_slice(), out)?;
-    Ok(Words { web, change, out })
+    Ok(Words::new(web, change, out))
 }
 
 // The words that are no flags.

@@ -1,5 +1,5 @@
 -- The bytes of a file, and that they are not too many.
-use Rattle.std.proofs.Common.{◌≡◌, ◌∙◌, ℕ, ◌^◌, ◌<◌, ◌≤◌, Bool, true, false, List, [], ◌∷◌, ◌++◌, length, ap, sym, subst, append_assoc, append-nil, arith, length-append, Option}
+use Rattle.std.proofs.Common.{◌≡◌, ◌∙◌, ℕ, ◌^◌, ◌<◌, ◌≤◌, Bool, true, false, List, [], ◌∷◌, ◌++◌, length, ap, sym, subst, append_assoc, append-nil, arith, length-append}
 use Rattle.std.specs.Prelude.{Result, Ok, if◌then◌else◌}
 use Rattle.tangle_streams.specs.declared.failures.WriteFault.{WriteFault}
 use Rattle.tangle_streams.specs.Streams.{Stream, PutsOut, PutsOutMore}

@@ -20,6 +20,7 @@ pub mod UsedLemmas
 mod SameShapes
 mod Unaffected
 pub mod PlanningLemmas
+pub mod RunLemmas
 pub mod FilledLemmas
 pub mod CodeLemmas
 pub mod HeldLemmas

@@ -18,5 +18,6 @@ pub mod Planned
 pub mod ItemSlots
 pub mod Codes
 pub mod ItemCodes
+pub mod Runs
 pub mod MacroTexts
 pub mod NodeTexts

@@ -10,7 +10,7 @@ use itoa::Buffer;
 use std::alloc::Global;
 use tangle_lines::NoMemory;
 use tangle_names::{NameTable, Resolved};
-use tangle_scan::{Item, Span, Web};
+use tangle_scan::{Item, Piece, Span, Web};
 
 /// The kind of an item of a shape, or the end of a piece.
 #[derive(Clone, Copy, Debug, PartialEq, Eq)]
@@ -73,21 +73,21 @@ fn use_code(resolved: Resolved) -> ItemCode
 }
 
 /// The code of an item.
-fn code_of(item: Item, table: &NameTable) -> ItemCode
-    requires { IsUseBelow (length table.now.resolved) item }
-    ensures { result ≡ code_in table.now item }
+fn code_of(item: &Item, table: &NameTable) -> ItemCode
+    requires { IsUseBelow (length table.now.resolved) item.now }
+    ensures { result ≡ code_in table.now item.now }
 {
     match item {
-        Item::Word(span) => text_code(ItemKind::Word, span),
-        Item::Sign(span) => text_code(ItemKind::Sign, span),
-        Item::Quoted(span) => text_code(ItemKind::Quoted, span),
-        Item::Verbatim(span) => text_code(ItemKind::Verbatim, span),
+        Item::Word(span) => text_code(ItemKind::Word, *span),
+        Item::Sign(span) => text_code(ItemKind::Sign, *span),
+        Item::Quoted(span) => text_code(ItemKind::Quoted, *span),
+        Item::Verbatim(span) => text_code(ItemKind::Verbatim, *span),
         Item::QuoteBreak => fixed_code(ItemKind::QuoteBreak, 1),
-        Item::Code(value) => fixed_code(ItemKind::Constant, digit_count(value)),
+        Item::Code(value) => fixed_code(ItemKind::Constant, digit_count(*value)),
         Item::Blank => fixed_code(ItemKind::Blank, 1),
         Item::LineEnd => fixed_code(ItemKind::LineEnd, 1),
         Item::LineMark(_) => fixed_code(ItemKind::Mark, 0),
-        Item::UseOf(occurrence) => use_code(table.resolve(occurrence)),
+        Item::UseOf(occurrence) => use_code(table.resolve(occurrence.number())),
         Item::Defs => fixed_code(ItemKind::Macros, 0),
     }
 }
@@ -98,10 +98,30 @@ fn add_codes(codes: &mut Vec<ItemCode>, table: &NameTable, items: &[Item]) -> Re
     ensures { OnOk result (codes.new.items ≡ codes.old.items ++ piece_codes table.now items.now) }
 {
     for item in items {
-        codes.push(code_of(*item, table))?;
+        codes.push(code_of(item, table))?;
     }
     codes.push(fixed_code(ItemKind::PieceEnd, 0))?;
     Ok(())
+}
+
+/// How many codes the pieces with these numbers have, for the room that they take.
+fn code_count(pieces: &[Piece], numbers: &[usize]) -> usize
+    requires { All (λ n. n < length pieces.now) numbers.now }
+{
+    let mut count = numbers.len();
+    for number in numbers {
+        count = count.saturating_add(pieces[*number].items().len());
+    }
+    count
+}
+
+/// How many bytes the texts of items with these codes have, for the room that they take.
+pub(crate) fn text_size(codes: &[ItemCode]) -> usize {
+    let mut size: usize = 0;
+    for code in codes {
+        size = size.saturating_add(code.size as usize);
+    }
+    size
 }
 
 /// The codes of the pieces with these numbers.
@@ -115,8 +135,8 @@ pub(crate) fn codes_of(
     requires ours { length table.now.resolved ≡ length web.now.occurrences }
     ensures { IfOk result (λ codes. codes.items ≡ shape_codes (shape_of web.now.texts table.now (pieces_at web.now.pieces numbers.now))) }
 {
-    let mut codes = Vec::new(alloc);
     let pieces = web.pieces();
+    let mut codes = Vec::with_capacity(alloc, code_count(pieces, numbers))?;
     for number in numbers {
         add_codes(&mut codes, table, pieces[*number].items())?;
     }
@@ -162,7 +182,7 @@ fn add_names(names: &mut Vec<usize>, table: &NameTable, items: &[Item]) -> Resul
 {
     for item in items {
         if let Item::UseOf(occurrence) = *item {
-            add_name(names, table.resolve(occurrence))?;
+            add_name(names, table.resolve(occurrence.number()))?;
         }
     }
     Ok(())

@@ -15,6 +15,7 @@ mod macros;
 mod nodes;
 mod numbers;
 mod planning;
+mod runs;
 mod shapes;
 mod work;
 mod writing;

@@ -1,5 +1,5 @@
 //! Making the text and the plan of a node, item by item.
-ghost use Rattle.std.specs.Prelude.{◌≡◌, false, length, slice_index_or, ◌++◌, flat_map, filter, [], IfOk, OnOk, OnErr, ◌+◌, ◌^◌, ◌<◌};
+ghost use Rattle.std.specs.Prelude.{◌≡◌, false, length, slice_index_or, ◌++◌, flat_map, filter, [], IfOk, OnOk, OnErr, ◌+◌, ◌^◌, ◌<◌, ◌≤◌, ◌∷◌};
 ghost use Rattle.tangle_expansion.specs.Meaning.{title_of, pieces_passed, marks_passed};
 ghost use Rattle.tangle_expansion.specs.Slots.{slots, byte_slots, step_slots, IsMade, is_run, last_run};
 ghost use Rattle.std.specs.List.{All};
@@ -7,10 +7,12 @@ ghost use Rattle.tangle_scan.specs.SourceOrder.{IsInRange};
 ghost use Rattle.tangle_scan.specs.WellFormed.{IsUseBelow};
 ghost use Rattle.tangle_expansion.specs.ItemCodes.{bytes_in, pieces_bytes, pieces_names, shape_of};
 ghost use Rattle.tangle_expansion.specs.NodeTexts.{node_title, node_bytes, node_codes, node_uses, plan_slots, plan_uses, HoldsShape};
+ghost use Rattle.tangle_expansion.specs.Runs.{AddsItems};
 ghost use Rattle.tangle_expansion.specs.ItemSlots.{marks_behind_item, name_slots, item_slots, piece_slots, pieces_slots, pieces_at};
 
-use crate::codes::{ItemCode, codes_of, names_of};
+use crate::codes::{ItemCode, codes_of, names_of, text_size};
 use crate::expansion::{NodeText, Step};
+use crate::runs::{side_by_side, text_of};
 use itoa::Buffer;
 use std::alloc::Global;
 use std::marker::Model;
@@ -41,18 +43,19 @@ impl Model for Planning {
 }
 
 impl Planning {
-    /// No item yet.
-    pub(crate) fn new(alloc: Global, name: Option<Vec<u8>>) -> Self
-        ensures { result ≡ record { node = title_of name; piece = 0; marks = 0; made = []; bytes = [] } }
+    /// No item yet, and room for so many bytes.
+    pub(crate) fn new(alloc: Global, name: Option<Vec<u8>>, room: usize) -> Result<Self, NoMemory>
+        ensures { IfOk result (λ p. p ≡ record { node = title_of name; piece = 0; marks = 0; made = []; bytes = [] }) }
     {
-        Planning {
+        let text = Vec::with_capacity(alloc, room)?;
+        Ok(Planning {
             name,
-            text: Vec::new(alloc),
+            text,
             plan: Vec::new(alloc),
             piece: 0,
             marks: 0,
             start: 0,
-        }
+        })
     }
 
     /// Adds bytes that are written as they stand.
@@ -60,6 +63,14 @@ impl Planning {
         ensures { OnOk result (self.new ≡ record { node = self.old.node; piece = self.old.piece; marks = self.old.marks; made = self.old.made ++ byte_slots bytes.now; bytes = self.old.bytes ++ bytes.now }) }
     {
         self.text.extend_from_slice(bytes)?;
+        Ok(())
+    }
+
+    /// Adds a byte that is written as it stands.
+    pub(crate) fn add_byte(&mut self, byte: u8) -> Result<(), NoMemory>
+        ensures { OnOk result (self.new ≡ record { node = self.old.node; piece = self.old.piece; marks = self.old.marks; made = self.old.made ++ byte_slots (byte ∷ []); bytes = self.old.bytes ++ byte ∷ [] }) }
+    {
+        self.text.push(byte)?;
         Ok(())
     }
 
@@ -190,15 +201,45 @@ fn add_item(
         Item::Sign(span) => planning.add_bytes(web.text(span)),
         Item::Quoted(span) => planning.add_bytes(web.text(span)),
         Item::Verbatim(span) => planning.add_bytes(web.text(span)),
-        Item::QuoteBreak | Item::LineEnd => planning.add_bytes(b"\n"),
-        Item::Blank => planning.add_bytes(b" "),
+        Item::QuoteBreak | Item::LineEnd => planning.add_byte(b'\n'),
+        Item::Blank => planning.add_byte(b' '),
         Item::Code(value) => {
             let mut digits = Buffer::new();
             planning.add_bytes(digits.format(value).as_bytes())
         }
         Item::LineMark(_) => planning.add_step(Step::Mark),
-        Item::UseOf(occurrence) => add_use(planning, table.resolve(occurrence), has_piece),
+        Item::UseOf(occurrence) => add_use(planning, table.resolve(occurrence.number()), has_piece),
         Item::Defs => planning.add_step(Step::Macros),
+    }
+}
+
+/// Adds the items from the one with this number on, of a text as many as stand side by side with it, and otherwise one: the number of the item
+/// behind them.
+fn add_items(
+    planning: &mut Planning,
+    web: &Web,
+    table: &NameTable,
+    has_piece: &[bool],
+    items: &[Item],
+    at: usize,
+) -> Result<usize, NoMemory>
+    requires spans { All (IsInRange web.now.texts) items.now }
+    requires names { All (IsUseBelow (length table.now.resolved)) items.now }
+    requires at { at < length items.now }
+    ensures behind { IfOk result (λ next. at < next) }
+    ensures within { IfOk result (λ next. next ≤ length items.now) }
+    ensures added { IfOk result (λ next. AddsItems web.now.texts table.now (λ id. slice_index_or has_piece.now id false) items.now at next planning.old planning.new) }
+{
+    match text_of(items[at]) {
+        Some(first) => {
+            let (run, next) = side_by_side(web, items, at + 1, first);
+            planning.add_bytes(web.text(run))?;
+            Ok(next)
+        }
+        None => {
+            add_item(planning, web, table, has_piece, items[at])?;
+            Ok(at + 1)
+        }
     }
 }
 
@@ -221,13 +262,14 @@ pub(crate) fn add_piece(
     }) }
 {
     planning.add_step(Step::Open)?;
-    for item in items {
-        add_item(planning, web, table, has_piece, *item)?;
+    let mut at = 0;
+    while at < items.len() {
+        at = add_items(planning, web, table, has_piece, items, at)?;
     }
     planning.add_step(Step::Close)
 }
 
-/// The plan of the pieces with these numbers.
+/// The plan of the pieces with these numbers, with room for so many bytes.
 fn plan_pieces(
     alloc: Global,
     web: &Web,
@@ -235,6 +277,7 @@ fn plan_pieces(
     has_piece: &[bool],
     name: Option<Vec<u8>>,
     numbers: &[usize],
+    room: usize,
 ) -> Result<Planning, NoMemory>
     requires numbers { All (λ n. n < length web.now.pieces) numbers.now }
     requires ours { length table.now.resolved ≡ length web.now.occurrences }
@@ -243,7 +286,7 @@ fn plan_pieces(
         ≡ pieces_slots web.now.texts table.now (λ id. slice_index_or has_piece.now id false) (title_of name) 0 (pieces_at web.now.pieces numbers.now)) }
     ensures bytes { IfOk result (λ p. p.bytes ≡ pieces_bytes web.now.texts (pieces_at web.now.pieces numbers.now)) }
 {
-    let mut planning = Planning::new(alloc, name);
+    let mut planning = Planning::new(alloc, name, room)?;
     let pieces = web.pieces();
     for number in numbers {
         add_piece(
@@ -280,8 +323,9 @@ pub fn plan_node(
     ensures uses { IfOk result (λ n. node_uses n ≡ pieces_names table.now (pieces_at web.now.pieces numbers.now)) }
     ensures plan_uses { IfOk result (λ n. plan_uses n ≡ filter (λ id. slice_index_or has_piece.now id false) (pieces_names table.now (pieces_at web.now.pieces numbers.now))) }
 {
-    let planning = plan_pieces(alloc, web, table, has_piece, name, numbers)?;
     let codes = codes_of(alloc, web, table, numbers)?;
+    let room = text_size(&codes);
+    let planning = plan_pieces(alloc, web, table, has_piece, name, numbers, room)?;
     let uses = names_of(alloc, web, table, numbers)?;
     let node = planning.finish(codes, uses)?;
     Ok(node)

@@ -1,5 +1,5 @@
 //! The weight and the depth of each node.
-ghost use Rattle.std.specs.Prelude.{◌≡◌, ◌<◌, ◌≤◌, ◌+◌, ◌⊎◌, ℕ, IfOk, IfSome, length, vec_len, min, sum_by, slice_index, All, Contains, true, ◌&&◌, nat_lt, nat_le};
+ghost use Rattle.std.specs.Prelude.{◌≡◌, ◌<◌, ◌≤◌, ◌+◌, ◌-◌, ◌⊎◌, ℕ, IfOk, IfSome, length, vec_len, min, sum_by, slice_index, All, Contains, true, ◌&&◌, nat_lt, nat_le};
 ghost use Rattle.digraph.specs.Graph.{rows_of};
 ghost use Rattle.digraph.specs.Order.{IsOrder};
 ghost use Rattle.tangle_scan.specs.SourceOrder.{IsInRange};
@@ -17,7 +17,7 @@ use itoa::Buffer;
 use std::alloc::{AllocError, Global};
 use tangle_expansion::nodes_expand_by_uses;
 use tangle_names::NameTable;
-use tangle_scan::{Item, Web};
+use tangle_scan::{Item, Span, Web};
 
 /// One more than the greatest weight of a node that is expanded: what weighs more counts as this.
 pub(crate) const WEIGHT_CAP: u32 = 16_777_217;
@@ -31,6 +31,15 @@ fn weight_of_bytes(bytes: usize) -> u32
     ensures { result ≡ min weight_cap bytes }
 {
     bytes.min(WEIGHT_CAP as usize) as u32
+}
+
+/// The weight of a text that is a range of the source.
+#[tactic(auto, unfolding(tangle_expansion::specs::Limits::weight_cap))]
+fn weight_of_span(span: Span) -> u32
+    ensures weight { result ≡ span.end - span.start }
+    ensures capped { result ≤ weight_cap }
+{
+    span.end.saturating_sub(span.start) as u32
 }
 
 /// The weight of a use of a name, or of a use that is not resolved.
@@ -49,27 +58,27 @@ fn weight_of_use(weights: &[u32], name: Option<usize>) -> u32
 
 /// The weight of an item.
 #[tactic(auto, unfolding(tangle_expansion::specs::Limits::weight_cap))]
-fn weight_of_item(web: &Web, table: &NameTable, weights: &[u32], item: Item) -> u32
-    requires span { IsInRange web.now.texts item }
-    requires name { IsUseBelow (length table.now.resolved) item }
+fn weight_of_item(web: &Web, table: &NameTable, weights: &[u32], item: &Item) -> u32
+    requires span { IsInRange web.now.texts item.now }
+    requires name { IsUseBelow (length table.now.resolved) item.now }
     requires inside { ResolvesInside table.now }
     requires names { length table.now.names < length weights.now }
     requires capped { All (λ weight. weight ≤ weight_cap) weights.now }
-    ensures weight { min weight_cap result ≡ min weight_cap (weight_of_item web.now.texts table.now (λ id. slice_index weights.now id) item) }
+    ensures weight { min weight_cap result ≡ min weight_cap (weight_of_item web.now.texts table.now (λ id. slice_index weights.now id) item.now) }
     ensures capped { result ≤ weight_cap + 1 }
 {
     match item {
-        Item::Word(span) => weight_of_bytes(web.text(span).len()),
-        Item::Sign(span) => weight_of_bytes(web.text(span).len()),
-        Item::Quoted(span) => weight_of_bytes(web.text(span).len()),
-        Item::Verbatim(span) => weight_of_bytes(web.text(span).len()),
+        Item::Word(span) => weight_of_span(*span),
+        Item::Sign(span) => weight_of_span(*span),
+        Item::Quoted(span) => weight_of_span(*span),
+        Item::Verbatim(span) => weight_of_span(*span),
         Item::Code(value) => {
             let mut digits = Buffer::new();
-            weight_of_bytes(digits.format(value).len())
+            weight_of_bytes(digits.format(*value).len())
         }
         Item::UseOf(occurrence) => weight_of_use(
             weights,
-            number_of_name(table.resolve(occurrence)),
+            number_of_name(table.resolve(occurrence.number())),
         ),
         Item::QuoteBreak | Item::Blank | Item::LineEnd | Item::LineMark(_) | Item::Defs => 1,
     }
@@ -88,7 +97,7 @@ fn weight_behind(web: &Web, table: &NameTable, weights: &[u32], items: &[Item], 
 {
     let mut weight = (before + 3).min(WEIGHT_CAP);
     for item in items {
-        weight = (weight + weight_of_item(web, table, weights, *item)).min(WEIGHT_CAP);
+        weight = (weight + weight_of_item(web, table, weights, item)).min(WEIGHT_CAP);
     }
     weight
 }

@@ -77,7 +77,7 @@ fn add_use(table: &NameTable, item: Item, row: &mut Vec<usize>) -> Result<(), Al
     ensures { OnOk result (row.new.items ≡ row.old.items ++ used_by table.now item) }
 {
     if let Item::UseOf(occurrence) = item {
-        if let Some(name) = number_of_name(table.resolve(occurrence)) {
+        if let Some(name) = number_of_name(table.resolve(occurrence.number())) {
             row.push(name)?;
         }
     }

@@ -1,9 +1,13 @@
 pub mod ConstantOrder
+pub mod KeptBytes
+pub mod KeptText
 pub mod KindCells
 pub mod LexemeOrder
 pub mod NameOrder
 pub mod Points
 pub mod QuotedOrder
 pub mod RegionOrder
+pub mod SegmentPoints
+pub mod SegmentFates
 pub mod TokenOrder
 pub mod WhiteOrder

@@ -9,5 +9,6 @@ pub mod Constants
 pub mod Names
 pub mod Occurrences
 pub mod Steps
+pub mod Segments
 pub mod Heads
 pub mod Simple

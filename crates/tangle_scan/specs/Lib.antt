@@ -5,3 +5,4 @@ pub mod Gathering
 pub mod SourceOrder
 pub mod WellFormed
 pub mod LineTruth
+pub mod KeptBytes

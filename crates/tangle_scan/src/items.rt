@@ -1,6 +1,56 @@
 //! The items of pieces and macros.
+ghost use Rattle.std.specs.Prelude.{◌≡◌};
+
+use std::marker::Model;
 use tangle_lexer::Span;
 use tangle_lines::Origin;
+
+/// How many numbers the low half of an occurrence's number tells apart.
+const LOW_NUMBERS: usize = 4_294_967_296;
+
+/// The number of an occurrence, from 0. It stands as two halves, so that an item takes 12 bytes and not 16.
+#[derive(Clone, Copy, Debug, PartialEq, Eq)]
+pub struct OccurrenceNumber {
+    low: u32,
+    high: u32,
+}
+
+impl Model for OccurrenceNumber {
+    ghost use Rattle.std.specs.Prelude.{ℕ, ◌+◌, ◌*◌, ◌^◌, ◌<◌, ◌/◌, ◌%◌};
+    ghost use Rattle.std.proofs.lemmas.Nat.{mod-mul-add, div-mul-add};
+
+    ghost Value = { ℕ };
+
+    ghost view = { λ n. n.high * 2 ^ 32 + n.low };
+
+    ghost invariant = { λ n. n.low < 2 ^ 32 };
+
+    ghost inverse = { λ number. record { low = number % 2 ^ 32; high = number / 2 ^ 32 } };
+
+    ghost inverse_ok = { λ n h i. record {
+      low = mod-mul-add n.high (2 ^ 32) n.low h i;
+      high = div-mul-add n.high (2 ^ 32) n.low h i;
+    } };
+}
+
+impl OccurrenceNumber {
+    /// The number in two halves.
+    pub(crate) fn new(number: usize) -> Self
+        ensures { result ≡ number }
+    {
+        OccurrenceNumber {
+            low: (number % LOW_NUMBERS) as u32,
+            high: (number / LOW_NUMBERS) as u32,
+        }
+    }
+
+    /// The number, as `NameTable::resolve` takes it.
+    pub fn number(self) -> usize
+        ensures { result ≡ self }
+    {
+        self.high as usize * LOW_NUMBERS + self.low as usize
+    }
+}
 
 /// What a piece or a macro is made of. The text of an item with a span is that range of the source.
 #[derive(Clone, Copy, Debug, PartialEq, Eq)]
@@ -24,7 +74,7 @@ pub enum Item {
     /// Here the compiler is told this place.
     LineMark(Origin),
     /// A use of a section name, by the number of its occurrence.
-    UseOf(usize),
+    UseOf(OccurrenceNumber),
     /// All macros of the web.
     Defs,
 }

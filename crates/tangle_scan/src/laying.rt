@@ -10,7 +10,7 @@ ghost use Rattle.tangle_scan.specs.Passes.{counts, items_ahead, unmarked_from};
 ghost use Rattle.tangle_lexer.specs.declared.tokens.Token.{Token};
 ghost use Rattle.tangle_scan.specs.declared.items.Item.TheVariants as item;
 
-use crate::items::Item;
+use crate::items::{Item, OccurrenceNumber};
 use crate::spacing::is_rare;
 use tangle_lexer::{Span, TextKind, Token, place_at};
 use tangle_lines::{NoMemory, Origin, Source};
@@ -160,7 +160,7 @@ fn put_item(
 {
     match token {
         Token::UseOf(number, line) => {
-            items.push(Item::UseOf(number))?;
+            items.push(Item::UseOf(OccurrenceNumber::new(number)))?;
             put_mark(items, place_at(source, line))
         }
         Token::Defs(line) => {

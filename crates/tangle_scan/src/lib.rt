@@ -3,6 +3,7 @@
 
 mod gathering;
 mod items;
+mod kept_bytes;
 mod laying;
 mod line_truth;
 mod pieces;
@@ -10,7 +11,8 @@ mod scanning;
 mod spacing;
 mod webs;
 
-pub use items::Item;
+pub use items::{Item, OccurrenceNumber};
+pub use kept_bytes::no_byte_is_lost;
 pub use line_truth::pieces_stand_at_their_lines;
 pub use pieces::{Macro, Piece};
 pub use scanning::scan;

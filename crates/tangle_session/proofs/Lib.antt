@@ -1,5 +1,6 @@
 mod OutputLemmas
 mod TangleLemmas
+mod GroundLemmas
 mod EditLemmas
 mod LawLemmas
 mod NameLemmas

@@ -1,61 +1,37 @@
 -- What a session holds of the files, by the parts that are made one after another.
-use Rattle.std.proofs.Common.{◌≡◌, ◌∙◌, ◌+◌, ◌≤◌, ◌&&◌, ◌++◌, suc, arith, not, ℕ, Bool, true, false, List, [], ◌∷◌, length, refl, ap, sym, subst, cond, Bor, Vec, append_assoc, Contains}
-use Rattle.std.specs.Global.{Global}
+use Rattle.std.proofs.Common.{◌≡◌, ◌∙◌, ◌+◌, ◌≤◌, ◌&&◌, suc, arith, not, ℕ, Bool, true, false, List, [], ◌∷◌, length, refl, ap, sym, subst, cond, Bor, Contains}
 use Rattle.std.specs.List.{position_or_len}
 use Rattle.std.specs.Option.{option_copied, option_map}
 use Rattle.std.specs.Str.{bytes_eq}
 use Rattle.std.proofs.lemmas.Bool.Decides.{nat_tests}
 use Rattle.std.specs.Prelude.{if◌then◌else◌, nat_lt, Option, Some, None, is_some, Ok, Err, find}
 use Rattle.tangle_streams.specs.Streams.{Stream, PutsOut}
-use Rattle.tangle_lines.specs.Faults.{Finding}
 use Rattle.tangle_lines.specs.Lines.{FileTable, lines_of}
-use Rattle.tangle_lines.specs.Reading.{SourceRead, source_of}
+use Rattle.tangle_lines.specs.Reading.{SourceRead}
 use Rattle.tangle_lines.specs.Roles.{RoleNames, is_there, is_there_if_any, fits}
 use Rattle.tangle_lines.specs.declared.refusal.Refusal.TheVariants.{NoWeb, NoChange}
 use Rattle.tangle_lines.specs.declared.refusal.Refusal.TheVariants as refusal
 use Rattle.tangle_scan.specs.LineTruth.{PiecesStandAtTheirLines}
-use Rattle.tangle_scan.specs.Web.{WebRead, web_of}
-use Rattle.tangle_names.specs.NameTable.{TableRead, table_of}
+use Rattle.tangle_scan.specs.Web.{WebRead}
+use Rattle.tangle_names.specs.NameTable.{table_of}
 use Rattle.tangle_expansion.specs.Affected.{IsAffected}
 use Rattle.tangle_expansion.specs.Limits.{levels, heaviest, flat_of, IsExpandableNode}
-use Rattle.tangle_expansion.specs.Numbers.{NumbersRead, numbers_of, text}
+use Rattle.tangle_expansion.specs.Numbers.{numbers_of, text}
 use Rattle.tangle_expansion.specs.Outputs.{OutputRead, IsReady, IsTrueToLines, output_text}
-use Rattle.tangle_expansion.specs.Projects.{project, ResolvesInside}
+use Rattle.tangle_expansion.specs.Projects.{ResolvesInside}
 use Rattle.tangle_expansion.specs.Shapes.{Title, Project}
 use Rattle.tangle_expansion.specs.declared.nodes.Node.{Node}
-use Rattle.tangle_graph.specs.Faults.{AreGraphFaults}
 use Rattle.tangle_graph.specs.Nodes.{IsNodeOf, title_of_node}
 use Rattle.tangle_graph.specs.Outputs.{outputs}
 use Rattle.tangle_graph.specs.Stores.{StoreRead, IsStoreOf}
 use Rattle.tangle_session.specs.Files.{project_of, output_bytes, source_at, web_at}
 use Rattle.tangle_affected.specs.Affected as affected
 use Rattle.tangle_affected.specs.Keeping as keeping
-use Rattle.tangle_session.specs.Sessions.{Holds, IsGroundOf, IsGroundAt, ListsAffected, ListsExpandable, start_refusal}
+use Rattle.tangle_session.specs.Sessions.{Holds, ListsAffected, ListsExpandable, start_refusal}
 use Rattle.tangle_session.specs.Tangle.{output_at}
 use Rattle.tangle_session.specs.Writes.{IsTrueFile, WritesOutput}
-use Rattle.tangle_session.specs.declared.ground.Ground.{Ground}
 use Rattle.tangle_session.specs.declared.tangling.Tangled.{Tangled}
 use Rattle.tangle_session.proofs.OutputLemmas.{IsFit, found_in, look_up, outputs_fit, ready, same_text}
-
--- what a store says of its nodes stays, where its faults are taken
-pub faults_apart : (p : Project) (store : StoreRead) (faults : List Finding) → IsStoreOf p store → IsStoreOf p (record store { faults = faults })
-faults_apart p store faults is = record {
-  once = is.once;
-  known = is.known;
-  used = is.used;
-  has_piece = is.has_piece;
-  uses = is.uses;
-  users = is.users;
-  uses_once = is.uses_once;
-  users_once = is.users_once;
-  contains_itself = is.contains_itself;
-  weights = is.weights;
-  depths = is.depths;
-  expandable = is.expandable;
-  plan_uses = λ a id inside c. (let u = is.plan_uses a id inside c in record { inside = u.inside; uses = u.uses; has_piece = u.has_piece });
-  plans = λ a parts inside low right. is.plans a parts inside low (λ id u. right id (record { inside = u.inside; uses = u.uses; has_piece = u.has_piece }));
-  shapes = is.shapes;
-}
 
 -- the list of the store's nodes, as one of the web's
 pub lists_nodes : (web : WebRead) (store : StoreRead) (nodes : List Node) → IsStoreOf (project_of web) store → store.names ≡ (table_of web).names → keeping.ListsExpandable store nodes → ListsExpandable web nodes
@@ -142,53 +118,6 @@ fit_to_start files roles e = by (is_there files roles.web) (is_there_if_any file
 pub some_copied : {X : Type 0} (o : Option (Bor X)) → is_some (option_copied o) ≡ is_some o
 some_copied None = refl
 some_copied (Some x) = refl
-
-pub faults_joined : (s w t g a b c : List Finding) → a ≡ s ++ w → b ≡ a ++ t → c ≡ b ++ g → c ≡ s ++ (w ++ (t ++ g))
-faults_joined s w t g a b c first second third =
-    third ∙ ap (λ l. l ++ g) (second ∙ ap (λ l. l ++ t) first) ∙ append_assoc (s ++ w) t g ∙ append_assoc s w (t ++ g)
-
-pub at_source : (files : FileTable) (roles : RoleNames) (source : SourceRead) → source ≡ source_of files roles → source ≡ source_at files roles
-unfolding source_at
-at_source files roles source e = e
-
-pub at_web : (files : FileTable) (roles : RoleNames) (source : SourceRead) (web : WebRead) → source ≡ source_of files roles → web ≡ web_of source → web ≡ web_at files roles
-unfolding web_at
-at_web files roles source web e is = is ∙ ap web_of (at_source files roles source e)
-
-module _ (files : FileTable) (roles : RoleNames) (source : SourceRead) (web : WebRead) (table : TableRead) (out : List ℕ)
-    (source_is : source ≡ source_of files roles) (web_is : web ≡ web_of source) (table_is : table ≡ table_of web) (out_is : out ≡ roles.out)
-    (store : StoreRead) (is : IsStoreOf (project web table) store) where
-  pub store_of_web : IsStoreOf (project_of web) store
-  store_of_web = subst (λ t. IsStoreOf (project web t) store) table_is is
-
-  module _ (rest : StoreRead) (rest_table : TableRead) (numbers : NumbersRead) (faults : Vec Finding Global) (names : store.names ≡ table.names) (files_are : store.outputs ≡ outputs web table out)
-      (of_graph : AreGraphFaults web table out store.faults) (numbers_are : numbers ≡ numbers_of web (table_of web))
-      (truth : PiecesStandAtTheirLines source web) (rest_is : rest ≡ record store { faults = [] }) (rest_table_is : rest_table ≡ record table { faults = [] })
-      (list : faults.items ≡ source.faults ++ (web.faults ++ (table.faults ++ store.faults))) where
-    abbrev whole : Ground
-    whole = record { table = rest_table; store = rest; numbers = numbers; faults = faults }
-
-    made : IsGroundOf source web out (record { table = rest_table; store = record store { faults = [] }; numbers = numbers; faults = faults })
-    made = record {
-      names = ap (λ (t : TableRead). t.names) rest_table_is ∙ ap (λ (t : TableRead). t.names) table_is;
-      store = faults_apart (project_of web) store [] store_of_web;
-      store_names = names ∙ ap (λ (t : TableRead). t.names) table_is;
-      outputs_are = files_are ∙ ap (λ t. outputs web t out) table_is;
-      numbers = numbers_are;
-      faults = record {
-        of_graph = store.faults;
-        is_graph = subst (λ t. AreGraphFaults web t out store.faults) table_is of_graph;
-        list = list ∙ ap (λ (t : TableRead). source.faults ++ (web.faults ++ (t.faults ++ store.faults))) table_is;
-      };
-      line_truth = truth;
-    }
-
-    pub grounds : IsGroundAt files roles (record { table = rest_table; store = rest; numbers = numbers; faults = faults })
-    grounds =
-        subst (λ s. IsGroundOf s (web_at files roles) roles.out whole) (at_source files roles source source_is)
-        (subst (λ w. IsGroundOf source w roles.out whole) (at_web files roles source web source_is web_is)
-        (subst (λ o. IsGroundOf source web o whole) out_is
-        (subst (λ r. IsGroundOf source web out (record { table = rest_table; store = r; numbers = numbers; faults = faults })) (sym rest_is) made)))
 
 -- What is found by a name, where what is held is what the files make.
 module _ (files : FileTable) (roles : RoleNames) (tangled : Tangled) (hold : Holds files roles tangled) (name : List ℕ) where

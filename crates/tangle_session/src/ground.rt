@@ -1,6 +1,12 @@
 //! The ground of tangling: what is known of a web before a node of it is expanded.
-ghost use Rattle.std.specs.Prelude.{◌≡◌, true, IfOk};
+ghost use Rattle.std.specs.Prelude.{◌≡◌, ◌++◌, [], true, IfOk, OnOk};
 ghost use Rattle.tangle_lines.specs.Roles.{fits};
+ghost use Rattle.tangle_names.specs.NameTable.{table_of};
+ghost use Rattle.tangle_expansion.specs.Numbers.{numbers_of};
+ghost use Rattle.tangle_graph.specs.Faults.{AreGraphFaults};
+ghost use Rattle.tangle_graph.specs.Outputs.{outputs};
+ghost use Rattle.tangle_graph.specs.Stores.{IsStoreOf};
+ghost use Rattle.tangle_session.specs.Files.{project_of};
 ghost use Rattle.tangle_session.specs.Sessions.{IsGroundAt};
 
 use std::alloc::Global;
@@ -8,7 +14,7 @@ use tangle_expansion::Numbers;
 use tangle_graph::Store;
 use tangle_lines::{Fault, Files, NoMemory, Roles, read_source};
 use tangle_names::NameTable;
-use tangle_scan::scan;
+use tangle_scan::{Web, scan};
 
 /// The names, the store and the numbers of a web, and the faults of its files.
 #[derive(Drop)]
@@ -20,6 +26,45 @@ pub(crate) struct Ground {
 }
 
 impl Ground {
+    /// What a web is made into, for a main file of this name. The faults are those of names as yet; the store has those of the graph.
+    fn of_web(alloc: Global, web: &Web, out: &[u8]) -> Result<Ground, NoMemory>
+        ensures names { IfOk result (λ made. made.table.names ≡ (table_of web.now).names) }
+        ensures store { IfOk result (λ made. IsStoreOf (project_of web.now) made.store) }
+        ensures store_names { IfOk result (λ made. made.store.names ≡ (table_of web.now).names) }
+        ensures outputs { IfOk result (λ made. made.store.outputs ≡ outputs web.now (table_of web.now) out.now) }
+        ensures numbers { IfOk result (λ made. made.numbers ≡ numbers_of web.now (table_of web.now)) }
+        ensures of_names { IfOk result (λ made. made.faults.items ≡ (table_of web.now).faults) }
+        ensures of_graph { IfOk result (λ made. AreGraphFaults web.now (table_of web.now) out.now made.store.faults) }
+    {
+        let mut table = NameTable::build(alloc, web)?;
+        let store = Store::build(alloc, web, &table, out)?;
+        let numbers = Numbers::build(alloc, web, &store)?;
+        let faults = table.take_faults();
+        Ok(Ground {
+            table,
+            store,
+            numbers,
+            faults,
+        })
+    }
+
+    /// Puts the faults of a source and of its web before those of names, and those of the store, which has none from then on, behind them.
+    fn join_faults(
+        &mut self,
+        mut faults: Vec<Fault>,
+        mut of_web: Vec<Fault>,
+    ) -> Result<(), NoMemory>
+        ensures faults { OnOk result (self.new.faults.items ≡ faults.items ++ (of_web.items ++ (self.old.faults.items ++ self.old.store.faults))) }
+        ensures others { OnOk result (self.new ≡ record self.old { faults = self.new.faults; store = record self.old.store { faults = [] } }) }
+    {
+        let mut of_graph = self.store.take_faults();
+        faults.append(&mut of_web)?;
+        faults.append(&mut self.faults)?;
+        faults.append(&mut of_graph)?;
+        self.faults = faults;
+        Ok(())
+    }
+
     /// Reads and scans the files, which have the web and the change file that is named.
     pub(crate) fn build(alloc: Global, files: &Files, roles: &Roles) -> Result<Ground, NoMemory>
         requires { fits files.now roles.now ≡ true }
@@ -27,21 +72,10 @@ impl Ground {
     {
         let source = read_source(alloc, files, roles)?;
         let web = scan(alloc, &source)?;
-        let mut table = NameTable::build(alloc, &web)?;
-        let mut store = Store::build(alloc, &web, &table, roles.out())?;
-        let numbers = Numbers::build(alloc, &web, &store)?;
-        let mut of_names = table.take_faults();
-        let mut of_graph = store.take_faults();
-        let mut of_web = web.into_faults();
-        let mut faults = source.into_faults();
-        faults.append(&mut of_web)?;
-        faults.append(&mut of_names)?;
-        faults.append(&mut of_graph)?;
-        Ok(Ground {
-            table,
-            store,
-            numbers,
-            faults,
-        })
+        let mut ground = Ground::of_web(alloc, &web, roles.out())?;
+        let of_web = web.into_faults();
+        let of_source = source.into_faults();
+        ground.join_faults(of_source, of_web)?;
+        Ok(ground)
     }
 }

@@ -152,8 +152,7 @@ impl Session {
         if let Some(refusal) = refusal_to_apply(&self.tangled.files, &self.roles, edit) {
             return Err(refusal);
         }
-        let work = Work::new(self.alloc);
-        let next = tangle_again(self.alloc, &self.tangled, &self.roles, edit, work)?;
+        let next = tangle_again(self.alloc, &self.tangled, &self.roles, edit)?;
         self.tangled = next;
         Ok(())
     }

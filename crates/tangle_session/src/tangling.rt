@@ -1,11 +1,12 @@
 //! Files with what tangling makes of them: what a session holds besides its roles.
-ghost use Rattle.std.specs.Prelude.{◌≡◌, [], None, find, IfOk};
+ghost use Rattle.std.specs.Prelude.{◌≡◌, true, None, find, IfOk};
 ghost use Rattle.std.specs.Option.{option_copied};
 ghost use Rattle.std.specs.Str.{bytes_eq};
 ghost use Rattle.tangle_lines.specs.Edited.{edited};
+ghost use Rattle.tangle_lines.specs.Roles.{RoleNames, fits};
 ghost use Rattle.tangle_session.specs.Edits.{session_refusal};
 ghost use Rattle.tangle_session.specs.Files.{web_at};
-ghost use Rattle.tangle_session.specs.Sessions.{Holds, ListsAffected};
+ghost use Rattle.tangle_session.specs.Sessions.{Holds, IsGroundAt, ListsAffected};
 
 use crate::ground::Ground;
 use std::alloc::Global;
@@ -47,23 +48,21 @@ fn edited_copy(files: &Files, edit: &Edit) -> Result<Files, NoMemory>
     }
 }
 
-/// What is held after an edit that isn't refused: the files are tangled anew, over the expansions that are kept.
-pub(crate) fn tangle_again(
+/// What is held with this ground of the files, over the expansions that were kept.
+fn expand_over(
     alloc: Global,
     old: &Tangled,
-    roles: &Roles,
-    edit: &Edit,
-    mut work: Work,
+    files: Files,
+    ground: Ground,
 ) -> Result<Tangled, NoMemory>
-    requires held { Holds old.now.files roles.now old.now }
-    requires taken { None ≡ session_refusal old.now.files roles.now edit.now }
-    requires fresh { work ≡ [] }
-    ensures files { IfOk result (λ new. new.files ≡ edited old.now.files edit.now) }
-    ensures held { IfOk result (λ new. Holds new.files roles.now new) }
-    ensures work { IfOk result (λ new. ListsAffected (web_at old.now.files roles.now) (web_at new.files roles.now) new.work) }
+    requires { (roles : RoleNames) × Holds old.now.files roles old.now × IsGroundAt files roles ground }
+    ensures files { IfOk result (λ new. new.files ≡ files) }
+    ensures held { (roles : RoleNames) → Holds old.now.files roles old.now → IsGroundAt files roles ground → fits files roles ≡ true
+        → IfOk result (λ new. Holds new.files roles new) }
+    ensures work { (roles : RoleNames) → Holds old.now.files roles old.now → IsGroundAt files roles ground
+        → IfOk result (λ new. ListsAffected (web_at old.now.files roles) (web_at new.files roles) new.work) }
 {
-    let files = edited_copy(&old.files, edit)?;
-    let ground = Ground::build(alloc, &files, roles)?;
+    let mut work = Work::new(alloc);
     let kept = expand_again(
         alloc,
         &old.ground.store,
@@ -79,4 +78,22 @@ pub(crate) fn tangle_again(
         kept,
         work,
     })
+}
+
+/// What is held after an edit that isn't refused: the files are tangled anew, over the expansions that are kept.
+pub(crate) fn tangle_again(
+    alloc: Global,
+    old: &Tangled,
+    roles: &Roles,
+    edit: &Edit,
+) -> Result<Tangled, NoMemory>
+    requires held { Holds old.now.files roles.now old.now }
+    requires taken { None ≡ session_refusal old.now.files roles.now edit.now }
+    ensures files { IfOk result (λ new. new.files ≡ edited old.now.files edit.now) }
+    ensures held { IfOk result (λ new. Holds new.files roles.now new) }
+    ensures work { IfOk result (λ new. ListsAffected (web_at old.now.files roles.now) (web_at new.files roles.now) new.work) }
+{
+    let files = edited_copy(&old.files, edit)?;
+    let ground = Ground::build(alloc, &files, roles)?;
+    expand_over(alloc, old, files, ground)
 }

@@ -86,7 +86,9 @@ fn show(alloc: Global, shown: &mut Vec<u8>, web: &Web, item: Item) -> Result<(),
             shown.extend_from_slice(web.file_name(origin))?;
             shown.extend_from_slice(format!(in alloc; ":{}", origin.line)?.as_bytes())?;
         }
-        Item::UseOf(number) => shown.extend_from_slice(format!(in alloc; "{number}")?.as_bytes())?,
+        Item::UseOf(occurrence) => {
+            shown.extend_from_slice(format!(in alloc; "{}", occurrence.number())?.as_bytes())?;
+        }
         _ => {}
     }
     shown.push(b' ')?;

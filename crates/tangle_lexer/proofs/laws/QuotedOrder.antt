@@ -23,7 +23,7 @@ use Rattle.tangle_lexer.proofs.laws.TokenOrder.{StandInOrder, IsFrom, span_end, 
 use Rattle.tangle_lexer.proofs.laws.RegionOrder.{walked-more, walked-add, holds-byte, are-bytes, goes-byte, faults-in_order, end-precedes}
 
 -- a backslash is no @
-no-at_sign : (b : Option ℕ) → holds backslash b ≡ true → holds at_sign b ≡ false
+pub no-at_sign : (b : Option ℕ) → holds backslash b ≡ true → holds at_sign b ≡ false
 no-at_sign None h = cc
 no-at_sign (Some b) h =
     elim (eqb_tells b backslash) [
@@ -33,7 +33,7 @@ no-at_sign (Some b) h =
 
 -- where two cells belong together of which the second is a line end, the first is a backslash
 
-quoted-takes : (close : ℕ) (b : Option ℕ) → quoted_unit close b None ≡ unit.Two → holds backslash b ≡ true
+pub quoted-takes : (close : ℕ) (b : Option ℕ) → quoted_unit close b None ≡ unit.Two → holds backslash b ≡ true
 quoted-takes close None e = cc
 quoted-takes close (Some b) e = by (nat_eq b close) (nat_eq b at_sign) (nat_eq b backslash) e
   where
@@ -44,7 +44,7 @@ quoted-takes close (Some b) e = by (nat_eq b close) (nat_eq b at_sign) (nat_eq b
     by false true false e = cc
     by false false false e = cc
 
-include-takes : (b : Option ℕ) → unit_of region.IncludeName b None ≡ unit.Two → holds backslash b ≡ true
+pub include-takes : (b : Option ℕ) → unit_of region.IncludeName b None ≡ unit.Two → holds backslash b ≡ true
 include-takes None e = cc
 include-takes (Some b) e = absurd (by (nat_eq b greater_sign) (nat_eq b at_sign) e)
   where
@@ -54,7 +54,7 @@ include-takes (Some b) e = absurd (by (nat_eq b greater_sign) (nat_eq b at_sign)
     by false true e = cc
     by false false e = cc
 
-verbatim-takes : (b : Option ℕ) → unit_of region.Verbatim b None ≡ unit.Two → holds backslash b ≡ true
+pub verbatim-takes : (b : Option ℕ) → unit_of region.Verbatim b None ≡ unit.Two → holds backslash b ≡ true
 verbatim-takes None e = cc
 verbatim-takes (Some b) e = absurd (by (nat_eq b at_sign) e)
   where

@@ -62,7 +62,7 @@ white-bytes text = region-bytes region.White (λ n. refl) (λ b n h. absurd (nev
 constant-bytes : (text : List Cell) → HoldsBytes (count_before region.BadConstant 0 text) text
 constant-bytes text = region-bytes region.BadConstant (λ n. refl) (λ b n h. absurd (never-two _ h)) text
 
-line_comment-bytes : (text : List Cell) → HoldsBytes (count_before region.LineComment 0 text) text
+pub line_comment-bytes : (text : List Cell) → HoldsBytes (count_before region.LineComment 0 text) text
 line_comment-bytes text = region-bytes region.LineComment (λ n. refl) line_comment-stays text
 
 -- one byte more, where it stands there

@@ -34,7 +34,7 @@ all-in_order lines =
     lexemes-in_order (width lines) (length lines) 0 (at_first (length lines)) (text_from 0 lines) (spot 0 0) refl
     (text-is (width lines) (length lines) 0 lines (omega arith) (λ k lt. ap (width lines) (sym (zero-add k))))
 
-flat_map-twice : {A B C : Type 0} (f : B → List C) (g : A → List B) (xs : List A) → flat_map f (flat_map g xs) ≡ flat_map (λ x. flat_map f (g x)) xs
+pub flat_map-twice : {A B C : Type 0} (f : B → List C) (g : A → List B) (xs : List A) → flat_map f (flat_map g xs) ≡ flat_map (λ x. flat_map f (g x)) xs
 flat_map-twice f g [] = refl
 flat_map-twice f g (x ∷ xs) = flat_map-append f (g x) (flat_map g xs) ∙ ap (λ zs. flat_map f (g x) ++ zs) (flat_map-twice f g xs)
 
@@ -68,7 +68,7 @@ module _ (lines : List Line) where
   all-ordered : AreOrdered (width lines) (length lines) (token_spans (all_tokens lines))
   all-ordered = let ordered = all-in_order lines in in_order-ordered (width lines) (length lines) false (spot 0 0) (all_tokens lines) ordered.stays ordered.to ordered.ordered
 
-  pieces-ordered : AreOrdered (width lines) (length lines) (flat_map (λ q. item_spans q.items) (flat_map (piece_of lines) (blocks 0 (all_tokens lines))))
+  pub pieces-ordered : AreOrdered (width lines) (length lines) (flat_map (λ q. item_spans q.items) (flat_map (piece_of lines) (blocks 0 (all_tokens lines))))
   pieces-ordered =
       rw (flat_map-twice (λ q. item_spans q.items) (piece_of lines) (blocks 0 (all_tokens lines)))
       (some-ordered (width lines) (length lines) piece_spans piece_picks 0 (all_tokens lines) all-ordered)

@@ -8,6 +8,8 @@ use Rattle.tangle_scan.specs.declared.items.Item.{Item}
 use Rattle.tangle_scan.specs.declared.items.Item.TheVariants as item
 use Rattle.tangle_lexer.specs.declared.occurrences.OccurrenceRole.TheVariants as role
 use Rattle.tangle_lexer.specs.Steps.{lexeme, tokens_from, names_from}
+use Rattle.tangle_lexer.specs.Segments.{Fate, all_segments}
+use Rattle.tangle_lexer.specs.Segments.Fate.{Kept, SecondSign, LineEnd, WhiteSpace, Comment, ControlText, Code, SectionName, Constant, Outside}
 use Rattle.tangle_scan.specs.Rules.{span_text}
 use Rattle.tangle_scan.specs.Web.{WebRead, web_of}
 
@@ -411,3 +413,23 @@ pub abbreviated_occurrences : (web abbreviated).occurrences
     ∷ record { text = codes "Init table"; is_abbreviation = false; is_file = false; role = role.Definition; place = record { file = 0; line = 6 } } ∷ []
 unfolding lexeme tokens_from names_from
 abbreviated_occurrences = refl
+
+-- what becomes of each byte and line end of a text
+
+abbrev fate_letter : Fate → List ℕ
+fate_letter Kept = codes "k"
+fate_letter SecondSign = codes "s"
+fate_letter LineEnd = codes "l"
+fate_letter WhiteSpace = codes "w"
+fate_letter Comment = codes "c"
+fate_letter ControlText = codes "t"
+fate_letter Code = codes "@"
+fate_letter SectionName = codes "n"
+fate_letter Constant = codes "a"
+fate_letter Outside = codes "."
+
+pub fates_of_bytes :
+    flat_map (λ s. flat_map (λ c. fate_letter s.fate) s.cells) (all_segments (lines_from 1 (codes "@ A." ∷ codes "@c a@@b/*c*/ \"x@@y\"" ∷ codes "@<N@>@'x'@^i@>@=v@>" ∷ [])))
+    ≡ codes "....." ++ codes "..wkkskcccccwkkkskkl" ++ codes "nnnnnaaaattttt@@k@@l"
+unfolding lexeme
+fates_of_bytes = refl

@@ -1,7 +1,9 @@
 use Rattle.std.proofs.Common.{◌≡◌, false, true, refl, sym, ◌∙◌}
-use Rattle.std.proofs.lemmas.Result.{IfErr-weaker}
+use Rattle.std.proofs.lemmas.Result.{IfErr-weaker, on_ok_weaker}
 use Rattle.tangle_lines.specs.Adding.{has_file, is_name}
+use Rattle.ctangle_cli.specs.Tries.{tried}
 use Rattle.ctangle_cli.specs.Loading.{ending_of}
+use Rattle.ctangle_cli.proofs.AskLemmas.{always_err, asks_this, stops_at, stops_short, tries_absent, tries_added, tries_this, untried}
 use Rattle.ctangle_cli.proofs.LoadLemmas.{stops_along, included_bytes, absent_adds_none}
 use Rattle.ctangle_cli.proofs.loading.read_inclusion.Goals as goal
 
@@ -25,3 +27,53 @@ returns-then-contains-clause-ok g c = (
 
 pub returns-in-Ok-clause-told : goal.returns-in-Ok-clause-told
 returns-in-Ok-clause-told g c = IfErr-weaker c.add_file.result _ _ (λ fault told. told _) c.add_file.ensures.told
+
+pub returns-in-Ok-clause-asks : goal.returns-in-Ok-clause-asks
+returns-in-Ok-clause-asks g c =
+    let old = tried (g.F.Folder.asked c.args.folder.now) c.args.files.now c.args.absent.now in
+    let new = tried (g.F.Folder.asked c.read_file.new.self) c.add_file.new.files c.args.absent.now in
+    on_ok_weaker c.add_file.result
+    (λ ok. asks_this old new c.args.name.now (untried _ _ (sym c.has.ensures ∙ c.if-has.false) (sym c.contains.ensures ∙ c.if-contains.false)) c.in-Ok.ensures.asks
+    (tries_added old.asked new.asked c.args.files.now c.add_file.new.files c.args.absent.now c.args.name.now c.in-Ok.bytes.items (rw c.as_slice.ensures.value at ok)))
+    c.add_file.ensures.ok
+
+pub returns-in-Ok-clause-tries : goal.returns-in-Ok-clause-tries
+returns-in-Ok-clause-tries g c =
+    let old = tried (g.F.Folder.asked c.args.folder.now) c.args.files.now c.args.absent.now in
+    let new = tried (g.F.Folder.asked c.read_file.new.self) c.add_file.new.files c.args.absent.now in
+    on_ok_weaker c.add_file.result
+    (λ ok. tries_this old new c.args.name.now
+    (tries_added old.asked new.asked c.args.files.now c.add_file.new.files c.args.absent.now c.args.name.now c.in-Ok.bytes.items (rw c.as_slice.ensures.value at ok)))
+    c.add_file.ensures.ok
+
+pub returns-in-Ok-clause-stops : goal.returns-in-Ok-clause-stops
+returns-in-Ok-clause-stops g c = always_err c.add_file.result
+    (stops_at _ _ c.args.name.now (untried _ _ (sym c.has.ensures ∙ c.if-has.false) (sym c.contains.ensures ∙ c.if-contains.false)) c.in-Ok.ensures.asks)
+
+pub returns-in_ok-insert-in-Err-Missing-clause-asks : goal.returns-in_ok-insert-in-Err-Missing-clause-asks
+returns-in_ok-insert-in-Err-Missing-clause-asks g c =
+    let old = tried (g.F.Folder.asked c.args.folder.now) c.args.files.now c.args.absent.now in
+    let new = tried (g.F.Folder.asked c.read_file.new.self) c.args.files.now c.insert.new.self in
+    asks_this old new c.args.name.now (untried _ _ (sym c.has.ensures ∙ c.if-has.false) (sym c.contains.ensures ∙ c.if-contains.false))
+    (rw c.in-Err-Missing.field-0-is at c.in-Err-Missing.ensures.asks)
+    (tries_absent old.asked new.asked c.args.files.now c.args.absent.now c.insert.new.self c.args.name.now c.in_ok-insert-in-Err-Missing.ensures.holds)
+
+pub returns-in_err-insert-in-Err-Missing-clause-stops : goal.returns-in_err-insert-in-Err-Missing-clause-stops
+returns-in_err-insert-in-Err-Missing-clause-stops g c = always_err _
+    (stops_at _ _ c.args.name.now (untried _ _ (sym c.has.ensures ∙ c.if-has.false) (sym c.contains.ensures ∙ c.if-contains.false))
+    (rw c.in-Err-Missing.field-0-is at c.in-Err-Missing.ensures.asks))
+
+pub returns-in-Err-TooBig-clause-stops : goal.returns-in-Err-TooBig-clause-stops
+returns-in-Err-TooBig-clause-stops g c =
+    stops_at _ _ c.args.name.now (untried _ _ (sym c.has.ensures ∙ c.if-has.false) (sym c.contains.ensures ∙ c.if-contains.false))
+    (rw c.in-Err-TooBig.field-0-is at c.in-Err-TooBig.ensures.asks)
+
+pub returns-in-Err-Failed-clause-stops : goal.returns-in-Err-Failed-clause-stops
+returns-in-Err-Failed-clause-stops g c =
+    stops_at _ _ c.args.name.now (untried _ _ (sym c.has.ensures ∙ c.if-has.false) (sym c.contains.ensures ∙ c.if-contains.false))
+    (rw c.in-Err-Failed.field-0-is at c.in-Err-Failed.ensures.asks)
+
+pub returns-in-Err-NoMemory-clause-stops : goal.returns-in-Err-NoMemory-clause-stops
+returns-in-Err-NoMemory-clause-stops g c =
+    stops_short _ _ c.args.name.now (untried _ _ (sym c.has.ensures ∙ c.if-has.false) (sym c.contains.ensures ∙ c.if-contains.false))
+    (rw c.in-Err-NoMemory.field-0-is at c.in-Err-NoMemory.ensures.asks)

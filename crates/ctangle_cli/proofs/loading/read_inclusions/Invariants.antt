@@ -1,6 +1,8 @@
 use Rattle.std.proofs.Common.{◌≡◌, drop}
 use Rattle.std.specs.Prelude.{IfSome}
 use Rattle.ctangle_cli.specs.Loading.{AreAbsent, Grows, missed_in, with_inclusions}
+use Rattle.ctangle_cli.specs.Tries.{TriesStay, tried}
+use Rattle.ctangle_cli.proofs.AskLemmas.{AsksSoFar, TriesSoFar}
 use Rattle.ctangle_cli.proofs.loading.read_inclusions.Given as goal
 
 abbrev pub invariant-loop-fault : goal.invariant-loop-fault
@@ -11,4 +13,7 @@ invariant-loop-fault g l = record {
   grows : Grows l.initial.files l.files;
   files_stay : g.F.Folder.files l.folder ≡ g.F.Folder.files l.initial.folder;
   created_stay : g.F.Folder.created l.folder ≡ g.F.Folder.created l.initial.folder;
+  asks : AsksSoFar (tried (g.F.Folder.asked l.initial.folder) l.initial.files l.initial.absent) (tried (g.F.Folder.asked l.folder) l.files l.absent) (missed_in l.faults) (missed_in (drop l.fault-index l.faults));
+  tries : TriesSoFar (tried (g.F.Folder.asked l.folder) l.files l.absent) (missed_in l.faults) (missed_in (drop l.fault-index l.faults));
+  stay : TriesStay (tried (g.F.Folder.asked l.initial.folder) l.initial.files l.initial.absent) (tried (g.F.Folder.asked l.folder) l.files l.absent);
 }

@@ -1,6 +1,7 @@
-use Rattle.std.proofs.Common.{◌≡◌, ◌-◌, length, true}
+use Rattle.std.proofs.Common.{◌≡◌, ◌-◌, ℕ, List, [], Option, length, true}
 use Rattle.std.specs.Prelude.{IfSome}
 use Rattle.ctangle_cli.specs.Loading.{AreAbsent, rounds_from}
+use Rattle.ctangle_cli.specs.Tries.{RoundsOnce, tried}
 use Rattle.tangle_lines.specs.Roles.{fits}
 use Rattle.ctangle_cli.proofs.loading.read_rounds.Given as goal
 
@@ -12,6 +13,8 @@ invariant-loop-absent g l = record {
   unfailed : g.F.Folder.failures l.folder ≡ g.F.Folder.failures l.initial.folder;
   files_stay : g.F.Folder.files l.folder ≡ g.F.Folder.files l.initial.folder;
   created_stay : g.F.Folder.created l.folder ≡ g.F.Folder.created l.initial.folder;
+  asks : (before : Option (List (List ℕ))) → RoundsOnce before (tried (g.F.Folder.asked l.initial.folder) l.initial.files []) l.roles
+      → RoundsOnce before (tried (g.F.Folder.asked l.folder) l.files l.absent) l.roles;
 }
 
 abbrev pub decreases-loop-absent : goal.decreases-loop-absent

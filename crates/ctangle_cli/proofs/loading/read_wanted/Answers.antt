@@ -1,5 +1,8 @@
-use Rattle.std.proofs.lemmas.Result.{IfErr-weaker}
+use Rattle.std.proofs.Common.{[], ◌∙◌}
+use Rattle.std.proofs.lemmas.Result.{IfErr-weaker, on_ok_weaker}
 use Rattle.ctangle_cli.specs.Loading.{ending_of}
+use Rattle.ctangle_cli.specs.Tries.{tried}
+use Rattle.ctangle_cli.proofs.AskLemmas.{always_err, asks_this, or_false, stops_at, stops_short, tries_added}
 use Rattle.ctangle_cli.proofs.LoadLemmas.{stops_along, wanted_bytes}
 use Rattle.ctangle_cli.proofs.loading.read_wanted.Goals as goal
 
@@ -14,3 +17,27 @@ returns-in-Ok-clause-err g c =
 
 pub returns-in-Ok-clause-told : goal.returns-in-Ok-clause-told
 returns-in-Ok-clause-told g c = IfErr-weaker c.add_file.result _ _ (λ fault told. told _) c.add_file.ensures.told
+
+pub returns-in-Ok-clause-asks : goal.returns-in-Ok-clause-asks
+returns-in-Ok-clause-asks g c =
+    let old = tried (g.F.Folder.asked c.args.folder.now) c.args.files.now [] in
+    let new = tried (g.F.Folder.asked c.read_file.new.self) c.add_file.new.files [] in
+    on_ok_weaker c.add_file.result
+    (λ ok. asks_this old new c.args.name.now (or_false _ ∙ c.requires) c.in-Ok.ensures.asks
+    (tries_added old.asked new.asked c.args.files.now c.add_file.new.files [] c.args.name.now c.in-Ok.bytes.items (rw c.as_slice.ensures.value at ok)))
+    c.add_file.ensures.ok
+
+pub returns-in-Ok-clause-stops : goal.returns-in-Ok-clause-stops
+returns-in-Ok-clause-stops g c = always_err c.add_file.result (stops_at _ _ c.args.name.now (or_false _ ∙ c.requires) c.in-Ok.ensures.asks)
+
+pub returns-in-Err-Missing-clause-stops : goal.returns-in-Err-Missing-clause-stops
+returns-in-Err-Missing-clause-stops g c = stops_at _ _ c.args.name.now (or_false _ ∙ c.requires) (rw c.in-Err-Missing.field-0-is at c.in-Err-Missing.ensures.asks)
+
+pub returns-in-Err-TooBig-clause-stops : goal.returns-in-Err-TooBig-clause-stops
+returns-in-Err-TooBig-clause-stops g c = stops_at _ _ c.args.name.now (or_false _ ∙ c.requires) (rw c.in-Err-TooBig.field-0-is at c.in-Err-TooBig.ensures.asks)
+
+pub returns-in-Err-Failed-clause-stops : goal.returns-in-Err-Failed-clause-stops
+returns-in-Err-Failed-clause-stops g c = stops_at _ _ c.args.name.now (or_false _ ∙ c.requires) (rw c.in-Err-Failed.field-0-is at c.in-Err-Failed.ensures.asks)
+
+pub returns-in-Err-NoMemory-clause-stops : goal.returns-in-Err-NoMemory-clause-stops
+returns-in-Err-NoMemory-clause-stops g c = stops_short _ _ c.args.name.now (or_false _ ∙ c.requires) (rw c.in-Err-NoMemory.field-0-is at c.in-Err-NoMemory.ensures.asks)

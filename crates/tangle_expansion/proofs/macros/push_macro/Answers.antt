@@ -7,4 +7,4 @@ pub push_macro_item-requires : goal.push_macro_item-requires
 push_macro_item-requires c =
     let all = All-trimmed (IsInRange c.args.web.now.texts) c.args.items.now c.requires in
     let written = subst (All (IsInRange c.args.web.now.texts)) (sym c.without_end_gaps-item-items.ensures) all in
-    written c.loop-item.item-index _ c.loop-item-test.true
+    subst (IsInRange c.args.web.now.texts) (sym c.item-item.is) (written c.loop-item.item-index c.item-item.result c.loop-item-test.true)

@@ -1,0 +1,54 @@
+use Rattle.std.proofs.Common.{◌∙◌, ◌+◌, ◌∷◌, rules, sym, ap, true, false, drop, subst, arith}
+use Rattle.ctangle_cli.specs.Tries.{tried}
+use Rattle.ctangle_cli.specs.Loading.{is_missing_kind, missed_in, with_inclusions}
+use Rattle.ctangle_cli.proofs.AskLemmas.{AsksSoFar, TriesSoFar, always_err, asks_next, loads_next, missed_at, none_missed, stops_then, tries_at_end, tries_next}
+use Rattle.ctangle_cli.proofs.LoadLemmas.{Grows-trans}
+use Rattle.ctangle_cli.proofs.loading.read_inclusions.Goals as goal
+use Rattle.ctangle_cli.proofs.loading.read_inclusions.Goals.{then-is_missing+in_ok-read_inclusion, else-is_missing}
+
+pub returns-in_err-read_inclusion-clause-stops : goal.returns-in_err-read_inclusion-clause-stops
+returns-in_err-read_inclusion-clause-stops g c =
+    always_err _ (stops_then _ _ _ (missed_in c.args.faults.now) _ c.loop-fault.invariant.asks c.in_err-read_inclusion.ensures.stops)
+
+pub loop-fault-preserved : goal.loop-fault-preserved
+loop-fault-preserved g c =
+    let faults = c.args.faults.now in
+    let rest = missed_in (drop (c.loop-fault.fault-index + 1) faults) in
+    let old = tried (g.F.Folder.asked c.args.folder.now) c.args.files.now c.args.absent.now in
+    let now = tried (g.F.Folder.asked c.loop-fault.folder) c.loop-fault.files c.loop-fault.absent in
+    let kind = ap is_missing_kind (sym c.kind.ensures) ∙ sym c.is_missing.ensures in
+    elim c.if-is_missing.branch [
+      | then-is_missing+in_ok-read_inclusion w ↦
+          let next = tried (g.F.Folder.asked w.read_inclusion.new.folder) w.read_inclusion.new.files w.read_inclusion.new.absent in
+          let missed = missed_at faults c.loop-fault.fault-index c.fault-item.result true c.loop-fault-test.true c.fault-item.is (kind ∙ w.if-is_missing.true)
+          ∙ ap (λ name. name ∷ rest) (sym w.subject.ensures) in
+          record {
+            loads = rw w.files-is (loads_next _ _ (λ all. with_inclusions all (missed_in faults) c.args.files.now) _ w.subject.result.now rest c.loop-fault.files w.read_inclusion.new.files
+                c.loop-fault.invariant.files_stay missed c.loop-fault.invariant.loads w.in_ok-read_inclusion.ensures.ok.0);
+            unfailed = search rules;
+            absent = search rules;
+            grows = rw w.files-is (Grows-trans _ _ _ c.loop-fault.invariant.grows w.in_ok-read_inclusion.ensures.grows);
+            files_stay = search rules;
+            created_stay = search rules;
+            asks = rw (w.folder-is, w.files-is, w.absent-is) (asks_next old now next (missed_in faults) _ w.subject.result.now rest missed c.loop-fault.invariant.asks w.in_ok-read_inclusion.ensures.asks);
+            tries = rw (w.files-is, w.absent-is) (tries_next now next (missed_in faults) _ w.subject.result.now rest missed c.loop-fault.invariant.tries w.in_ok-read_inclusion.ensures.tries);
+            stay = rw (w.files-is, w.absent-is) (λ name e. w.in_ok-read_inclusion.ensures.tries.stay name (c.loop-fault.invariant.stay name e));
+          }
+      | else-is_missing w ↦
+          let missed = missed_at faults c.loop-fault.fault-index c.fault-item.result false c.loop-fault-test.true c.fault-item.is (kind ∙ w.if-is_missing.false) in
+          record {
+            loads = search rules;
+            unfailed = search rules;
+            absent = search rules;
+            grows = search rules;
+            files_stay = search rules;
+            created_stay = search rules;
+            asks = rw (w.folder-is, w.files-is, w.absent-is) (subst (AsksSoFar old now (missed_in faults)) missed c.loop-fault.invariant.asks);
+            tries = rw (w.files-is, w.absent-is) (subst (TriesSoFar now (missed_in faults)) missed c.loop-fault.invariant.tries);
+            stay = rw (w.files-is, w.absent-is) c.loop-fault.invariant.stay;
+          }
+    ]
+
+pub returns-clause-tries : goal.returns-clause-tries
+returns-clause-tries g c =
+    tries_at_end _ _ _ _ (none_missed c.args.faults.now c.loop-fault.fault-index (omega (arith, c.loop-fault-test.false))) c.loop-fault.invariant.stay c.loop-fault.invariant.tries

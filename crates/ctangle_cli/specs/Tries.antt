@@ -1,0 +1,60 @@
+-- What loading has tried so far.
+use Rattle.std.specs.Prelude.{◌≡◌, ◌||◌, ℕ, Bool, true, List, [], ◌∷◌, ◌++◌, Option, None, Some, IfSome, All, Contains}
+use Rattle.std.specs.List.{IsDistinct, list_any}
+use Rattle.std.specs.Str.{bytes_eq}
+use Rattle.tangle_lines.specs.Adding.{has_file, is_name}
+use Rattle.tangle_lines.specs.Lines.{FileTable}
+use Rattle.tangle_lines.specs.Roles.{RoleNames}
+use Rattle.ctangle_cli.specs.Asking.{AsksOnce, IsWanted}
+
+-- the change file, if there is one
+abbrev pub named_in : Option (List ℕ) → List (List ℕ)
+named_in None = []
+named_in (Some name) = name ∷ []
+
+-- the names asked for so far, where the folder tells them, the files in the table, and the names that the folder doesn't have
+pub record Tries : Type 0 where
+  pub asked : Option (List (List ℕ))
+  pub files : FileTable
+  pub absent : List (List ℕ)
+
+abbrev pub tried : Option (List (List ℕ)) → FileTable → List (List ℕ) → Tries
+tried asked files absent = record { asked = asked; files = files; absent = absent }
+
+abbrev pub is_tried : Tries → List ℕ → Bool
+is_tried now name = has_file now.files name || list_any (bytes_eq name) now.absent
+
+-- what was asked for since, each once, is what was tried, and each is among these
+pub record TriesSince (names : List (List ℕ)) (now : Tries) (wanted : List (List ℕ)) : Type 0 where
+  pub asked : List (List ℕ)
+  pub behind : now.asked ≡ Some (names ++ asked)
+  pub once : IsDistinct bytes_eq asked
+  pub same : (name : List ℕ) → list_any (bytes_eq name) asked ≡ is_tried now name
+  pub only : All (Contains wanted) asked
+
+abbrev pub TriesOnce : Option (List (List ℕ)) → Tries → List (List ℕ) → Type 0
+TriesOnce before now wanted = IfSome before (λ names. TriesSince names now wanted)
+
+-- from one to the other of these names alone some are asked for, and none twice
+abbrev pub AsksOn : Tries → Tries → List (List ℕ) → Type 0
+AsksOn old new names =
+    (before : Option (List (List ℕ))) (wanted : List (List ℕ)) → All (Contains wanted) names → TriesOnce before old wanted → TriesOnce before new wanted
+
+-- none was asked for twice where loading ends
+abbrev pub StopsAsking : Tries → Option (List (List ℕ)) → Type 0
+StopsAsking old asked = (before : Option (List (List ℕ))) (wanted : List (List ℕ)) → TriesOnce before old wanted → AsksOnce before asked
+
+abbrev pub IsTriedIn : Tries → List ℕ → Type 0
+IsTriedIn now name = is_name name ≡ true → is_tried now name ≡ true
+
+abbrev pub TriesStay : Tries → Tries → Type 0
+TriesStay old new = (name : List ℕ) → is_tried old name ≡ true → is_tried new name ≡ true
+
+-- what was tried stays so, and each of these names was tried that is a file name
+pub record TriesAll (old new : Tries) (names : List (List ℕ)) : Type 0 where
+  pub stay : TriesStay old new
+  pub all : All (IsTriedIn new) names
+
+-- what was asked for since, each once, was wanted, and is what was tried
+abbrev pub RoundsOnce : Option (List (List ℕ)) → Tries → RoleNames → Type 0
+RoundsOnce before now roles = (wanted : List (List ℕ)) × All (IsWanted now.files roles) wanted × TriesOnce before now wanted

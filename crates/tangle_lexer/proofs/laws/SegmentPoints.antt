@@ -1,0 +1,79 @@
+-- The bytes of cells and of ranges: where they stand.
+use Rattle.std.proofs.Common.{◌≡◌, ℕ, zero, suc, ◌+◌, ◌-◌, ◌≤◌, Bool, true, false, List, [], ◌∷◌, ◌++◌, take, Option, Some, None, refl, ap, sym, ◌∙◌, arith, append_assoc, cond}
+use Rattle.std.specs.Prelude.{nat_lt}
+use Rattle.std.proofs.lemmas.Bool.{ltb-false}
+use Rattle.tangle_lexer.specs.declared.tokens.Token.{Token}
+use Rattle.tangle_lexer.specs.declared.tokens.Token.TheVariants as token
+use Rattle.tangle_lexer.specs.declared.regions.Region.{Region}
+use Rattle.tangle_lexer.specs.Text.{Cell}
+use Rattle.tangle_lexer.specs.Quoted.{range_token, cut_range}
+use Rattle.tangle_lexer.specs.Segments.{columns_from, span_points, cell_point, byte_points}
+use Rattle.tangle_lexer.proofs.laws.Points.{Point, IsByte, behind, HoldsBytes, IsTextAt, behind-byte}
+
+-- the columns from one on, up to another
+abbrev pub columns_to : ℕ → ℕ → ℕ → List (ℕ × ℕ)
+columns_to line start end = columns_from line start (end - start)
+
+columns-more : (line column n : ℕ) → columns_from line column (n + 1) ≡ columns_from line column n ++ (line, column + n) ∷ []
+columns-more line column zero = let e : column ≡ column + 0 = omega arith in ap (λ x. (line, x) ∷ []) e
+columns-more line column (suc n) =
+    let e : suc n + 1 ≡ suc (n + 1) = omega arith in
+    let f : column + 1 + n ≡ column + suc n = omega arith in
+    ap (columns_from line column) e
+    ∙ ap (λ ps. (line, column) ∷ ps) (columns-more line (column + 1) n ∙ ap (λ x. columns_from line (column + 1) n ++ (line, x) ∷ []) f)
+
+-- one column more
+pub columns-next : (line start column : ℕ) → start ≤ column → columns_to line start (column + 1) ≡ columns_to line start column ++ (line, column) ∷ []
+columns-next line start column h =
+    let e : column + 1 - start ≡ (column - start) + 1 = omega (arith, h) in
+    let f : start + (column - start) ≡ column = omega (arith, h) in
+    ap (columns_from line start) e ∙ columns-more line start (column - start) ∙ ap (λ x. columns_to line start column ++ (line, x) ∷ []) f
+
+pub columns-nothing : (line column : ℕ) → columns_to line column column ≡ []
+columns-nothing line column = let e : column - column ≡ 0 = omega arith in ap (columns_from line column) e
+
+pub byte-point : (c : Cell) → IsByte c.byte → cell_point c.byte c ≡ (c.line, c.column) ∷ []
+byte-point c h = by c.byte h
+  where
+    by : (b : Option ℕ) → IsByte b → cell_point b c ≡ (c.line, c.column) ∷ []
+    by None h = absurd h
+    by (Some b) h = refl
+
+-- the tokens that are texts
+
+abbrev pub token_points : List Token → List (ℕ × ℕ)
+token_points [] = []
+token_points (token.Text kind s ∷ es) = span_points s ++ token_points es
+token_points (_ ∷ es) = token_points es
+
+pub points-append : (es fs : List Token) → token_points (es ++ fs) ≡ token_points es ++ token_points fs
+points-append [] fs = refl
+points-append (token.Text kind s ∷ es) fs = ap (λ ps. span_points s ++ ps) (points-append es fs) ∙ sym (append_assoc (span_points s) (token_points es) (token_points fs))
+points-append (_ ∷ es) fs = points-append es fs
+
+range-points : (r : Region) (line start end : ℕ) (es : List Token)
+    → token_points (range_token r (record { line = line; start = start; end = end }) ∷ es) ≡ columns_to line start end ++ token_points es
+range-points r line start end es = refl
+
+-- a range that is cut has its columns, an empty one too
+pub cut-points : (r : Region) (line start end : ℕ) (es : List Token) → token_points (cut_range r line start end ++ es) ≡ columns_to line start end ++ token_points es
+cut-points r line start end es = by (nat_lt start end) refl
+  where
+    by : (b : Bool) → nat_lt start end ≡ b
+        → token_points (cond b (range_token r (record { line = line; start = start; end = end }) ∷ []) [] ++ es) ≡ columns_to line start end ++ token_points es
+    by true e = refl
+    by false e =
+        let less : end ≤ start = ltb-false start end e in
+        let none : end - start ≡ 0 = omega (arith, less) in
+        sym (ap (λ n. columns_from line start n ++ token_points es) none)
+
+module _ (width : ℕ → ℕ) (count : ℕ) where
+  -- bytes of a line stand in its columns
+  pub bytes-columns : (at : Point) (n : ℕ) (text : List Cell) → IsTextAt width count at text → HoldsBytes n text
+      → byte_points (take n text) ≡ columns_from at.line at.column n
+  bytes-columns at zero text is h = refl
+  bytes-columns at (suc n) [] is h = absurd h
+  bytes-columns at (suc n) (c ∷ cs) is h =
+      let goes = behind-byte c h.0 in
+      let rest = bytes-columns (behind c) n cs is.1 h.1 in
+      rw (byte-point c h.0, rest, goes, is.0.line, is.0.column) refl

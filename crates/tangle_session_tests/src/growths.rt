@@ -1,0 +1,182 @@
+//! Each growth of a start and of an edit refused in turn: the call says so, and all is as it was.
+use crate::support::{AMPLE, Kind, edit, files_with, start, tell_all, tell_project};
+use crate::webs::{ABBREVIATION, CYCLE, TWO_BRANCHES, chain};
+use std::alloc::{AllocError, Global};
+use std::process::Abort;
+use std::test::Fail;
+use tangle_folders::MemorySink;
+use tangle_lines::{Edit, Files, Refusal, Roles};
+use tangle_session::Session;
+
+// More growths than any call makes here.
+const MOST: u32 = 10_000;
+
+// Refuses the nth growth from here on, none at 0, where the harness of `tests/` stands before the allocator, and says
+// whether it does. Without it no memory is so large, and nothing is refused.
+fn refuse_growth(alloc: Global, nth: u32) -> bool {
+    Vec::<u8>::with_capacity(alloc, (1 << 62) + nth as usize).is_ok()
+}
+
+// Ends the refusals, and says whether the last one never came.
+fn end_refusals(alloc: Global, is_harnessed: bool) -> bool {
+    let is_waiting = Vec::<u8>::with_capacity(alloc, 3 << 61).is_ok();
+    refuse_growth(alloc, 0);
+    is_waiting || !is_harnessed
+}
+
+// Applies the edit with this growth refused. It says whether none was, and the edit was made; else the session answers as before.
+fn edit_is_spared(
+    rt: &impl Abort,
+    alloc: Global,
+    session: &mut Session,
+    edit: &Edit,
+    nth: u32,
+) -> Result<bool, Fail> {
+    let before = tell_all(alloc, session)?;
+    let is_harnessed = refuse_growth(alloc, nth);
+    let refusal = session.apply(edit).err();
+    let was_spared = end_refusals(alloc, is_harnessed);
+    if was_spared {
+        assert_eq!(rt; refusal, None);
+    } else {
+        assert_eq!(rt; refusal, Some(Refusal::NoMemory));
+        assert!(rt; tell_all(alloc, session)?.bytes() == before.bytes());
+    }
+    Ok(was_spared)
+}
+
+// Refuses the first growth of the edit, the second and so on, until none is refused; then so many nodes were expanded. It gives the growth
+// that did not come.
+fn refuse_each_growth(
+    rt: &impl Abort,
+    alloc: Global,
+    session: &mut Session,
+    edit: &Edit,
+    work: u64,
+) -> Result<u32, Fail> {
+    for nth in 1..MOST {
+        if edit_is_spared(rt, alloc, session, edit, nth)? {
+            assert_eq!(rt; session.last_work(), work);
+            return Ok(nth);
+        }
+    }
+    Err(Fail::from("never made"))
+}
+
+// An edit of `a.w`, or of `b.w` where that comes or goes, and how many nodes are expanded for it.
+type Step = (Kind, usize, &'static [u8], u64);
+
+// The edits of files: one that nothing includes comes and goes.
+const EDITS_OF_FILES: [Step; 2] = [(Kind::Create, 0, b"", 0), (Kind::Discard, 0, b"", 0)];
+
+fn edit_of(alloc: Global, step: &Step) -> Result<Edit, AllocError> {
+    let (kind, at, text, _) = *step;
+    let file: &[u8] = match kind {
+        Kind::Create | Kind::Discard => b"b.w",
+        _ => b"a.w",
+    };
+    edit(alloc, kind, file, at, text)
+}
+
+// Makes the edits one after another, each with every growth of it refused in turn.
+fn refuse_in_steps(rt: &impl Abort, alloc: Global, web: &[u8], steps: &[Step]) -> Result<(), Fail> {
+    let mut session = start(alloc, web)?;
+    for step in steps.iter().chain(&EDITS_OF_FILES) {
+        let edit = edit_of(alloc, step)?;
+        refuse_each_growth(rt, alloc, &mut session, &edit, step.3)?;
+    }
+    Ok(())
+}
+
+#[test]
+fn edits_of_an_abbreviation(rt: HostRuntime) -> Result<(), Fail> {
+    // It gets a second name, which then goes: the program alone uses another name.
+    let steps: [Step; 3] = [
+        (Kind::Insert, 6, b"@ @<Init table@>=", 2),
+        (Kind::Replace, 6, b"@ @<Init table@>=", 0),
+        (Kind::Remove, 6, b"", 1),
+    ];
+    refuse_in_steps(&rt, rt.alloc(), ABBREVIATION, &steps)
+}
+
+#[test]
+fn edits_of_a_cycle(rt: HostRuntime) -> Result<(), Fail> {
+    // It is broken and closed again: then nothing can be expanded of what the edit affects.
+    let steps: [Step; 4] = [
+        (Kind::Replace, 7, b"b;", 3),
+        (Kind::Insert, 8, b"c;", 3),
+        (Kind::Remove, 8, b"", 3),
+        (Kind::Replace, 7, b"@<A@>", 0),
+    ];
+    refuse_in_steps(&rt, rt.alloc(), CYCLE, &steps)
+}
+
+#[test]
+fn edits_of_two_branches(rt: HostRuntime) -> Result<(), Fail> {
+    // The last edit affects the other branch and the program.
+    let steps: [Step; 4] = [
+        (Kind::Replace, 9, b"3", 4),
+        (Kind::Replace, 9, b"3", 0),
+        (Kind::Insert, 10, b"4", 4),
+        (Kind::Remove, 12, b"", 2),
+    ];
+    refuse_in_steps(&rt, rt.alloc(), TWO_BRANCHES, &steps)
+}
+
+#[test]
+fn an_edit_that_affects_nothing_makes_fewer(rt: HostRuntime) -> Result<(), Fail> {
+    let alloc = rt.alloc();
+    let mut session = start(alloc, &chain(alloc, b'k', 10_001, 10_040, 1)?)?;
+    let edit = edit(alloc, Kind::Replace, b"a.w", 83, b"2")?;
+    let first = refuse_each_growth(&rt, alloc, &mut session, &edit, 41)?;
+    let second = refuse_each_growth(&rt, alloc, &mut session, &edit, 0)?;
+    // Without the harness no growth is refused at all.
+    assert!(rt; first == 1 || first >= second.saturating_add(41));
+    Ok(())
+}
+
+// Starts with this growth refused: what is handed back, and whether none was refused.
+fn start_without(
+    alloc: Global,
+    files: Files,
+    roles: Roles,
+    nth: u32,
+) -> (Option<(Files, Roles, Refusal)>, bool) {
+    let is_harnessed = refuse_growth(alloc, nth);
+    let handed_back = Session::start(alloc, files, roles).err();
+    (handed_back, end_refusals(alloc, is_harnessed))
+}
+
+fn told_project(alloc: Global, files: &Files, roles: &Roles) -> Result<MemorySink, Fail> {
+    let mut sink = MemorySink::new(alloc, AMPLE);
+    tell_project(files, roles, &mut sink)?;
+    Ok(sink)
+}
+
+// Starts with this growth refused, and says whether none was; else files and roles are handed back as they were.
+fn start_is_spared(rt: &impl Abort, alloc: Global, nth: u32) -> Result<bool, Fail> {
+    let change = b"@x\nint h;\n@y\nint k;\n@z\n";
+    let files = files_with(alloc, &[(b"a.w", CYCLE), (b"a.ch", change)])?;
+    let roles = Roles::new(alloc, b"a.w", Some(b"a.ch"), b"a.c")?;
+    let before = told_project(alloc, &files, &roles)?;
+    let (handed_back, was_spared) = start_without(alloc, files, roles, nth);
+    assert_eq!(rt; handed_back.is_none(), was_spared);
+    match handed_back {
+        None => Ok(true),
+        Some((files, roles, refusal)) => {
+            assert_eq!(rt; refusal, Refusal::NoMemory);
+            assert!(rt; told_project(alloc, &files, &roles)?.bytes() == before.bytes());
+            Ok(false)
+        }
+    }
+}
+
+#[test]
+fn each_growth_of_a_start_refused(rt: HostRuntime) -> Result<(), Fail> {
+    for nth in 1..MOST {
+        if start_is_spared(&rt, rt.alloc(), nth)? {
+            return Ok(());
+        }
+    }
+    Err(Fail::from("never started"))
+}

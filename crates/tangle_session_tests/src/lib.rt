@@ -1,0 +1,19 @@
+//! The tests of sessions: what no clause of theirs says.
+//!
+//! They ask through the public calls alone, as a program does that keeps a project open.
+#![tactic(auto)]
+
+#[cfg(test)]
+mod edits;
+#[cfg(test)]
+mod growths;
+#[cfg(test)]
+mod refusals;
+#[cfg(test)]
+mod starts;
+#[cfg(test)]
+mod support;
+#[cfg(test)]
+mod webs;
+#[cfg(test)]
+mod writers;

@@ -1,0 +1,167 @@
+//! What the tests share: sessions, edits, and all that a session answers as text.
+use itoa::Buffer;
+use std::alloc::{AllocError, Global};
+use std::process::Abort;
+use std::test::Fail;
+use tangle_folders::MemorySink;
+use tangle_lines::{Edit, Files, Roles, Sink, put, write_fault};
+use tangle_session::Session;
+
+/// Room for all that a test writes.
+pub(crate) const AMPLE: usize = 10_000_000;
+
+/// A table of these files.
+pub(crate) fn files_with(alloc: Global, files: &[(&[u8], &[u8])]) -> Result<Files, Fail> {
+    let mut table = Files::new(alloc);
+    for (name, bytes) in files {
+        table.add(name, bytes)?;
+    }
+    Ok(table)
+}
+
+/// A session of these files, with the web `a.w`, this change file and the main file `a.c`.
+pub(crate) fn start_with(
+    alloc: Global,
+    files: &[(&[u8], &[u8])],
+    change: Option<&[u8]>,
+) -> Result<Session, Fail> {
+    let files = files_with(alloc, files)?;
+    let roles = Roles::new(alloc, b"a.w", change, b"a.c")?;
+    match Session::start(alloc, files, roles) {
+        Ok(session) => Ok(session),
+        Err((_, _, refusal)) => Err(Fail::from(refusal)),
+    }
+}
+
+/// A session of one file, the web `a.w`.
+pub(crate) fn start(alloc: Global, web: &[u8]) -> Result<Session, Fail> {
+    start_with(alloc, &[(b"a.w", web)], None)
+}
+
+/// The kinds of edits.
+#[derive(Clone, Copy)]
+pub(crate) enum Kind {
+    Insert,
+    Remove,
+    Replace,
+    Create,
+    Discard,
+}
+
+/// An edit of this kind, of this file, at this line and with this text where it has one.
+pub(crate) fn edit(
+    alloc: Global,
+    kind: Kind,
+    file: &[u8],
+    at: usize,
+    text: &[u8],
+) -> Result<Edit, AllocError> {
+    let file = Vec::from_slice(alloc, file)?;
+    let text = Vec::from_slice(alloc, text)?;
+    Ok(match kind {
+        Kind::Insert => Edit::Insert { file, at, text },
+        Kind::Remove => Edit::Remove { file, at },
+        Kind::Replace => Edit::Replace { file, at, text },
+        Kind::Create => Edit::Create { file },
+        Kind::Discard => Edit::Discard { file },
+    })
+}
+
+// Tells a line.
+fn tell(sink: &mut MemorySink, line: &[u8]) -> Result<(), Fail> {
+    put(sink, Ok(0), line)?;
+    put(sink, Ok(0), b"\n")?;
+    Ok(())
+}
+
+// Tells an output file: its name on a line, and its bytes. As many go out as the session counts.
+fn tell_output(session: &Session, name: &[u8], sink: &mut MemorySink) -> Result<(), Fail> {
+    tell(sink, name)?;
+    let before = sink.bytes().len();
+    let written = session.write_output(name, sink)?;
+    let after = sink.bytes().len();
+    if session.output_size(name) != Some(written)
+        || after.checked_sub(before) != Some(written as usize)
+    {
+        return Err(Fail::from("another size than was written"));
+    }
+    Ok(())
+}
+
+/// The output files, one after another: the name of each on a line, and its bytes.
+pub(crate) fn tell_outputs(session: &Session, sink: &mut MemorySink) -> Result<(), Fail> {
+    for name in session.output_names() {
+        tell_output(session, name, sink)?;
+    }
+    Ok(())
+}
+
+/// The lines of the faults.
+pub(crate) fn tell_faults(session: &Session, sink: &mut MemorySink) -> Result<(), Fail> {
+    for fault in session.faults() {
+        write_fault(fault, sink)?;
+    }
+    Ok(())
+}
+
+// The files: the name and each line of every one.
+fn tell_files(files: &Files, sink: &mut MemorySink) -> Result<(), Fail> {
+    for number in 0..files.count() {
+        let name = files.name(number).ok_or("the name")?;
+        tell(sink, name)?;
+        for line in files.lines(name).ok_or("the file")? {
+            tell(sink, b"|")?;
+            tell(sink, line.bytes())?;
+        }
+    }
+    Ok(())
+}
+
+/// The files and the roles.
+pub(crate) fn tell_project(
+    files: &Files,
+    roles: &Roles,
+    sink: &mut MemorySink,
+) -> Result<(), Fail> {
+    tell_files(files, sink)?;
+    tell(sink, roles.web())?;
+    tell(sink, roles.change().unwrap_or(b"|"))?;
+    tell(sink, roles.out())
+}
+
+/// All that can be asked of a session: outputs, faults, files, roles, and the last work.
+pub(crate) fn tell_all(alloc: Global, session: &Session) -> Result<MemorySink, Fail> {
+    let mut sink = MemorySink::new(alloc, AMPLE);
+    tell_outputs(session, &mut sink)?;
+    tell_faults(session, &mut sink)?;
+    tell_project(session.files(), session.roles(), &mut sink)?;
+    let mut digits = Buffer::new();
+    tell(&mut sink, digits.format(session.last_work()).as_bytes())?;
+    Ok(sink)
+}
+
+/// The session has these output files, each its name on a line and its bytes.
+pub(crate) fn check_outputs(
+    rt: &impl Abort,
+    alloc: Global,
+    session: &Session,
+    wanted: &[u8],
+) -> Result<(), Fail> {
+    let mut sink = MemorySink::new(alloc, AMPLE);
+    tell_outputs(session, &mut sink)?;
+    assert!(rt; sink.bytes() == wanted);
+    Ok(())
+}
+
+/// The faults of the session have these lines.
+pub(crate) fn check_faults(
+    rt: &impl Abort,
+    alloc: Global,
+    session: &Session,
+    wanted: &[u8],
+) -> Result<(), Fail> {
+    let mut sink = MemorySink::new(alloc, AMPLE);
+    tell_faults(session, &mut sink)?;
+    assert!(rt; sink.bytes() == wanted);
+    Ok(())
+}

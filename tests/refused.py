@@ -1,0 +1,131 @@
+"""Conversations with the built retangle, with each growth of a run refused in turn.
+
+usage: refused.py RETANGLE REFUSE TOP       REFUSE is tests/refuse.c as a library, TOP the folder of the repository
+
+Where a growth is refused, one edit is answered 'no NoMemory' and not made, and the others are made and answered; or the run ends with
+status 3 behind an answer, or before the first one; or it did without that memory, and all is answered. The last line is
+'N passed, M failed'.
+"""
+import os
+import subprocess
+import sys
+import tempfile
+
+program, refuse, top = (os.path.abspath(path) for path in sys.argv[1:4])
+sys.path.insert(0, os.path.join(top, 'tests', 'reference'))
+from files import Roles, add
+from scripts import Script
+from sessions import Session
+
+MOST = 100000
+SECONDS = 60
+
+QUESTIONS = b'show a.c\nfaults\nwork\n'
+FILE_COMES_AND_GOES = b'create b.w\nwork\ninsert 1 b.w\ny;\nwork\ndiscard b.w\n' + QUESTIONS
+
+
+def chain(count):
+    """A program and so many names, each of which but the last uses the next one."""
+    names = [b'@ @<k%04d@>=\n@<k%04d@>\n' % (number, number + 1) for number in range(1, count)]
+    return b'@ P.\n@c\n@<k0001@>\n' + b''.join(names) + b'@ @<k%04d@>=\n1\n' % count
+
+
+# Webs with scripts in which every kind of command stands: an abbreviation of one name and then of two, names that use each other and a named
+# file, two names of which one uses others below, and a chain of names.
+TALKS = {
+    'abbreviation': (
+        b'@ A.\n@c\n@<Ini...@>\n@ @<Initialize@>=\nx=0;\n',
+        QUESTIONS + b'insert 6 a.w\n@ @<Init table@>=\n' + QUESTIONS + b'replace 6 a.w\n@ @<Init table@>=\n' + QUESTIONS
+        + b'remove 6 a.w\n' + QUESTIONS + b'insert 7 a.w\nx\n' + FILE_COMES_AND_GOES),
+    'cycle': (
+        b'@ P.\n@c\n@<A@>\n@ @<A@>=\n@<B@>\n@ @<B@>=\n@<A@>\n@ @(h.h@>=\nint h;\n',
+        b'work\nreplace 7 a.w\nb;\n' + QUESTIONS + b'insert 8 a.w\nc;\nremove 99 a.w\nshow h.h\nwork\ncreate b.w\ninsert 1 b.w\ny;\n'
+        b'insert 3 a.w\n@i b.w\n' + QUESTIONS + b'discard b.w\nfaults\nremove 3 a.w\nwork\nnothing\nshow a.c\nreplace 7 a.w\n@<A@>\n'
+        b'faults\nquit\n'),
+    'two branches': (
+        b'@ P.\n@c\n@<A@>@<S@>\n@ @<A@>=\n@<B@>\n@ @<B@>=\n@<C@>\n@ @<C@>=\n1\n@ @<S@>=\n2\n',
+        b'work\nreplace 9 a.w\n3\n' + QUESTIONS + b'replace 9 a.w\n3\n' + QUESTIONS + b'insert 10 a.w\n4\n' + QUESTIONS
+        + b'remove 12 a.w\n' + QUESTIONS + FILE_COMES_AND_GOES),
+    'chain': (chain(40), b'work\nreplace 83 a.w\n2\nwork\nreplace 83 a.w\n2\nwork\n'),
+}
+FEWER = 41              # the first edit of the chain expands so many nodes, and the second one none
+
+
+counts = {True: 0, False: 0}
+
+
+def check(holds, name, problem):
+    counts[bool(holds)] += 1
+    if not holds:
+        print('FAIL %s: %s' % (name, problem))
+
+
+class Refused(Script):
+    """The answers where the edit of this number gets no memory, and the ends of the answers."""
+
+    def __init__(self, web, script, number):
+        self.left, self.ends = number, [0]
+        super().__init__(Session(add([], b'a.w', web), Roles(b'a.w', None, b'a.c')), script, has_lists=False)
+
+    def _take(self, edit):
+        self.left -= 1
+        return b'no NoMemory\n' if self.left == 0 else super()._take(edit)
+
+    def _put(self, text):
+        super()._put(text)
+        self.ends.append(len(self.written))
+
+
+def wanted(web, script):
+    """The ways in which a run may end, (status, written), and what each of them lacks."""
+    whole = Refused(web, script, 0)
+    ways = {(3, whole.written[:end]): 'the end' for end in whole.ends[:-1]}
+    for number in range(-whole.left, 0, -1):
+        refused = Refused(web, script, number)
+        ways[refused.status, refused.written] = 'edit %d' % number
+    ways[whole.status, whole.written] = 'nothing'
+    return ways
+
+
+def run(folder, script, growth, told):
+    environment = dict(os.environ, LD_PRELOAD=refuse, REFUSE_AT=str(growth), REFUSE_TOLD=told)
+    return subprocess.run([program, 'a'], cwd=folder, env=environment, input=script, capture_output=True, timeout=SECONDS)
+
+
+def refuse_each(name, web, script, room):
+    """Refuses each growth in turn: how many runs lack what."""
+    ways, met = wanted(web, script), {}
+    folder, told = os.path.join(room, 'folder'), os.path.join(room, 'told')
+    os.makedirs(folder, exist_ok=True)
+    with open(os.path.join(folder, 'a.w'), 'wb') as file:
+        file.write(web)
+    for growth in range(1, MOST):
+        done = run(folder, script, growth, told)
+        way = ways.get((done.returncode, done.stdout))
+        if not os.path.exists(told):
+            break
+        os.remove(told)
+        ended = way == 'the end' and not done.stdout
+        check(way and done.stderr in ((b'', b'retangle: NoMemory\n') if ended else (b'',)), name,
+              'growth %d refused: status %d, %r, %r' % (growth, done.returncode, done.stdout, done.stderr))
+        met[way] = met.get(way, 0) + 1
+    check(way == 'nothing', name, 'without a refusal: status %d, %r' % (done.returncode, done.stdout))
+    edits = [way for way in ways.values() if way.startswith('edit')]
+    for edit in edits:
+        check(edit in met, name, 'no run was refused memory for %s' % edit)
+    print('%s: of %d growths that were refused %d ended the run, %d left an edit out'
+          % (name, growth - 1, met.get('the end', 0), sum(met.get(edit, 0) for edit in edits)))
+    return met
+
+
+def main():
+    with tempfile.TemporaryDirectory() as room:
+        for name, (web, script) in TALKS.items():
+            met = refuse_each(name, web, script, room)
+    check(met.get('edit 1', 0) >= met.get('edit 2', 0) + FEWER, 'chain', 'an edit that affects nothing makes no fewer growths: %r' % met)
+    print('%d passed, %d failed' % (counts[True], counts[False]))
+    return 1 if counts[False] else 0
+
+
+if __name__ == '__main__':
+    sys.exit(main())

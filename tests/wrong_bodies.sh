@@ -1,0 +1,21 @@
+#!/bin/sh
+# Tries the wrong bodies in tests/wrong-bodies, which the gate leaves out for their time: the prover has to refuse each.
+#
+# usage: tests/wrong_bodies.sh [CRATE..]
+#
+# It works on a copy of the crates, over what make or make check has proved. The last line is 'N passed, M failed'.
+set -u
+top=$(cd "$(dirname "$0")/.." && pwd)
+room=$(mktemp -d)
+trap 'rm -rf "$room"' EXIT
+cp -a "$top/crates" "$top/crates.txt" "$top/HANDLES" "$room"
+rm -rf "$room"/crates/*/must-fail
+[ $# -gt 0 ] || set -- $(ls "$top/tests/wrong-bodies")
+for crate; do
+    cp -a "$top/tests/wrong-bodies/$crate" "$room/crates/$crate/must-fail"
+done
+(cd "$room" && rt must-fail "$@") 2>&1 | tee "$room/log"
+tried=$(find "$room"/crates/*/must-fail -name '*.edit' | wc -l)
+passed=$(grep -c 'refused, as it must be' "$room/log")
+echo "$passed passed, $((tried - passed)) failed"
+[ "$passed" -eq "$tried" ]
