@@ -3,7 +3,7 @@
 #
 # usage: tests/wrong_bodies.sh [CRATE..]
 #
-# It works on a copy of the crates, over what make or make check has proved. The last line is 'N passed, M failed'.
+# It works on a copy of the crates, over what make has proved. The last line is 'N passed, M failed'.
 set -u
 top=$(cd "$(dirname "$0")/.." && pwd)
 room=$(mktemp -d)
