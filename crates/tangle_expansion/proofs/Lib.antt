@@ -23,4 +23,5 @@ pub mod PlanningLemmas
 pub mod RunLemmas
 pub mod FilledLemmas
 pub mod CodeLemmas
+pub mod CountLemmas
 pub mod HeldLemmas

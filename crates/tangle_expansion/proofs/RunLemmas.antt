@@ -1,6 +1,6 @@
 -- Texts of items that stand side by side in the source.
-use Rattle.std.proofs.Common.{◌≡◌, ◌∙◌, ℕ, ◌+◌, ◌-◌, ◌<◌, ◌≤◌, Bool, List, [], ◌∷◌, ◌++◌, take, drop, length, refl, ap, sym, subst, append_assoc, arith, get_or, drop-cons, add-one}
-use Rattle.std.specs.Prelude.{flat_map}
+use Rattle.std.proofs.Common.{◌≡◌, ◌∙◌, ℕ, ◌+◌, ◌-◌, ◌<◌, ◌≤◌, Bool, List, [], ◌∷◌, ◌++◌, take, drop, length, refl, ap, sym, subst, append_assoc, append-nil, arith, get_or, drop-cons, add-one}
+use Rattle.std.specs.Prelude.{flat_map, Option, None, Some}
 use Rattle.std.proofs.lemmas.List.{map-append, drop-drop}
 use Rattle.std.proofs.Math.Seq.{take-add}
 use Rattle.tangle_lines.specs.Bytes.{space}
@@ -10,12 +10,15 @@ use Rattle.tangle_lexer.specs.declared.spans.Span.{Span}
 use Rattle.tangle_scan.specs.Rules.{span_text}
 use Rattle.tangle_scan.specs.SourceOrder.{IsSpan}
 use Rattle.tangle_names.specs.NameTable.{TableRead}
-use Rattle.tangle_expansion.specs.Shapes.{Title}
 use Rattle.tangle_expansion.specs.Flat.{Byte}
-use Rattle.tangle_expansion.specs.Slots.{Slot, Own, byte_slots, Making}
-use Rattle.tangle_expansion.specs.ItemCodes.{bytes_in}
-use Rattle.tangle_expansion.specs.ItemSlots.{marks_behind_item, item_slots, items_slots}
-use Rattle.tangle_expansion.specs.Runs.{IsTextOf, IsJoined, GoesOn, AddsItems}
+use Rattle.tangle_expansion.specs.Slots.{Own, byte_slots}
+use Rattle.tangle_expansion.specs.Planned.{Making}
+use Rattle.tangle_expansion.specs.declared.codes.ItemCode.{ItemCode}
+use Rattle.tangle_expansion.specs.ItemCodes.{bytes_in, code_in, names_in, piece_codes}
+use Rattle.tangle_expansion.specs.ItemSlots.{marks_behind_item, item_slots, items_slots, piece_slots}
+use Rattle.tangle_expansion.specs.Runs.{IsTextOf, IsJoined, IsRunWith, AddsItem, run_text}
+use Rattle.tangle_expansion.proofs.HeldLemmas.{items_next}
+use Rattle.tangle_expansion.proofs.PlanningLemmas.{item_made}
 
 -- a range with the one that begins where it ends
 
@@ -47,113 +50,131 @@ is_joined run span line at = record {
   text = λ texts h k. text_joined texts run span line at h k;
 }
 
--- what goes on with one more item
+-- a range goes on with an item
 
-next_item : (items : List Item) (at : ℕ) (d : Item) → at < length items → drop at items ≡ get_or items at d ∷ drop (at + 1) items
-next_item items at d h = drop-cons items at d h ∙ ap (λ j. get_or items at d ∷ drop j items) (sym (add-one at))
-
-slots_joined : (run bytes more : List ℕ) (rest : List Slot) → run ++ bytes ≡ more → byte_slots run ++ (byte_slots bytes ++ rest) ≡ byte_slots more ++ rest
-slots_joined run bytes more rest e =
-    sym (append_assoc (byte_slots run) (byte_slots bytes) rest)
-    ∙ ap (λ l. l ++ rest) (sym (map-append (λ b. Own (Byte b)) run bytes))
-    ∙ ap (λ l. byte_slots l ++ rest) e
-
-pub goes_item : (texts : List (List ℕ)) (items : List Item) (at : ℕ) (x d : Item) (run more : Span) (bytes : List ℕ) → at < length items → x ≡ get_or items at d
-    → bytes_in texts x ≡ bytes
-    → ((table : TableRead) (has_piece : ℕ → Bool) (node : Title) (piece marks : ℕ) → item_slots texts table has_piece node piece marks x ≡ byte_slots bytes)
-    → ((marks : ℕ) → marks_behind_item marks x ≡ marks)
-    → IsSpan texts more → span_text texts run ++ bytes ≡ span_text texts more → GoesOn texts items at run (at + 1) more
-goes_item texts items at x d run more bytes h is same slots marks range text =
-    let next : drop at items ≡ x ∷ drop (at + 1) items = next_item items at d h ∙ ap (λ y. y ∷ drop (at + 1) items) (sym is) in
-    record {
-      behind = omega arith;
-      within = omega (arith, h);
-      range = range;
-      bytes =
-          ap (λ l. span_text texts run ++ flat_map (bytes_in texts) l) next
-          ∙ ap (λ l. span_text texts run ++ (l ++ flat_map (bytes_in texts) (drop (at + 1) items))) same
-          ∙ sym (append_assoc (span_text texts run) bytes (flat_map (bytes_in texts) (drop (at + 1) items)))
-          ∙ ap (λ l. l ++ flat_map (bytes_in texts) (drop (at + 1) items)) text;
-      slots = λ table has_piece node piece m.
-          ap (λ l. byte_slots (span_text texts run) ++ items_slots texts table has_piece node piece m l) next
-          ∙ ap (λ l. byte_slots (span_text texts run) ++ (l ++ items_slots texts table has_piece node piece (marks_behind_item m x) (drop (at + 1) items))) (slots table has_piece node piece m)
-          ∙ ap (λ n. byte_slots (span_text texts run) ++ (byte_slots bytes ++ items_slots texts table has_piece node piece n (drop (at + 1) items))) (marks m)
-          ∙ slots_joined (span_text texts run) bytes (span_text texts more) (items_slots texts table has_piece node piece m (drop (at + 1) items)) text;
-    }
-
-pub goes_text : (texts : List (List ℕ)) (items : List Item) (at : ℕ) (x d : Item) (run span more : Span) → at < length items → x ≡ get_or items at d
-    → IsTextOf x span → IsSpan texts span → IsJoined run span more → IsSpan texts run → GoesOn texts items at run (at + 1) more
-goes_text texts items at x d run span more h is text range joined here =
-    goes_item texts items at x d run more (span_text texts span) h is (text.bytes texts) (text.slots texts) text.marks (joined.range texts here range) (joined.text texts here range)
-
-pub goes_space : (texts : List (List ℕ)) (items : List Item) (at : ℕ) (x d : Item) (run more : Span) → at < length items → x ≡ get_or items at d
-    → x ≡ item.Blank → IsSpan texts more → span_text texts run ++ space ∷ [] ≡ span_text texts more → GoesOn texts items at run (at + 1) more
-goes_space texts items at x d run more h is blank range text =
-    goes_item texts items at item.Blank d run more (space ∷ []) h (sym blank ∙ is) refl (λ table has_piece node piece marks. refl) (λ marks. refl) range text
-
-pub goes_both : (texts : List (List ℕ)) (items : List Item) (at next behind : ℕ) (run more longest : Span)
-    → GoesOn texts items at run next more → GoesOn texts items next more behind longest → GoesOn texts items at run behind longest
-goes_both texts items at next behind run more longest h k = record {
-  behind = omega (arith, h.behind, k.behind);
-  within = k.within;
-  range = k.range;
-  bytes = h.bytes ∙ k.bytes;
-  slots = λ table has_piece node piece marks. h.slots table has_piece node piece marks ∙ k.slots table has_piece node piece marks;
+pub runs_with_text : (texts : List (List ℕ)) (x : Item) (run span more : Span) → IsTextOf x span → IsSpan texts span → IsJoined run span more → IsSpan texts run → IsRunWith texts run x more
+runs_with_text texts x run span more text range joined here = record {
+  range = joined.range texts here range;
+  bytes = ap (λ l. span_text texts run ++ l) (text.bytes texts) ∙ joined.text texts here range;
+  slots = λ table has_piece node piece marks. text.slots texts table has_piece node piece marks ∙ ap byte_slots (sym (text.bytes texts));
+  marks = text.marks;
 }
 
-pub goes_nowhere : (texts : List (List ℕ)) (items : List Item) (at : ℕ) (run : Span) → at ≤ length items → IsSpan texts run → GoesOn texts items at run at run
-goes_nowhere texts items at run h range = record {
-  behind = omega arith;
-  within = h;
-  range = range;
-  bytes = refl;
+-- one more byte of a line
+byte_behind : (whole : List ℕ) (start end byte : ℕ) → start ≤ end → end < length whole → get_or whole end 0 ≡ byte
+    → (take (end - start) (drop start whole) ++ byte ∷ []) ≡ take (end + 1 - start) (drop start whole)
+byte_behind whole start end byte le lt is =
+    let behind : drop (end - start) (drop start whole) ≡ drop end whole
+    = drop-drop (end - start) start whole ∙ ap (λ n. drop n whole) (omega (arith, le)) in
+    let one : take 1 (drop end whole) ≡ byte ∷ [] = ap (take 1) (drop-cons whole end 0 lt) ∙ ap (λ b. b ∷ []) is in
+    ap (λ l. take (end - start) (drop start whole) ++ l) (sym one ∙ ap (take 1) (sym behind))
+    ∙ sym (take-add (end - start) 1 (drop start whole))
+    ∙ ap (λ n. take n (drop start whole)) (omega (arith, le))
+
+pub runs_with_space : (texts : List (List ℕ)) (x : Item) (run : Span) (end : ℕ) → x ≡ item.Blank → end ≡ run.end + 1 → IsSpan texts run
+    → run.end < length (get_or texts run.line []) → get_or (get_or texts run.line []) run.end 0 ≡ space
+    → IsRunWith texts run x (record { line = run.line; start = run.start; end = end })
+runs_with_space texts x run end blank more here lt is = rw (blank, more) (record {
+  range = record { line = here.line; start = omega (arith, here.start); end = omega (arith, lt) };
+  bytes = byte_behind (get_or texts run.line []) run.start run.end space here.start lt is;
   slots = λ table has_piece node piece marks. refl;
+  marks = λ marks. refl;
+})
+
+-- an item is added
+
+pub adds_to_run : (texts : List (List ℕ)) (table : TableRead) (has_piece : ℕ → Bool) (x : Item) (run more : Span) (made : Making) → IsRunWith texts run x more
+    → AddsItem texts table has_piece x (Some run) (Some more) made made
+adds_to_run texts table has_piece x run more made h = record {
+  node = refl;
+  piece = refl;
+  marks = sym (h.marks made.marks);
+  made = ap (λ l. made.made ++ byte_slots l) (sym h.bytes)
+      ∙ ap (λ l. made.made ++ l) (map-append (λ b. Own (Byte b)) (span_text texts run) (bytes_in texts x))
+      ∙ sym (append_assoc made.made (byte_slots (span_text texts run)) (byte_slots (bytes_in texts x)))
+      ∙ ap (λ l. (made.made ++ byte_slots (span_text texts run)) ++ l) (sym (h.slots table has_piece made.node made.piece made.marks));
+  bytes = ap (λ l. made.bytes ++ l) (sym h.bytes) ∙ sym (append_assoc made.bytes (span_text texts run) (bytes_in texts x));
+  codes = refl;
+  uses = refl;
 }
 
--- a text and what stands side by side with it, added to what is being made
-pub adds_run : (texts : List (List ℕ)) (table : TableRead) (has_piece : ℕ → Bool) (items : List Item) (at next : ℕ) (x d : Item) (first run : Span) (old new : Making)
-    → at < length items → x ≡ get_or items at d → IsTextOf x first → GoesOn texts items (at + 1) first next run
-    → new ≡ record { node = old.node; piece = old.piece; marks = old.marks; made = old.made ++ byte_slots (span_text texts run); bytes = old.bytes ++ span_text texts run }
-    → AddsItems texts table has_piece items at next old new
-adds_run texts table has_piece items at next x d first run old new h is text goes e =
-    let here : drop at items ≡ x ∷ drop (at + 1) items = next_item items at d h ∙ ap (λ y. y ∷ drop (at + 1) items) (sym is) in
-    let rest = λ (m : ℕ). items_slots texts table has_piece old.node old.piece m (drop (at + 1) items) in
-    rw e (record {
-      node = refl;
-      piece = refl;
-      made =
-          append_assoc old.made (byte_slots (span_text texts run)) _
-          ∙ ap (λ l. old.made ++ l) (sym (goes.slots table has_piece old.node old.piece old.marks))
-          ∙ ap (λ n. old.made ++ (byte_slots (span_text texts first) ++ rest n)) (sym (text.marks old.marks))
-          ∙ ap (λ l. old.made ++ (l ++ rest (marks_behind_item old.marks x))) (sym (text.slots texts table has_piece old.node old.piece old.marks))
-          ∙ ap (λ l. old.made ++ items_slots texts table has_piece old.node old.piece old.marks l) (sym here);
-      bytes =
-          append_assoc old.bytes (span_text texts run) _
-          ∙ ap (λ l. old.bytes ++ l) (sym goes.bytes)
-          ∙ ap (λ l. old.bytes ++ (l ++ flat_map (bytes_in texts) (drop (at + 1) items))) (sym (text.bytes texts))
-          ∙ ap (λ l. old.bytes ++ flat_map (bytes_in texts) l) (sym here);
-    })
+-- with the range that was still to be copied
+abbrev pub with_run_text : List (List ℕ) → Option Span → Making → Making
+with_run_text texts run old = record old { made = old.made ++ byte_slots (run_text texts run); bytes = old.bytes ++ run_text texts run }
 
--- one item
-pub adds_item : (texts : List (List ℕ)) (table : TableRead) (has_piece : ℕ → Bool) (items : List Item) (at : ℕ) (x d : Item) (old new : Making)
-    → at < length items → x ≡ get_or items at d
-    → new ≡ record {
-      node = old.node;
-      piece = old.piece;
-      marks = marks_behind_item old.marks x;
-      made = old.made ++ item_slots texts table has_piece old.node old.piece old.marks x;
-      bytes = old.bytes ++ bytes_in texts x;
+pub adds_text : (texts : List (List ℕ)) (table : TableRead) (has_piece : ℕ → Bool) (x : Item) (run : Option Span) (span : Span) (old new : Making)
+    → new ≡ with_run_text texts run old → IsTextOf x span → AddsItem texts table has_piece x run (Some span) old new
+adds_text texts table has_piece x run span old new e h = rw e (record {
+  node = refl;
+  piece = refl;
+  marks = sym (h.marks old.marks);
+  made = ap (λ l. (old.made ++ byte_slots (run_text texts run)) ++ l) (sym (h.slots texts table has_piece old.node old.piece old.marks));
+  bytes = ap (λ l. (old.bytes ++ run_text texts run) ++ l) (sym (h.bytes texts));
+  codes = refl;
+  uses = refl;
+})
+
+pub adds_other : (texts : List (List ℕ)) (table : TableRead) (has_piece : ℕ → Bool) (x : Item) (run : Option Span) (old mid new : Making)
+    → mid ≡ with_run_text texts run old
+    → new ≡ record mid {
+      marks = marks_behind_item mid.marks x;
+      made = mid.made ++ item_slots texts table has_piece mid.node mid.piece mid.marks x;
+      bytes = mid.bytes ++ bytes_in texts x;
     }
-    → AddsItems texts table has_piece items at (at + 1) old new
-adds_item texts table has_piece items at x d old new h is e =
-    let here : drop at items ≡ x ∷ drop (at + 1) items = next_item items at d h ∙ ap (λ y. y ∷ drop (at + 1) items) (sym is) in
-    rw e (record {
-      node = refl;
-      piece = refl;
-      made =
-          append_assoc old.made (item_slots texts table has_piece old.node old.piece old.marks x) _
-          ∙ ap (λ l. old.made ++ items_slots texts table has_piece old.node old.piece old.marks l) (sym here);
-      bytes =
-          append_assoc old.bytes (bytes_in texts x) _
-          ∙ ap (λ l. old.bytes ++ flat_map (bytes_in texts) l) (sym here);
-    })
+    → AddsItem texts table has_piece x run None old new
+adds_other texts table has_piece x run old mid new e f = rw (f, e) (record {
+  node = refl;
+  piece = refl;
+  marks = refl;
+  made = append-nil ((old.made ++ byte_slots (run_text texts run)) ++ item_slots texts table has_piece old.node old.piece old.marks x);
+  bytes = append-nil ((old.bytes ++ run_text texts run) ++ bytes_in texts x);
+  codes = refl;
+  uses = refl;
+})
+
+-- the items of a piece from one number on are still to be added to what is being made, behind a range
+pub record IsOnTheWay (texts : List (List ℕ)) (table : TableRead) (has_piece : ℕ → Bool) (first : Making) (items : List Item) (i : ℕ) (run : Option Span) (made : Making) : Type 0 where
+  pub node : made.node ≡ first.node
+  pub piece : made.piece ≡ first.piece
+  pub slots : (made.made ++ byte_slots (run_text texts run)) ++ items_slots texts table has_piece first.node first.piece made.marks (drop i items)
+      ≡ first.made ++ piece_slots texts table has_piece first.node first.piece items
+  pub bytes : (made.bytes ++ run_text texts run) ++ flat_map (bytes_in texts) (drop i items) ≡ first.bytes ++ flat_map (bytes_in texts) items
+  pub codes : made.codes ++ piece_codes table (drop i items) ≡ first.codes ++ piece_codes table items
+  pub uses : made.uses ++ flat_map (names_in table) (drop i items) ≡ first.uses ++ flat_map (names_in table) items
+
+codes_next : (table : TableRead) (items : List Item) (i : ℕ) (d : Item) (codes whole : List ItemCode) → i < length items
+    → codes ++ piece_codes table (drop i items) ≡ whole → (codes ++ code_in table (get_or items i d) ∷ []) ++ piece_codes table (drop (i + 1) items) ≡ whole
+codes_next table items i d codes whole h e =
+    let x = get_or items i d in
+    let next : drop i items ≡ x ∷ drop (i + 1) items = drop-cons items i d h ∙ ap (λ j. x ∷ drop j items) (sym (add-one i)) in
+    append_assoc codes (code_in table x ∷ []) (piece_codes table (drop (i + 1) items)) ∙ ap (λ l. codes ++ piece_codes table l) (sym next) ∙ e
+
+goes_on_there : (texts : List (List ℕ)) (table : TableRead) (has_piece : ℕ → Bool) (first : Making) (items : List Item) (i : ℕ) (d : Item) (run next : Option Span) (old mid new : Making)
+    → i < length items
+    → mid ≡ record old { codes = old.codes ++ code_in table (get_or items i d) ∷ []; uses = old.uses ++ names_in table (get_or items i d) }
+    → AddsItem texts table has_piece (get_or items i d) run next mid new
+    → IsOnTheWay texts table has_piece first items i run old → IsOnTheWay texts table has_piece first items (i + 1) next new
+goes_on_there texts table has_piece first items i d run next old mid new h e adds way =
+    let x = get_or items i d in
+    let adds' : AddsItem texts table has_piece x run next (record old { codes = old.codes ++ code_in table x ∷ []; uses = old.uses ++ names_in table x }) new
+    = subst (λ m. AddsItem texts table has_piece x run next m new) e adds in
+    record {
+      node = adds'.node ∙ way.node;
+      piece = adds'.piece ∙ way.piece;
+      slots = ap (λ l. l ++ items_slots texts table has_piece first.node first.piece new.marks (drop (i + 1) items)) adds'.made
+          ∙ ap (λ m. ((old.made ++ byte_slots (run_text texts run)) ++ item_slots texts table has_piece old.node old.piece old.marks x) ++ items_slots texts table has_piece first.node first.piece m (drop (i + 1) items)) adds'.marks
+          ∙ item_made texts table has_piece first.node old.node first.piece old.piece old.marks items i d (old.made ++ byte_slots (run_text texts run)) _ way.node way.piece h way.slots;
+      bytes = ap (λ l. l ++ flat_map (bytes_in texts) (drop (i + 1) items)) adds'.bytes ∙ items_next (bytes_in texts) items i d (old.bytes ++ run_text texts run) _ h way.bytes;
+      codes = ap (λ l. l ++ piece_codes table (drop (i + 1) items)) adds'.codes ∙ codes_next table items i d old.codes _ h way.codes;
+      uses = ap (λ l. l ++ flat_map (names_in table) (drop (i + 1) items)) adds'.uses ∙ items_next (names_in table) items i d old.uses _ h way.uses;
+    }
+
+pub goes_on : (texts : List (List ℕ)) (table : TableRead) (has_piece : ℕ → Bool) (first : Making) (items : List Item) (i : ℕ) (x d : Item) (run next : Option Span) (old mid new : Making)
+    → i < length items → x ≡ get_or items i d
+    → mid ≡ record old { codes = old.codes ++ code_in table x ∷ []; uses = old.uses ++ names_in table x }
+    → AddsItem texts table has_piece x run next mid new
+    → IsOnTheWay texts table has_piece first items i run old → IsOnTheWay texts table has_piece first items (i + 1) next new
+goes_on texts table has_piece first items i x d run next old mid new h is e adds =
+    goes_on_there texts table has_piece first items i d run next old mid new h
+    (subst (λ y. mid ≡ record old { codes = old.codes ++ code_in table y ∷ []; uses = old.uses ++ names_in table y }) is e)
+    (subst (λ y. AddsItem texts table has_piece y run next mid new) is adds)

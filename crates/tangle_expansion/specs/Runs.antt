@@ -1,5 +1,5 @@
 -- Texts of items that stand side by side in the source.
-use Rattle.std.specs.Prelude.{◌≡◌, ◌≤◌, ℕ, Bool, List, ◌++◌, drop, length, flat_map}
+use Rattle.std.specs.Prelude.{◌≡◌, ℕ, Bool, List, [], ◌++◌, Option, None, Some}
 use Rattle.tangle_scan.specs.declared.items.Item.{Item}
 use Rattle.tangle_lexer.specs.declared.spans.Span.{Span}
 use Rattle.tangle_scan.specs.Rules.{span_text}
@@ -7,8 +7,9 @@ use Rattle.tangle_scan.specs.SourceOrder.{IsInRange, IsSpan}
 use Rattle.tangle_names.specs.NameTable.{TableRead}
 use Rattle.tangle_expansion.specs.Shapes.{Title}
 use Rattle.tangle_expansion.specs.ItemCodes.{bytes_in}
-use Rattle.tangle_expansion.specs.ItemSlots.{marks_behind_item, item_slots, items_slots}
-use Rattle.tangle_expansion.specs.Slots.{Making, byte_slots}
+use Rattle.tangle_expansion.specs.ItemSlots.{marks_behind_item, item_slots}
+use Rattle.tangle_expansion.specs.Slots.{byte_slots}
+use Rattle.tangle_expansion.specs.Planned.{Making}
 
 -- the item is its text, which is this range
 pub record IsTextOf (item : Item) (s : Span) : Type 0 where
@@ -23,20 +24,26 @@ pub record IsJoined (run span more : Span) : Type 0 where
   pub range : (texts : List (List ℕ)) → IsSpan texts run → IsSpan texts span → IsSpan texts more
   pub text : (texts : List (List ℕ)) → IsSpan texts run → IsSpan texts span → span_text texts run ++ span_text texts span ≡ span_text texts more
 
--- a range with the items from one number on is a longer one with those from another on
-pub record GoesOn (texts : List (List ℕ)) (items : List Item) (at : ℕ) (run : Span) (next : ℕ) (more : Span) : Type 0 where
-  pub behind : at ≤ next
-  pub within : next ≤ length items
+-- a range with an item behind it is a longer one
+pub record IsRunWith (texts : List (List ℕ)) (run : Span) (item : Item) (more : Span) : Type 0 where
   pub range : IsSpan texts more
-  pub bytes : span_text texts run ++ flat_map (bytes_in texts) (drop at items) ≡ span_text texts more ++ flat_map (bytes_in texts) (drop next items)
+  pub bytes : span_text texts run ++ bytes_in texts item ≡ span_text texts more
   pub slots : (table : TableRead) (has_piece : ℕ → Bool) (node : Title) (piece marks : ℕ)
-      → byte_slots (span_text texts run) ++ items_slots texts table has_piece node piece marks (drop at items)
-      ≡ byte_slots (span_text texts more) ++ items_slots texts table has_piece node piece marks (drop next items)
+      → item_slots texts table has_piece node piece marks item ≡ byte_slots (bytes_in texts item)
+  pub marks : (marks : ℕ) → marks_behind_item marks item ≡ marks
 
--- the items from one number up to another were added to what is being made
-pub record AddsItems (texts : List (List ℕ)) (table : TableRead) (has_piece : ℕ → Bool) (items : List Item) (at next : ℕ) (old new : Making) : Type 0 where
+-- the bytes of a range that is still to be copied, if there is one
+abbrev pub run_text : List (List ℕ) → Option Span → List ℕ
+run_text texts None = []
+run_text texts (Some run) = span_text texts run
+
+-- an item was added behind what is being made and a range that was still to be copied
+pub record AddsItem (texts : List (List ℕ)) (table : TableRead) (has_piece : ℕ → Bool) (item : Item) (run next : Option Span) (old new : Making) : Type 0 where
   pub node : new.node ≡ old.node
   pub piece : new.piece ≡ old.piece
-  pub made : new.made ++ items_slots texts table has_piece old.node old.piece new.marks (drop next items)
-      ≡ old.made ++ items_slots texts table has_piece old.node old.piece old.marks (drop at items)
-  pub bytes : new.bytes ++ flat_map (bytes_in texts) (drop next items) ≡ old.bytes ++ flat_map (bytes_in texts) (drop at items)
+  pub marks : new.marks ≡ marks_behind_item old.marks item
+  pub made : new.made ++ byte_slots (run_text texts next)
+      ≡ (old.made ++ byte_slots (run_text texts run)) ++ item_slots texts table has_piece old.node old.piece old.marks item
+  pub bytes : new.bytes ++ run_text texts next ≡ (old.bytes ++ run_text texts run) ++ bytes_in texts item
+  pub codes : new.codes ≡ old.codes
+  pub uses : new.uses ≡ old.uses

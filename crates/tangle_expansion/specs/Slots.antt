@@ -99,11 +99,3 @@ pub record IsMade (text : List ℕ) (plan : List Step) (piece marks start : ℕ)
 
 abbrev pub byte_slots : List ℕ → List Slot
 byte_slots bytes = map (λ b. Own (Byte b)) bytes
-
--- what was made so far: the pieces and marks counted, the slots, and the bytes of all items
-pub record Making : Type 0 where
-  pub node : Title
-  pub piece : ℕ
-  pub marks : ℕ
-  pub made : List Slot
-  pub bytes : List ℕ

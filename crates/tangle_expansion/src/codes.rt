@@ -1,16 +1,13 @@
 //! What two shapes are compared by, beside the bytes of their items: codes of the items, and the names that they use.
-ghost use Rattle.std.specs.Prelude.{◌≡◌, ◌↔◌, true, ◌++◌, ◌-◌, ◌<◌, length, flat_map, OnOk, IfOk, decimal};
-ghost use Rattle.std.specs.List.{All};
+ghost use Rattle.std.specs.Prelude.{◌≡◌, ◌↔◌, true, ◌++◌, ◌-◌, length, OnOk, decimal};
 ghost use Rattle.tangle_scan.specs.WellFormed.{IsUseBelow};
-ghost use Rattle.tangle_expansion.specs.ItemSlots.{pieces_at};
-ghost use Rattle.tangle_expansion.specs.ItemCodes.{use_code as code_of_use, code_in, piece_codes, names_resolved, names_in, pieces_names, shape_of};
-ghost use Rattle.tangle_expansion.specs.Codes.{shape_codes};
+ghost use Rattle.tangle_expansion.specs.ItemCodes.{use_code as code_of_use, code_in, names_resolved};
+ghost use Rattle.tangle_expansion.specs.Codes.{piece_end};
 
 use itoa::Buffer;
-use std::alloc::Global;
 use tangle_lines::NoMemory;
 use tangle_names::{NameTable, Resolved};
-use tangle_scan::{Item, Piece, Span, Web};
+use tangle_scan::{Item, Span};
 
 /// The kind of an item of a shape, or the end of a piece.
 #[derive(Clone, Copy, Debug, PartialEq, Eq)]
@@ -73,7 +70,7 @@ fn use_code(resolved: Resolved) -> ItemCode
 }
 
 /// The code of an item.
-fn code_of(item: &Item, table: &NameTable) -> ItemCode
+pub(crate) fn code_of(item: &Item, table: &NameTable) -> ItemCode
     requires { IsUseBelow (length table.now.resolved) item.now }
     ensures { result ≡ code_in table.now item.now }
 {
@@ -92,55 +89,11 @@ fn code_of(item: &Item, table: &NameTable) -> ItemCode
     }
 }
 
-/// Adds the codes of a piece.
-fn add_codes(codes: &mut Vec<ItemCode>, table: &NameTable, items: &[Item]) -> Result<(), NoMemory>
-    requires { All (IsUseBelow (length table.now.resolved)) items.now }
-    ensures { OnOk result (codes.new.items ≡ codes.old.items ++ piece_codes table.now items.now) }
+/// The code of the end of a piece.
+pub(crate) fn end_of_piece() -> ItemCode
+    ensures { result ≡ piece_end }
 {
-    for item in items {
-        codes.push(code_of(item, table))?;
-    }
-    codes.push(fixed_code(ItemKind::PieceEnd, 0))?;
-    Ok(())
-}
-
-/// How many codes the pieces with these numbers have, for the room that they take.
-fn code_count(pieces: &[Piece], numbers: &[usize]) -> usize
-    requires { All (λ n. n < length pieces.now) numbers.now }
-{
-    let mut count = numbers.len();
-    for number in numbers {
-        count = count.saturating_add(pieces[*number].items().len());
-    }
-    count
-}
-
-/// How many bytes the texts of items with these codes have, for the room that they take.
-pub(crate) fn text_size(codes: &[ItemCode]) -> usize {
-    let mut size: usize = 0;
-    for code in codes {
-        size = size.saturating_add(code.size as usize);
-    }
-    size
-}
-
-/// The codes of the pieces with these numbers.
-pub(crate) fn codes_of(
-    alloc: Global,
-    web: &Web,
-    table: &NameTable,
-    numbers: &[usize],
-) -> Result<Vec<ItemCode>, NoMemory>
-    requires numbers { All (λ n. n < length web.now.pieces) numbers.now }
-    requires ours { length table.now.resolved ≡ length web.now.occurrences }
-    ensures { IfOk result (λ codes. codes.items ≡ shape_codes (shape_of web.now.texts table.now (pieces_at web.now.pieces numbers.now))) }
-{
-    let pieces = web.pieces();
-    let mut codes = Vec::with_capacity(alloc, code_count(pieces, numbers))?;
-    for number in numbers {
-        add_codes(&mut codes, table, pieces[*number].items())?;
-    }
-    Ok(codes)
+    fixed_code(ItemKind::PieceEnd, 0)
 }
 
 /// Whether two codes are the same.
@@ -166,43 +119,11 @@ pub(crate) fn same_codes(codes: &[ItemCode], others: &[ItemCode]) -> bool
 }
 
 /// Adds the number of the name that is resolved to, if there is one.
-fn add_name(names: &mut Vec<usize>, resolved: Resolved) -> Result<(), NoMemory>
+pub(crate) fn add_name(names: &mut Vec<usize>, resolved: Resolved) -> Result<(), NoMemory>
     ensures { OnOk result (names.new.items ≡ names.old.items ++ names_resolved resolved) }
 {
     if let Resolved::Name(id) = resolved {
         names.push(id)?;
     }
     Ok(())
-}
-
-/// Adds the numbers of the names that a piece uses.
-fn add_names(names: &mut Vec<usize>, table: &NameTable, items: &[Item]) -> Result<(), NoMemory>
-    requires { All (IsUseBelow (length table.now.resolved)) items.now }
-    ensures { OnOk result (names.new.items ≡ names.old.items ++ flat_map (names_in table.now) items.now) }
-{
-    for item in items {
-        if let Item::UseOf(occurrence) = *item {
-            add_name(names, table.resolve(occurrence.number()))?;
-        }
-    }
-    Ok(())
-}
-
-/// The numbers of the names that the pieces with these numbers use, one for each use.
-pub(crate) fn names_of(
-    alloc: Global,
-    web: &Web,
-    table: &NameTable,
-    numbers: &[usize],
-) -> Result<Vec<usize>, NoMemory>
-    requires numbers { All (λ n. n < length web.now.pieces) numbers.now }
-    requires ours { length table.now.resolved ≡ length web.now.occurrences }
-    ensures { IfOk result (λ names. names.items ≡ pieces_names table.now (pieces_at web.now.pieces numbers.now)) }
-{
-    let mut names = Vec::new(alloc);
-    let pieces = web.pieces();
-    for number in numbers {
-        add_names(&mut names, table, pieces[*number].items())?;
-    }
-    Ok(names)
 }

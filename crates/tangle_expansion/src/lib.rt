@@ -6,6 +6,7 @@
 
 mod building;
 mod codes;
+mod counting;
 mod expanding;
 mod expansion;
 mod files;
@@ -32,7 +33,7 @@ pub use laws::{
 };
 pub use nodes::{Node, PiecesByNode};
 pub use numbers::Numbers;
-pub use planning::plan_node;
+pub use planning::{Planning, plan_node};
 pub use shapes::same_shape;
 pub use work::Work;
 pub use writing::write_text;

@@ -1,39 +1,45 @@
 //! Making the text and the plan of a node, item by item.
-ghost use Rattle.std.specs.Prelude.{◌≡◌, false, length, slice_index_or, ◌++◌, flat_map, filter, [], IfOk, OnOk, OnErr, ◌+◌, ◌^◌, ◌<◌, ◌≤◌, ◌∷◌};
+ghost use Rattle.std.specs.Prelude.{◌≡◌, false, length, slice_index_or, ◌++◌, flat_map, filter, [], IfOk, IfSome, OnOk, OnErr, ◌+◌, ◌^◌, ◌<◌, ◌≤◌, ◌∷◌};
 ghost use Rattle.tangle_expansion.specs.Meaning.{title_of, pieces_passed, marks_passed};
-ghost use Rattle.tangle_expansion.specs.Slots.{slots, byte_slots, step_slots, IsMade, is_run, last_run};
+ghost use Rattle.tangle_expansion.specs.Slots.{slots, byte_slots, step_slots, is_run, last_run};
 ghost use Rattle.std.specs.List.{All};
-ghost use Rattle.tangle_scan.specs.SourceOrder.{IsInRange};
+ghost use Rattle.tangle_scan.specs.SourceOrder.{IsInRange, IsSpan};
 ghost use Rattle.tangle_scan.specs.WellFormed.{IsUseBelow};
-ghost use Rattle.tangle_expansion.specs.ItemCodes.{bytes_in, pieces_bytes, pieces_names, shape_of};
+ghost use Rattle.tangle_expansion.specs.ItemCodes.{bytes_in, code_in, names_in, piece_codes, pieces_bytes, pieces_names, shape_of};
+ghost use Rattle.tangle_expansion.specs.Codes.{piece_end, shape_codes};
+ghost use Rattle.tangle_expansion.specs.Planned.{nothing_made};
+ghost use Rattle.tangle_expansion.specs.Shapes.{Program};
 ghost use Rattle.tangle_expansion.specs.NodeTexts.{node_title, node_bytes, node_codes, node_uses, plan_slots, plan_uses, HoldsShape};
-ghost use Rattle.tangle_expansion.specs.Runs.{AddsItems};
+ghost use Rattle.tangle_expansion.specs.Runs.{AddsItem, run_text};
 ghost use Rattle.tangle_expansion.specs.ItemSlots.{marks_behind_item, name_slots, item_slots, piece_slots, pieces_slots, pieces_at};
 
-use crate::codes::{ItemCode, codes_of, names_of, text_size};
+use crate::codes::{ItemCode, add_name, code_of, end_of_piece};
 use crate::expansion::{NodeText, Step};
-use crate::runs::{side_by_side, text_of};
+use crate::runs::{text_of, with_item};
 use itoa::Buffer;
 use std::alloc::Global;
 use std::marker::Model;
+use std::mem::replace;
 use tangle_lines::NoMemory;
 use tangle_names::{NameTable, Resolved};
-use tangle_scan::{Item, Web};
+use tangle_scan::{Item, Span, Web};
 
-/// The text and the plan of a node that are being made.
+/// Room in which the texts and plans of nodes are made, one after the other: what is kept of a node takes just as much as it needs.
 #[derive(Drop)]
-pub(crate) struct Planning {
+pub struct Planning {
     name: Option<Vec<u8>>,
     text: Vec<u8>,
     plan: Vec<Step>,
+    codes: Vec<ItemCode>,
+    uses: Vec<usize>,
     piece: usize,
     marks: usize,
     start: usize,
 }
 
 impl Model for Planning {
-    ghost use Rattle.tangle_expansion.specs.Slots.{Making, IsMade};
-    ghost use Rattle.tangle_expansion.specs.Planned.{making};
+    ghost use Rattle.tangle_expansion.specs.Slots.{IsMade};
+    ghost use Rattle.tangle_expansion.specs.Planned.{Making, making};
 
     ghost Value = { Making };
 
@@ -43,46 +49,59 @@ impl Model for Planning {
 }
 
 impl Planning {
-    /// No item yet, and room for so many bytes.
-    pub(crate) fn new(alloc: Global, name: Option<Vec<u8>>, room: usize) -> Result<Self, NoMemory>
-        ensures { IfOk result (λ p. p ≡ record { node = title_of name; piece = 0; marks = 0; made = []; bytes = [] }) }
+    /// Room for a first node.
+    pub fn new(alloc: Global) -> Self
+        ensures { result ≡ nothing_made Program }
     {
-        let text = Vec::with_capacity(alloc, room)?;
-        Ok(Planning {
-            name,
-            text,
+        Planning {
+            name: None,
+            text: Vec::new(alloc),
             plan: Vec::new(alloc),
+            codes: Vec::new(alloc),
+            uses: Vec::new(alloc),
             piece: 0,
             marks: 0,
             start: 0,
-        })
+        }
+    }
+
+    /// Begins with a node of this name, or the program.
+    fn begin(&mut self, name: Option<Vec<u8>>)
+        ensures { self.new ≡ nothing_made (title_of name) }
+    {
+        self.name = name;
+        self.text.clear();
+        self.plan.clear();
+        self.codes.clear();
+        self.uses.clear();
+        self.piece = 0;
+        self.marks = 0;
+        self.start = 0;
     }
 
     /// Adds bytes that are written as they stand.
-    pub(crate) fn add_bytes(&mut self, bytes: &[u8]) -> Result<(), NoMemory>
-        ensures { OnOk result (self.new ≡ record { node = self.old.node; piece = self.old.piece; marks = self.old.marks; made = self.old.made ++ byte_slots bytes.now; bytes = self.old.bytes ++ bytes.now }) }
+    fn add_bytes(&mut self, bytes: &[u8]) -> Result<(), NoMemory>
+        ensures { OnOk result (self.new ≡ record self.old { made = self.old.made ++ byte_slots bytes.now; bytes = self.old.bytes ++ bytes.now }) }
     {
         self.text.extend_from_slice(bytes)?;
         Ok(())
     }
 
     /// Adds a byte that is written as it stands.
-    pub(crate) fn add_byte(&mut self, byte: u8) -> Result<(), NoMemory>
-        ensures { OnOk result (self.new ≡ record { node = self.old.node; piece = self.old.piece; marks = self.old.marks; made = self.old.made ++ byte_slots (byte ∷ []); bytes = self.old.bytes ++ byte ∷ [] }) }
+    fn add_byte(&mut self, byte: u8) -> Result<(), NoMemory>
+        ensures { OnOk result (self.new ≡ record self.old { made = self.old.made ++ byte_slots (byte ∷ []); bytes = self.old.bytes ++ byte ∷ [] }) }
     {
         self.text.push(byte)?;
         Ok(())
     }
 
     /// Adds a step that is no run.
-    pub(crate) fn add_step(&mut self, step: Step) -> Result<(), NoMemory>
+    fn add_step(&mut self, step: Step) -> Result<(), NoMemory>
         requires { is_run step ≡ false }
-        ensures { OnOk result (self.new ≡ record {
-          node = self.old.node;
+        ensures { OnOk result (self.new ≡ record self.old {
           piece = pieces_passed self.old.piece step;
           marks = marks_passed self.old.marks step;
           made = self.old.made ++ step_slots self.old.node [] self.old.piece self.old.marks 0 step;
-          bytes = self.old.bytes;
         }) }
     {
         let end = self.text.len();
@@ -94,22 +113,43 @@ impl Planning {
         Ok(())
     }
 
-    /// What is kept of the node, with these codes and uses.
-    pub(crate) fn finish(self, codes: Vec<ItemCode>, uses: Vec<usize>) -> Result<NodeText, NoMemory>
-        ensures node { IfOk result (λ n. node_title n ≡ self.node) }
-        ensures made { IfOk result (λ n. slots self.node (node_bytes n) 0 0 0 n.plan.items ≡ self.made) }
-        ensures bytes { IfOk result (λ n. node_bytes n ≡ self.bytes) }
-        ensures codes { IfOk result (λ n. node_codes n ≡ codes.items) }
-        ensures uses { IfOk result (λ n. node_uses n ≡ uses.items) }
+    /// Adds the code of an item, and the number of the name that it uses.
+    fn add_code(&mut self, table: &NameTable, item: &Item) -> Result<(), NoMemory>
+        requires { IsUseBelow (length table.now.resolved) item.now }
+        ensures { OnOk result (self.new ≡ record self.old { codes = self.old.codes ++ code_in table.now item.now ∷ []; uses = self.old.uses ++ names_in table.now item.now }) }
     {
-        let mut plan = self.plan;
+        self.codes.push(code_of(item, table))?;
+        if let Item::UseOf(occurrence) = *item {
+            add_name(&mut self.uses, table.resolve(occurrence.number()))?;
+        }
+        Ok(())
+    }
+
+    /// Adds the code of the end of a piece.
+    fn end_codes(&mut self) -> Result<(), NoMemory>
+        ensures { OnOk result (self.new ≡ record self.old { codes = self.old.codes ++ piece_end ∷ [] }) }
+    {
+        self.codes.push(end_of_piece())?;
+        Ok(())
+    }
+
+    /// What is kept of the node.
+    fn finish(&mut self, alloc: Global) -> Result<NodeText, NoMemory>
+        ensures node { IfOk result (λ n. node_title n ≡ self.old.node) }
+        ensures made { IfOk result (λ n. slots self.old.node (node_bytes n) 0 0 0 n.plan.items ≡ self.old.made) }
+        ensures bytes { IfOk result (λ n. node_bytes n ≡ self.old.bytes) }
+        ensures codes { IfOk result (λ n. node_codes n ≡ self.old.codes) }
+        ensures uses { IfOk result (λ n. node_uses n ≡ self.old.uses) }
+    {
+        let mut plan = Vec::with_capacity(alloc, self.plan.len().saturating_add(1))?;
+        plan.extend_from_slice(&self.plan)?;
         end_run(&mut plan, self.start, self.text.len())?;
         Ok(NodeText {
-            name: self.name,
-            text: self.text,
+            text: Vec::from_slice(alloc, &self.text)?,
             plan,
-            codes,
-            uses,
+            codes: Vec::from_slice(alloc, &self.codes)?,
+            uses: Vec::from_slice(alloc, &self.uses)?,
+            name: replace(&mut self.name, None),
         })
     }
 }
@@ -158,13 +198,7 @@ fn has_piece_at(has_piece: &[bool], id: usize) -> bool
 
 /// Adds a use of what is resolved to.
 fn add_use(planning: &mut Planning, resolved: Resolved, has_piece: &[bool]) -> Result<(), NoMemory>
-    ensures { OnOk result (planning.new ≡ record {
-      node = planning.old.node;
-      piece = planning.old.piece;
-      marks = planning.old.marks;
-      made = planning.old.made ++ name_slots (λ id. slice_index_or has_piece.now id false) resolved;
-      bytes = planning.old.bytes;
-    }) }
+    ensures { OnOk result (planning.new ≡ record planning.old { made = planning.old.made ++ name_slots (λ id. slice_index_or has_piece.now id false) resolved }) }
 {
     match resolved {
         Resolved::Name(id) => {
@@ -188,9 +222,7 @@ fn add_item(
 ) -> Result<(), NoMemory>
     requires span { IsInRange web.now.texts item }
     requires name { IsUseBelow (length table.now.resolved) item }
-    ensures { OnOk result (planning.new ≡ record {
-      node = planning.old.node;
-      piece = planning.old.piece;
+    ensures { OnOk result (planning.new ≡ record planning.old {
       marks = marks_behind_item planning.old.marks item;
       made = planning.old.made ++ item_slots web.now.texts table.now (λ id. slice_index_or has_piece.now id false) planning.old.node planning.old.piece planning.old.marks item;
       bytes = planning.old.bytes ++ bytes_in web.now.texts item;
@@ -213,38 +245,49 @@ fn add_item(
     }
 }
 
-/// Adds the items from the one with this number on, of a text as many as stand side by side with it, and otherwise one: the number of the item
-/// behind them.
-fn add_items(
+/// Adds an item behind a range that is still to be copied, if there is one: the range that is to be copied then.
+fn add_behind(
     planning: &mut Planning,
     web: &Web,
     table: &NameTable,
     has_piece: &[bool],
-    items: &[Item],
-    at: usize,
-) -> Result<usize, NoMemory>
-    requires spans { All (IsInRange web.now.texts) items.now }
-    requires names { All (IsUseBelow (length table.now.resolved)) items.now }
-    requires at { at < length items.now }
-    ensures behind { IfOk result (λ next. at < next) }
-    ensures within { IfOk result (λ next. next ≤ length items.now) }
-    ensures added { IfOk result (λ next. AddsItems web.now.texts table.now (λ id. slice_index_or has_piece.now id false) items.now at next planning.old planning.new) }
+    run: Option<Span>,
+    item: &Item,
+) -> Result<Option<Span>, NoMemory>
+    requires span { IsInRange web.now.texts item.now }
+    requires name { IsUseBelow (length table.now.resolved) item.now }
+    requires run { IfSome run (IsSpan web.now.texts) }
+    ensures range { IfOk result (λ next. IfSome next (IsSpan web.now.texts)) }
+    ensures added { IfOk result (λ next. AddsItem web.now.texts table.now (λ id. slice_index_or has_piece.now id false) item.now run next planning.old planning.new) }
 {
-    match text_of(items[at]) {
-        Some(first) => {
-            let (run, next) = side_by_side(web, items, at + 1, first);
-            planning.add_bytes(web.text(run))?;
-            Ok(next)
+    if let Some(before) = run {
+        if let Some(more) = with_item(web, before, item) {
+            return Ok(Some(more));
         }
+    }
+    add_run(planning, web, run)?;
+    match text_of(item) {
+        Some(span) => Ok(Some(span)),
         None => {
-            add_item(planning, web, table, has_piece, items[at])?;
-            Ok(at + 1)
+            add_item(planning, web, table, has_piece, *item)?;
+            Ok(None)
         }
     }
 }
 
-/// Adds a piece.
-pub(crate) fn add_piece(
+/// Adds a range that is still to be copied, if there is one.
+fn add_run(planning: &mut Planning, web: &Web, run: Option<Span>) -> Result<(), NoMemory>
+    requires run { IfSome run (IsSpan web.now.texts) }
+    ensures { OnOk result (planning.new ≡ record planning.old { made = planning.old.made ++ byte_slots (run_text web.now.texts run); bytes = planning.old.bytes ++ run_text web.now.texts run }) }
+{
+    match run {
+        Some(run) => planning.add_bytes(web.text(run)),
+        None => Ok(()),
+    }
+}
+
+/// Adds a piece. Texts of items that stand side by side in the source are copied at once.
+fn add_piece(
     planning: &mut Planning,
     web: &Web,
     table: &NameTable,
@@ -259,45 +302,44 @@ pub(crate) fn add_piece(
       marks = 0;
       made = planning.old.made ++ piece_slots web.now.texts table.now (λ id. slice_index_or has_piece.now id false) planning.old.node planning.old.piece items.now;
       bytes = planning.old.bytes ++ flat_map (bytes_in web.now.texts) items.now;
+      codes = planning.old.codes ++ piece_codes table.now items.now;
+      uses = planning.old.uses ++ flat_map (names_in table.now) items.now;
     }) }
 {
     planning.add_step(Step::Open)?;
-    let mut at = 0;
-    while at < items.len() {
-        at = add_items(planning, web, table, has_piece, items, at)?;
+    let mut run = None;
+    for item in items {
+        planning.add_code(table, item)?;
+        run = add_behind(planning, web, table, has_piece, run, item)?;
     }
+    planning.end_codes()?;
+    add_run(planning, web, run)?;
     planning.add_step(Step::Close)
 }
 
-/// The plan of the pieces with these numbers, with room for so many bytes.
-fn plan_pieces(
-    alloc: Global,
+/// Adds the pieces with these numbers.
+fn add_pieces(
+    planning: &mut Planning,
     web: &Web,
     table: &NameTable,
     has_piece: &[bool],
-    name: Option<Vec<u8>>,
     numbers: &[usize],
-    room: usize,
-) -> Result<Planning, NoMemory>
+) -> Result<(), NoMemory>
     requires numbers { All (λ n. n < length web.now.pieces) numbers.now }
     requires ours { length table.now.resolved ≡ length web.now.occurrences }
-    ensures node { IfOk result (λ p. p.node ≡ title_of name) }
-    ensures made { IfOk result (λ p. p.made
-        ≡ pieces_slots web.now.texts table.now (λ id. slice_index_or has_piece.now id false) (title_of name) 0 (pieces_at web.now.pieces numbers.now)) }
-    ensures bytes { IfOk result (λ p. p.bytes ≡ pieces_bytes web.now.texts (pieces_at web.now.pieces numbers.now)) }
+    requires begun { planning.old ≡ nothing_made planning.old.node }
+    ensures node { OnOk result (planning.new.node ≡ planning.old.node) }
+    ensures made { OnOk result (planning.new.made
+        ≡ pieces_slots web.now.texts table.now (λ id. slice_index_or has_piece.now id false) planning.old.node 0 (pieces_at web.now.pieces numbers.now)) }
+    ensures bytes { OnOk result (planning.new.bytes ≡ pieces_bytes web.now.texts (pieces_at web.now.pieces numbers.now)) }
+    ensures codes { OnOk result (planning.new.codes ≡ shape_codes (shape_of web.now.texts table.now (pieces_at web.now.pieces numbers.now))) }
+    ensures uses { OnOk result (planning.new.uses ≡ pieces_names table.now (pieces_at web.now.pieces numbers.now)) }
 {
-    let mut planning = Planning::new(alloc, name, room)?;
     let pieces = web.pieces();
     for number in numbers {
-        add_piece(
-            &mut planning,
-            web,
-            table,
-            has_piece,
-            pieces[*number].items(),
-        )?;
+        add_piece(planning, web, table, has_piece, pieces[*number].items())?;
     }
-    Ok(planning)
+    Ok(())
 }
 
 /// What is kept of the node that has the pieces with these numbers: a full name with this text, or the unnamed program. The flags say of
@@ -308,6 +350,7 @@ fn plan_pieces(
 /// `NoMemory`, where a growth was refused.
 pub fn plan_node(
     alloc: Global,
+    planning: &mut Planning,
     web: &Web,
     table: &NameTable,
     has_piece: &[bool],
@@ -323,10 +366,8 @@ pub fn plan_node(
     ensures uses { IfOk result (λ n. node_uses n ≡ pieces_names table.now (pieces_at web.now.pieces numbers.now)) }
     ensures plan_uses { IfOk result (λ n. plan_uses n ≡ filter (λ id. slice_index_or has_piece.now id false) (pieces_names table.now (pieces_at web.now.pieces numbers.now))) }
 {
-    let codes = codes_of(alloc, web, table, numbers)?;
-    let room = text_size(&codes);
-    let planning = plan_pieces(alloc, web, table, has_piece, name, numbers, room)?;
-    let uses = names_of(alloc, web, table, numbers)?;
-    let node = planning.finish(codes, uses)?;
+    planning.begin(name);
+    add_pieces(planning, web, table, has_piece, numbers)?;
+    let node = planning.finish(alloc)?;
     Ok(node)
 }

@@ -16,3 +16,4 @@ mod ExpandLemmas
 mod StoreIs
 mod OrderingLemmas
 mod FaultLemmas
+pub mod WeightLemmas

@@ -1,6 +1,6 @@
 -- The shape of a node of a store, and what the store says of it.
-use Rattle.std.proofs.Common.{◌≡◌, ◌≢◌, ◌∙◌, ◌<◌, ◌↔◌, ℕ, Bool, true, false, not, List, [], ◌∷◌, length, get_or, refl, ap, sym, subst, arith}
-use Rattle.std.specs.Prelude.{nat_lt, if◌then◌else◌, slice_get, Option, Some, None}
+use Rattle.std.proofs.Common.{◌≡◌, ◌≢◌, ◌∙◌, ◌↔◌, ℕ, Bool, true, false, not, List, [], ◌∷◌, length, refl, ap, sym, subst, arith}
+use Rattle.std.specs.Prelude.{nat_lt, if◌then◌else◌, Option, Some, None}
 use Rattle.std.proofs.Math.Decide.{dec_lt}
 use Rattle.std.proofs.lemmas.Bool.Decides.{nat_tests}
 use Rattle.std.proofs.lemmas.Option.{slice_get-get_or, slice_get_past}
@@ -10,7 +10,7 @@ use Rattle.tangle_expansion.specs.declared.expansion.NodeText.{NodeText}
 use Rattle.tangle_expansion.specs.declared.nodes.Node.{Node}
 use Rattle.tangle_expansion.specs.declared.nodes.Node.TheVariants.{Program, Name}
 use Rattle.tangle_graph.specs.Nodes.{title_of_text, title_of_node, IsNodeOf, number_in, entry, entry_if, shape_of_name, shape_of_node}
-use Rattle.tangle_graph.specs.Stores.{StoreRead, IsStoreOf, IsNodeIn, is_filled, has_piece_at, text_at, title_in_store, shape_in_store}
+use Rattle.tangle_graph.specs.Stores.{StoreRead, IsStoreOf, is_filled, has_piece_at, text_at, shape_in_store}
 
 -- a node is one of these or it has no number
 data IsKnown (names : List (List ℕ)) (a : Node) : Type 0 where

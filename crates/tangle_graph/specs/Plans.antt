@@ -1,5 +1,5 @@
 -- The plans of the nodes of a web.
-use Rattle.std.specs.Prelude.{◌≡◌, ◌<◌, ℕ, Bool, false, List, [], length, map, filter, All, slice_get, slice_index_or, Some, Vec}
+use Rattle.std.specs.Prelude.{◌≡◌, ◌<◌, ◌+◌, ℕ, Bool, false, List, [], length, map, filter, sum_by, All, slice_get, slice_index_or, Some, Vec}
 use Rattle.std.specs.Global.{Global}
 use Rattle.std.specs.declared.rc.Rc.{Rc}
 use Rattle.tangle_scan.specs.Web.{WebRead}
@@ -9,6 +9,7 @@ use Rattle.tangle_expansion.specs.ItemSlots.{pieces_at, pieces_slots}
 use Rattle.tangle_expansion.specs.NodeTexts.{HoldsShape, node_uses, plan_slots, plan_uses}
 use Rattle.tangle_expansion.specs.Slots.{Slot}
 use Rattle.tangle_expansion.specs.declared.expansion.NodeText.{NodeText}
+use Rattle.tangle_graph.specs.Measures.{weight_of_pieces}
 use Rattle.tangle_graph.specs.Nodes.{title_at}
 use Rattle.tangle_graph.specs.Stores.{is_filled}
 
@@ -41,10 +42,11 @@ pub record ArePlans (web : WebRead) (table : TableRead) (has_piece : ℕ → Boo
       → slice_index_or slots n [] ≡ pieces_slots web.texts table has_piece (title_at table.names n) 0 (pieces_at web.pieces (slice_index_or rows n []))
   pub uses_right : (n : ℕ) → n < length rows → slice_index_or uses n [] ≡ filter has_piece (pieces_names table (pieces_at web.pieces (slice_index_or rows n [])))
 
--- what is kept of a node with the pieces of these numbers tells its shape, by the names that its items use
+-- what is kept of a node with the pieces of these numbers tells its shape, by the names that its items use, and its weight
 pub record IsTextOf (web : WebRead) (table : TableRead) (numbers : List ℕ) (text : NodeText) : Type 0 where
   pub shape : HoldsShape table.names (shape_of web.texts table (pieces_at web.pieces numbers)) text
   pub names : node_uses text ≡ pieces_names table (pieces_at web.pieces numbers)
+  pub weight : (used : ℕ → ℕ) → length (plan_slots text) + sum_by used (node_uses text) ≡ weight_of_pieces web.texts table used (pieces_at web.pieces numbers)
 
 -- so it is of each node
 pub record AreTexts (web : WebRead) (table : TableRead) (rows : List (List ℕ)) (texts : List NodeText) : Type 0 where

@@ -101,11 +101,12 @@ impl Store {
         let uses: &[Vec<usize>] = &graph.uses;
         let users: &[Vec<usize>] = &graph.users;
         let order: &[usize] = &graph.order;
-        let weights = weights(alloc, web, table, pieces, uses, order)?;
+        let filled = filled_rows(alloc, pieces)?;
+        let node_texts = texts_by_node(alloc, web, table, &filled, pieces)?;
+        let weights = weights(alloc, web, table, pieces, uses, order, &node_texts)?;
         let depths = depths(alloc, web, table, pieces, uses, order)?;
         let expandable = expandable(alloc, pieces, &weights, &depths)?;
         let has_piece = is_filled(&pieces[table.count()]);
-        let filled = filled_rows(alloc, pieces)?;
         Ok(Store {
             names: texts(alloc, table)?,
             uses: nodes_by_node(alloc, table.count(), uses)?,
@@ -113,7 +114,7 @@ impl Store {
             order: nodes_of(alloc, table.count(), order)?,
             self_containing: self_containing(alloc, uses, users)?,
             outputs: outputs(alloc, web, table, out, has_piece, &expandable)?,
-            texts: texts_by_node(alloc, web, table, &filled, pieces)?,
+            texts: node_texts,
             faults: graph_faults(alloc, web, table, out, pieces, uses, users, &expandable)?,
             weights,
             depths,

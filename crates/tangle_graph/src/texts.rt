@@ -11,7 +11,7 @@ ghost use Rattle.tangle_graph.specs.Plans.{ArePlans, ArePiecesInside, AreFilled,
 use crate::measures::is_filled;
 use std::alloc::{AllocError, Global};
 use std::rc::Rc;
-use tangle_expansion::{NodeText, plan_node};
+use tangle_expansion::{NodeText, Planning, plan_node};
 use tangle_lines::NoMemory;
 use tangle_names::NameTable;
 use tangle_scan::Web;
@@ -43,6 +43,7 @@ fn name_of_node(alloc: Global, table: &NameTable, n: usize) -> Result<Option<Vec
 /// The text of the node with this number, which has the pieces with these numbers.
 fn text_of_node(
     alloc: Global,
+    planning: &mut Planning,
     web: &Web,
     table: &NameTable,
     has_piece: &[bool],
@@ -58,7 +59,7 @@ fn text_of_node(
         ≡ filter (λ id. slice_index_or has_piece.now id false) (pieces_names table.now (pieces_at web.now.pieces numbers.now))) }
 {
     let name = name_of_node(alloc, table, n)?;
-    let text = plan_node(alloc, web, table, has_piece, name, numbers)?;
+    let text = plan_node(alloc, planning, web, table, has_piece, name, numbers)?;
     match Rc::new(alloc, text) {
         Ok(text) => Ok(text),
         Err(_) => Err(NoMemory),
@@ -78,9 +79,11 @@ pub(crate) fn texts_by_node(
     ensures texts { IfOk result (λ texts. AreTexts web.now table.now (rows_of pieces.now) (node_texts texts.items)) }
     ensures plans { IfOk result (λ texts. ArePlans web.now table.now (λ id. slice_index_or has_piece.now id false) (rows_of pieces.now) (slots_of texts.items) (uses_of_plans texts.items)) }
 {
+    let mut planning = Planning::new(alloc);
     let mut texts = Vec::with_capacity(alloc, pieces.len())?;
     for (n, row) in pieces.iter().enumerate() {
-        texts.push(text_of_node(alloc, web, table, has_piece, n, row)?)?;
+        let text = text_of_node(alloc, &mut planning, web, table, has_piece, n, row)?;
+        texts.push(text)?;
     }
     Ok(texts)
 }

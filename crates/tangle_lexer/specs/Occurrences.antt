@@ -1,7 +1,7 @@
 -- The occurrences of section names.
-use Rattle.std.specs.Prelude.{ℕ, Bool, List, get_or}
+use Rattle.std.specs.Prelude.{ℕ, Bool, List}
 use Rattle.tangle_lines.specs.declared.faults.Origin.{Origin}
-use Rattle.tangle_lines.specs.Reading.{Line, no_line}
+use Rattle.tangle_lines.specs.Reading.{Line, place_at}
 use Rattle.tangle_lexer.specs.declared.occurrences.OccurrenceRole.{OccurrenceRole}
 use Rattle.tangle_lexer.specs.Lexemes.{NameRead}
 use Rattle.tangle_lexer.specs.Names.{is_abbreviation}
@@ -13,10 +13,6 @@ pub record OccurrenceRead : Type 0 where
   pub is_file : Bool
   pub role : OccurrenceRole
   pub place : Origin
-
--- the place of a source line
-abbrev pub place_at : List Line → ℕ → Origin
-place_at lines number = (get_or lines number no_line).place
 
 -- the occurrence that a name is which was read
 abbrev pub occurrence_of : List Line → NameRead → OccurrenceRead

@@ -20,7 +20,7 @@ mod tokens;
 pub use ahead::Reader;
 pub use lexer::{first_state, next_block};
 pub use modes::{IncludeState, Mode, ScanState};
-pub use names::{LexerOutput, place_at};
+pub use names::LexerOutput;
 pub use occurrences::{Occurrence, OccurrenceRole};
 pub use spans::Span;
 pub use tokens::{TextKind, Token};

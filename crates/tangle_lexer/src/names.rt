@@ -4,7 +4,6 @@ ghost use Rattle.tangle_lexer.specs.Ahead.{IsFront, IsRead};
 ghost use Rattle.tangle_lexer.specs.Bytes as byte;
 ghost use Rattle.tangle_lexer.specs.Text.{byte_at, line_at, front_cell};
 ghost use Rattle.tangle_lexer.specs.Regions.{region_end};
-ghost use Rattle.tangle_lexer.specs.Occurrences.{place_at as place_of};
 ghost use Rattle.tangle_lexer.specs.Occurrences.{occurrence_of};
 ghost use Rattle.tangle_lexer.specs.declared.regions.Region.TheVariants as region;
 ghost use Rattle.tangle_lines.specs.declared.faults.FaultKind.TheVariants as fault;
@@ -23,7 +22,7 @@ use crate::occurrences::{Occurrence, OccurrenceRole};
 use crate::regions::{Region, Unit, unit_of};
 use crate::tokens::Token;
 use std::alloc::{AllocError, Global};
-use tangle_lines::{FaultKind, Origin, Source};
+use tangle_lines::{FaultKind, Source};
 
 /// What was read: the tokens, and the occurrences of names.
 #[derive(Drop)]
@@ -53,18 +52,6 @@ struct Name {
     end: u32,
     /// `@>` ends it.
     is_ended: bool,
-}
-
-/// The place of a source line, or none's where there is no such line.
-pub fn place_at(source: &Source, line: u32) -> Origin
-    ensures { result ≡ place_of source.now.lines line }
-{
-    let number = line as usize;
-    if number < source.count() {
-        source.origin(number)
-    } else {
-        Origin { file: 0, line: 0 }
-    }
 }
 
 /// Adds a byte to a name in normal form, and answers whether white space stands at its end.
@@ -188,7 +175,7 @@ fn push_name(
         }) ∷ []) }
 {
     let is_abbreviation = is_abbreviation(&name.text);
-    let place = place_at(source, name.line);
+    let place = source.origin(name.line as usize);
     occurrences.push(Occurrence::new(name.text, is_abbreviation, name.is_file, role, place))?;
     Ok(())
 }

@@ -12,9 +12,8 @@ use Rattle.tangle_scan.specs.declared.laying.Before.{Before}
 use Rattle.tangle_scan.specs.declared.laying.Count.{Count}
 use Rattle.tangle_scan.specs.declared.laying.Laying.{Laying}
 use Rattle.tangle_scan.specs.declared.spacing.Stage.TheVariants as stage
-use Rattle.tangle_lines.specs.Reading.{Line}
+use Rattle.tangle_lines.specs.Reading.{Line, place_at}
 use Rattle.tangle_scan.specs.Rules.{has_join, without_joins, without_faults, without_front_gaps, is_gap, would_merge, may_follow_name, blanks, items_by_place, text_item, unmarked_items, next_line}
-use Rattle.tangle_lexer.specs.Occurrences.{place_at}
 
 -- the run at the end of a list begins in it, and its flag says whether it has a join
 pub record IsRun (out : List Token) (run : Run) : Type 0 where

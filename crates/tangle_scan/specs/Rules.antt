@@ -1,7 +1,7 @@
 -- From the tokens of a C part or a macro to its items: five rules, each applied to the whole list in turn.
 use Rattle.std.specs.Prelude.{ℕ, ◌+◌, Bool, true, false, ◌==◌, nat_le, ◌&&◌, ◌||◌, not, ◌-◌, List, [], ◌∷◌, ◌++◌, length, take, drop, get_or, if◌then◌else◌}
 use Rattle.tangle_lines.specs.declared.faults.Origin.{Origin}
-use Rattle.tangle_lines.specs.Reading.{Line}
+use Rattle.tangle_lines.specs.Reading.{Line, place_at}
 use Rattle.tangle_lexer.specs.declared.spans.Span.{Span}
 use Rattle.tangle_scan.specs.declared.items.Item.{Item}
 use Rattle.tangle_scan.specs.declared.items.Item.TheVariants as item
@@ -9,7 +9,6 @@ use Rattle.tangle_lexer.specs.declared.tokens.Token.{Token}
 use Rattle.tangle_lexer.specs.declared.tokens.TextKind.{TextKind}
 use Rattle.tangle_lexer.specs.declared.tokens.TextKind.TheVariants as text_kind
 use Rattle.tangle_lexer.specs.declared.tokens.Token.TheVariants as token
-use Rattle.tangle_lexer.specs.Occurrences.{place_at}
 use Rattle.tangle_lexer.specs.Bytes.{left_parenthesis, is_digit}
 
 -- the source lines
@@ -17,6 +16,10 @@ use Rattle.tangle_lexer.specs.Bytes.{left_parenthesis, is_digit}
 -- the bytes of a span
 abbrev pub span_text : List (List ℕ) → Span → List ℕ
 span_text texts s = take (s.end - s.start) (drop s.start (get_or texts s.line []))
+
+-- what stands behind it in its line
+abbrev pub text_behind : List (List ℕ) → Span → List ℕ
+text_behind texts s = drop s.end (get_or texts s.line [])
 
 -- its first byte
 abbrev pub first_byte : List (List ℕ) → Span → ℕ

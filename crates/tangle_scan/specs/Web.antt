@@ -5,14 +5,14 @@ use Rattle.tangle_lines.specs.declared.faults.Origin.{Origin}
 use Rattle.tangle_lines.specs.declared.faults.FaultKind.{FaultKind}
 use Rattle.tangle_lines.specs.declared.faults.FaultKind.TheVariants as fault
 use Rattle.tangle_lines.specs.Faults.{Finding, fault_at}
-use Rattle.tangle_lines.specs.Reading.{Line, SourceRead, named}
+use Rattle.tangle_lines.specs.Reading.{Line, SourceRead, named, place_at}
 use Rattle.tangle_lines.specs.Lines.{FileTable}
 use Rattle.tangle_scan.specs.declared.items.Item.{Item}
 use Rattle.tangle_lexer.specs.declared.tokens.Token.{Token}
 use Rattle.tangle_lexer.specs.declared.tokens.Token.TheVariants as token
 use Rattle.tangle_lexer.specs.Lexemes.{NameRead}
 use Rattle.tangle_lexer.specs.Heads.{is_head}
-use Rattle.tangle_lexer.specs.Occurrences.{OccurrenceRead, occurrence_of, place_at}
+use Rattle.tangle_lexer.specs.Occurrences.{OccurrenceRead, occurrence_of}
 use Rattle.tangle_lexer.specs.Steps.{all_tokens, all_names}
 use Rattle.tangle_scan.specs.Rules.{part_items, macro_items, is_macro}
 

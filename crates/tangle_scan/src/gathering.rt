@@ -4,7 +4,7 @@ ghost use Rattle.std.specs.List.{list_any};
 ghost use Rattle.tangle_lines.specs.declared.faults.FaultKind.TheVariants as fault;
 ghost use Rattle.tangle_scan.specs.Passes as passes;
 ghost use Rattle.tangle_scan.specs.Rules as rules;
-ghost use Rattle.tangle_lexer.specs.Occurrences as occurrences;
+ghost use Rattle.tangle_lines.specs.Reading.{place_at};
 ghost use Rattle.tangle_scan.specs.Web as web;
 ghost use Rattle.tangle_lexer.specs.Heads.{is_head};
 ghost use Rattle.tangle_scan.specs.Web.{texts_of};
@@ -16,7 +16,7 @@ use crate::pieces::{Macro, Piece};
 use crate::spacing::{first_byte, has_rare, macro_tokens, part_tokens};
 use std::alloc::Global;
 use std::marker::Model;
-use tangle_lexer::{Token, place_at};
+use tangle_lexer::Token;
 use tangle_lines::{Fault, FaultKind, NoMemory, Source};
 
 /// Whether some token is `@h`.
@@ -38,7 +38,7 @@ fn note(
     ensures { OnOk result (faults.new.items
         ≡ faults.old.items ++ web.fault_on source.now.files source.now.lines kind line ∷ []) }
 {
-    let origin = place_at(source, line);
+    let origin = source.origin(line as usize);
     let fault = Fault::at(alloc, kind, source.file_name(origin), origin.line)?;
     faults.push(fault)?;
     Ok(())
@@ -219,7 +219,7 @@ impl Gathering {
         ensures piece { OnOk result (self.new ≡ record self.old {
           pieces = self.old.pieces ++ record {
             section = self.old.sections;
-            place = occurrences.place_at source.now.lines line;
+            place = place_at source.now.lines line;
             name = name;
             items = rules.part_items source.now.lines line tokens.now;
           } ∷ [];
@@ -228,7 +228,7 @@ impl Gathering {
         ensures rare { IfOk result (λ rare. rare ≡ list_any passes.is_rare tokens.now) }
     {
         let (items, rare) = workspace.part_items(alloc, source, line, tokens)?;
-        let place = place_at(source, line);
+        let place = source.origin(line as usize);
         self.pieces
             .push(Piece::new(self.sections, place, name, items))?;
         self.has_defs_code = self.has_defs_code || has_defs(tokens, rare);

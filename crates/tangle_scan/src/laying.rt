@@ -4,7 +4,7 @@
 ghost use Rattle.std.specs.Prelude.{◌≡◌, ◌≤◌, ◌<◌, ◌-◌, ◌+◌, ◌^◌, ◌++◌, ◌∷◌, ◌&&◌, ◌||◌, [], ℕ, List, length, max, if◌then◌else◌, false, Option, None, Some, option_to_list, IfOk, OnOk};
 ghost use Rattle.std.specs.List.{list_any};
 ghost use Rattle.tangle_scan.specs.Rules as rules;
-ghost use Rattle.tangle_lexer.specs.Occurrences as occurrences;
+ghost use Rattle.tangle_lines.specs.Reading.{place_at};
 ghost use Rattle.tangle_scan.specs.Passes as passes;
 ghost use Rattle.tangle_scan.specs.Passes.{counts, items_ahead, unmarked_from};
 ghost use Rattle.tangle_lexer.specs.declared.tokens.Token.{Token};
@@ -12,7 +12,7 @@ ghost use Rattle.tangle_scan.specs.declared.items.Item.TheVariants as item;
 
 use crate::items::{Item, OccurrenceNumber};
 use crate::spacing::is_rare;
-use tangle_lexer::{Span, TextKind, Token, place_at};
+use tangle_lexer::{Span, TextKind, Token};
 use tangle_lines::{NoMemory, Origin, Source};
 
 /// What stands before a place on its line: an item, and white space behind it.
@@ -51,7 +51,7 @@ fn next_line(count: Count) -> Count
 fn mark_behind(source: &Source, count: Count, line: u32) -> Option<Origin>
     requires { count.line < 2 ^ 63 }
     ensures { result ≡ (if rules.goes_on source.now.lines (counts count) line then None
-        else Some (occurrences.place_at source.now.lines (line + 1))) }
+        else Some (place_at source.now.lines (line + 1))) }
 {
     let next = line as usize + 1;
     if next >= source.count() {
@@ -161,11 +161,11 @@ fn put_item(
     match token {
         Token::UseOf(number, line) => {
             items.push(Item::UseOf(OccurrenceNumber::new(number)))?;
-            put_mark(items, place_at(source, line))
+            put_mark(items, source.origin(line as usize))
         }
         Token::Defs(line) => {
             items.push(Item::Defs)?;
-            put_mark(items, place_at(source, line))
+            put_mark(items, source.origin(line as usize))
         }
         Token::QuoteBreak => {
             items.push(Item::QuoteBreak)?;
@@ -229,12 +229,12 @@ pub fn lay_part(
     line: u32,
     tokens: &[Token],
 ) -> Result<bool, NoMemory>
-    ensures items { OnOk result (items.new.items ≡ rules.items_by_place source.now.lines (occurrences.place_at source.now.lines line)
+    ensures items { OnOk result (items.new.items ≡ rules.items_by_place source.now.lines (place_at source.now.lines line)
         (rules.blanks false false tokens.now)) }
     ensures rare { IfOk result (λ rare. rare ≡ list_any passes.is_rare tokens.now) }
 {
     items.clear();
-    let place = place_at(source, line);
+    let place = source.origin(line as usize);
     let mut has_rare = false;
     let mut at = Laying {
         before: Before {

@@ -1,7 +1,7 @@
 //! The scanned web.
 ghost use Rattle.std.specs.Prelude.{◌≡◌, ◌≤◌, ◌<◌, ℕ, List, [], get_or, length};
 ghost use Rattle.tangle_lines.specs.Adding.{most_files};
-ghost use Rattle.tangle_scan.specs.Rules.{span_text};
+ghost use Rattle.tangle_scan.specs.Rules.{span_text, text_behind};
 ghost use Rattle.tangle_scan.specs.SourceOrder.{IsSpan};
 ghost use Rattle.tangle_scan.specs.WellFormed.{IsWellFormed};
 ghost use Rattle.tangle_scan.specs.Gathering.{web_from};
@@ -110,6 +110,15 @@ impl<'s, 'a> Web<'s, 'a> {
     {
         let line = self.source.line(span.line as usize);
         &line[span.start as usize..span.end as usize]
+    }
+
+    /// What stands behind a range, up to the end of its line.
+    pub fn text_behind(&self, span: Span) -> &[u8]
+        requires { IsSpan self.now.texts span }
+        ensures { result.now ≡ text_behind self.now.texts span }
+    {
+        let line = self.source.line(span.line as usize);
+        &line[span.end as usize..]
     }
 
     /// How many files there are, one of which each place of this web is in: at most 256.

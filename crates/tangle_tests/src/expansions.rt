@@ -6,7 +6,9 @@ use crate::support::{add_sections, files_with, read};
 use std::alloc::Global;
 use std::rc::Rc;
 use std::test::Fail;
-use tangle_expansion::{Expansion, Kept, Node, Numbers, Work, are_uses_kept, expand, plan_node};
+use tangle_expansion::{
+    Expansion, Kept, Node, Numbers, Planning, Work, are_uses_kept, expand, plan_node,
+};
 use tangle_folders::MemorySink;
 use tangle_names::NameTable;
 use tangle_scan::{Web, scan};
@@ -26,7 +28,8 @@ fn expand_name(
     if id >= web.pieces().len() {
         return Err(Fail::from("there is no such piece"));
     }
-    let text = plan_node(alloc, web, table, has_piece, None, &[id])?;
+    let mut planning = Planning::new(alloc);
+    let text = plan_node(alloc, &mut planning, web, table, has_piece, None, &[id])?;
     if !are_uses_kept(&text, kept) {
         return Err(Fail::from("a use is not kept"));
     }

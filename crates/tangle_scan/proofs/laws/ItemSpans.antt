@@ -7,9 +7,8 @@ use Rattle.tangle_lexer.specs.declared.tokens.TextKind.TheVariants as text_kind
 use Rattle.tangle_lexer.specs.declared.tokens.Token.TheVariants as token
 use Rattle.tangle_scan.specs.declared.items.Item.{Item}
 use Rattle.tangle_scan.specs.declared.items.Item.TheVariants as item
-use Rattle.tangle_lines.specs.Reading.{Line}
+use Rattle.tangle_lines.specs.Reading.{Line, place_at}
 use Rattle.tangle_scan.specs.Rules.{without_faults, would_merge, with_spaces, may_follow_name, with_space_behind, with_name_space, has_join, left_of_run, without_joins, blanks, goes_on, line_item, count_behind, items_by_place, unmarked_items, part_items, without_front_gaps, macro_items}
-use Rattle.tangle_lexer.specs.Occurrences.{place_at}
 use Rattle.tangle_scan.specs.SourceOrder.{item_spans}
 use Rattle.tangle_scan.proofs.lemmas.Gaps.{AreGaps, gaps-append}
 

@@ -9,9 +9,8 @@ use Rattle.tangle_lexer.specs.declared.tokens.TextKind.TheVariants as text_kind
 use Rattle.tangle_lexer.specs.declared.tokens.Token.TheVariants as token
 use Rattle.tangle_scan.specs.declared.items.Item.{Item}
 use Rattle.tangle_scan.specs.declared.items.Item.TheVariants as item
-use Rattle.tangle_lines.specs.Reading.{Line}
+use Rattle.tangle_lines.specs.Reading.{Line, place_at}
 use Rattle.tangle_scan.specs.Rules.{next_line, count_behind, goes_on, same_place, items_by_place, text_item, blanks, without_joins, left_of_run, has_join, is_gap, with_spaces, would_merge, without_faults, part_items}
-use Rattle.tangle_lexer.specs.Occurrences.{place_at}
 use Rattle.tangle_scan.specs.LineTruth.{Placed, placed_items, Standing, standings, is_on, IsOwn, StandsAtItsLine, part_standings}
 use Rattle.tangle_scan.proofs.lemmas.Gaps.{AreGaps, gaps-append}
 

@@ -5,14 +5,13 @@ use Rattle.std.specs.Option.{IfSome}
 use Rattle.std.proofs.lemmas.List.Elements.{All-from_recursion, All-weaker}
 use Rattle.std.proofs.lemmas.Grind.{flat_map-append}
 use Rattle.tangle_lines.specs.declared.faults.Origin.{Origin}
-use Rattle.tangle_lines.specs.Reading.{Line, SourceRead}
+use Rattle.tangle_lines.specs.Reading.{Line, SourceRead, place_at}
 use Rattle.tangle_lexer.specs.declared.tokens.Token.{Token}
 use Rattle.tangle_lexer.specs.declared.tokens.TextKind.TheVariants as text_kind
 use Rattle.tangle_lexer.specs.declared.tokens.Token.TheVariants as token
 use Rattle.tangle_scan.specs.declared.items.Item.{Item}
 use Rattle.tangle_scan.specs.declared.items.Item.TheVariants as item
 use Rattle.tangle_scan.specs.Rules.{without_faults, would_merge, with_spaces, with_name_space, without_front_gaps, has_join, left_of_run, without_joins, blanks, goes_on, line_item, count_behind, items_by_place, unmarked_items, part_items, macro_items, next_line, is_macro}
-use Rattle.tangle_lexer.specs.Occurrences.{place_at}
 use Rattle.tangle_scan.specs.Web.{PieceRead, body, block_at, blocks, section_behind, piece_of, macro_of, texts_of, web_of}
 use Rattle.tangle_lexer.specs.Heads.{is_head}
 use Rattle.tangle_scan.specs.WellFormed.{IsUseBelow, NamesAreInRange}

@@ -1,23 +1,33 @@
-use Rattle.std.proofs.Common.{◌≡◌, ◌∙◌, ◌<◌, ◌≤◌, ℕ, length, get_or, min, take, sym, subst, arith, length-set}
-use Rattle.std.specs.Prelude.{All}
+use Rattle.std.proofs.Common.{◌≡◌, ◌∙◌, ◌<◌, ◌≤◌, ◌+◌, ℕ, length, refl, get_or, ap, min, take, sym, subst, arith, length-set}
+use Rattle.std.specs.Prelude.{All, sum_by}
 use Rattle.std.proofs.lemmas.List.{get_or_default}
 use Rattle.digraph.specs.Graph.{rows_of, row_at}
-use Rattle.digraph.proofs.GraphLemmas.{row_read}
+use Rattle.digraph.proofs.GraphLemmas.{rows_size}
 use Rattle.tangle_expansion.specs.ItemSlots.{pieces_at}
 use Rattle.tangle_expansion.specs.Limits.{weight_cap, weight_of}
+use Rattle.tangle_expansion.specs.NodeTexts.{node_uses, plan_slots}
+use Rattle.tangle_expansion.specs.declared.expansion.NodeText.{NodeText}
 use Rattle.tangle_expansion.specs.Projects.{project}
 use Rattle.tangle_graph.specs.Measures.{weight_of_pieces}
 use Rattle.tangle_graph.specs.Nodes.{title_at}
 use Rattle.tangle_graph.proofs.OrderLemmas.{measured_next, measured_all, left_out_heaviest}
 use Rattle.tangle_graph.proofs.StepLemmas.{measured_capped, weight_step}
+use Rattle.tangle_graph.proofs.TextLemmas.{text_told, names_inside}
 use Rattle.tangle_graph.proofs.measures.weights.Goals as goal
 
-pub weight_of_node-requires-clause-numbers : goal.weight_of_node-requires-clause-numbers
-weight_of_node-requires-clause-numbers c =
-    let n = get_or c.args.order.now c.loop-n.n-index 0 in
-    let low : n < length c.args.pieces.now = omega (arith, c.requires.order.placed.nodes c.loop-n.n-index c.loop-n-test.true, c.requires.graph.rows_size, c.requires.graph.uses_size) in
-    let read : row_at (rows_of c.args.pieces.now) n ≡ c.deref-in-loop-n.result.now = row_read c.args.pieces.now n c.index-pieces-n.result low c.index-pieces-n.is ∙ sym c.deref-in-loop-n.ensures.value in
-    subst (λ r. All (λ k. k < length c.args.web.now.pieces) r) read (c.requires.graph.numbers n low)
+pub weight_of_node-requires-clause-inside : goal.weight_of_node-requires-clause-inside
+weight_of_node-requires-clause-inside c =
+    let web = c.args.web.now in
+    let table = c.args.table.now in
+    let rows = rows_of c.args.pieces.now in
+    let i = c.loop-n.n-index in
+    let n = get_or c.args.order.now i 0 in
+    let graph = c.requires.graph in
+    let low : n < length rows = omega (arith, c.requires.order.placed.nodes i c.loop-n-test.true, graph.rows_size, graph.uses_size, rows_size c.args.pieces.now) in
+    let told = text_told web table rows c.args.texts.now n c.index-texts-n.result c.requires.texts low c.index-texts-n.is in
+    let inside = names_inside web table (row_at rows n) c.index-texts-n.result.value c.requires.inside told in
+    subst (λ (t : NodeText). All (λ id. id < length c.deref.result.now) (node_uses t)) (sym c.deref-in-loop-n.ensures)
+    (λ k d h. omega (arith, inside k d h, ap length c.deref.ensures.value, c.loop-n.invariant.0, graph.uses_size))
 
 pub weight_of_node-requires-clause-capped : goal.weight_of_node-requires-clause-capped
 weight_of_node-requires-clause-capped c =
@@ -35,13 +45,16 @@ loop-n-preserved c =
     let i = c.loop-n.n-index in
     let n = get_or order i 0 in
     let value : ℕ → ℕ = λ k. weight_of (project web table) (title_at table.names k) in
-    let low : n < length c.args.pieces.now = omega (arith, c.requires.order.placed.nodes i c.loop-n-test.true, c.requires.graph.rows_size, c.requires.graph.uses_size) in
-    let read : c.deref-in-loop-n.result.now ≡ row_at (rows_of c.args.pieces.now) n = c.deref-in-loop-n.ensures.value ∙ sym (row_read c.args.pieces.now n c.index-pieces-n.result low c.index-pieces-n.is) in
-    let e : c.weight_of_node.result ≡ min weight_cap (weight_of_pieces web.texts table (λ id. get_or c.loop-n.weights.items id 0) (pieces_at web.pieces c.deref-in-loop-n.result.now)) =
-    subst (λ ws. c.weight_of_node.result ≡ min weight_cap (weight_of_pieces web.texts table (λ id. get_or ws id 0) (pieces_at web.pieces c.deref-in-loop-n.result.now))) c.deref.ensures.value c.weight_of_node.ensures in
+    let rows = rows_of c.args.pieces.now in
+    let low : n < length rows = omega (arith, c.requires.order.placed.nodes i c.loop-n-test.true, c.requires.graph.rows_size, c.requires.graph.uses_size, rows_size c.args.pieces.now) in
+    let told = text_told web table rows c.args.texts.now n c.index-texts-n.result c.requires.texts low c.index-texts-n.is in
+    let e : c.weight_of_node.result ≡ min weight_cap (weight_of_pieces web.texts table (λ id. get_or c.loop-n.weights.items id 0) (pieces_at web.pieces (row_at rows n))) =
+    subst (λ ws. c.weight_of_node.result ≡ min weight_cap (length (plan_slots c.deref-in-loop-n.result.now) + sum_by (λ id. get_or ws id 0) (node_uses c.deref-in-loop-n.result.now))) c.deref.ensures.value c.weight_of_node.ensures
+    ∙ ap (λ (t : NodeText). min weight_cap (length (plan_slots t) + sum_by (λ id. get_or c.loop-n.weights.items id 0) (node_uses t))) c.deref-in-loop-n.ensures
+    ∙ ap (min weight_cap) (told.weight (λ id. get_or c.loop-n.weights.items id 0)) in
     let right : c.weight_of_node.result ≡ value n =
-    weight_step web table c.args.pieces.now c.args.uses.now order c.requires.graph c.requires.order i c.loop-n-test.true c.loop-n.weights.items c.deref-in-loop-n.result.now c.weight_of_node.result
-    c.requires.inside c.loop-n.invariant.1 read (c.nodes_expand_by_uses.ensures.weights weight_cap (project web table)) e in (
+    weight_step web table c.args.pieces.now c.args.uses.now order c.requires.graph c.requires.order i c.loop-n-test.true c.loop-n.weights.items (row_at rows n) c.weight_of_node.result
+    c.requires.inside c.loop-n.invariant.1 refl (c.nodes_expand_by_uses.ensures.weights weight_cap (project web table)) e in (
       length-set c.loop-n.weights.items n c.weight_of_node.result ∙ c.loop-n.invariant.0,
       measured_next c.args.uses.now value weight_cap c.loop-n.weights.items order i c.weight_of_node.result c.requires.order.placed c.loop-n-test.true c.loop-n.invariant.0 c.loop-n.invariant.1 right,
     )

@@ -16,12 +16,12 @@ loop-n-preserved c =
     let has : ℕ → Bool = λ id. get_or c.args.has_piece.now id false in
     let i = c.loop-n.n in
     let texts = c.loop-n.texts.items in
-    let text = c.in_ok-text_of_node.field-0 in
+    let text = c.in_ok-text.text in
     let row = c.index-pieces-n.result in
-    let slots = subst (λ r. plan_slots text.value ≡ pieces_slots web.texts table has (title_at table.names i) 0 (pieces_at web.pieces r)) c.deref.ensures.value c.in_ok-text_of_node.ensures.slots in
-    let uses = subst (λ r. plan_uses text.value ≡ filter has (pieces_names table (pieces_at web.pieces r))) c.deref.ensures.value c.in_ok-text_of_node.ensures.uses in
+    let slots = subst (λ r. plan_slots text.value ≡ pieces_slots web.texts table has (title_at table.names i) 0 (pieces_at web.pieces r)) c.deref.ensures.value c.in_ok-text.ensures.slots in
+    let uses = subst (λ r. plan_uses text.value ≡ filter has (pieces_names table (pieces_at web.pieces r))) c.deref.ensures.value c.in_ok-text.ensures.uses in
     let more = plans_more web table has c.args.pieces.now texts i row text c.loop-n-test.true c.index-pieces-n.is c.loop-n.invariant.plans slots uses in
-    let one = subst (λ r. IsTextOf web table r text.value) c.deref.ensures.value c.in_ok-text_of_node.ensures.text in
+    let one = subst (λ r. IsTextOf web table r text.value) c.deref.ensures.value c.in_ok-text.ensures.text in
     let texts_told = texts_more web table c.args.pieces.now texts i row text c.loop-n-test.true c.index-pieces-n.is c.loop-n.invariant.texts one in
     record {
       texts = subst (λ ts. AreTexts web table (rows_of (take (i + 1) c.args.pieces.now)) (node_texts ts)) (sym c.in_ok-push.ensures.items) texts_told;

@@ -10,4 +10,4 @@ unfolding items_ahead
 returns-clause-items c =
     let done = drop_all c.loop-token.token-index c.args.tokens.now (omega arith) in
     laid-end c.args.source.now.lines c.loop-token.at _ _ _ done c.loop-token.invariant.rest
-    ∙ ap (λ place. items_by_place c.args.source.now.lines place (blanks false false c.args.tokens.now)) c.place_at-place.ensures
+    ∙ ap (λ place. items_by_place c.args.source.now.lines place (blanks false false c.args.tokens.now)) c.origin-place.ensures

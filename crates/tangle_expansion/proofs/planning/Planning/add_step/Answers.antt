@@ -1,6 +1,7 @@
 use Rattle.std.proofs.Common.{◌≡◌, ◌∙◌, List, [], ◌∷◌, ◌++◌, length, ap, arith}
 use Rattle.tangle_expansion.specs.Meaning.{title_of, pieces_passed, marks_passed}
-use Rattle.tangle_expansion.specs.Slots.{Slot, Making, last_run}
+use Rattle.tangle_expansion.specs.Slots.{Slot, last_run}
+use Rattle.tangle_expansion.specs.Planned.{Making}
 use Rattle.tangle_expansion.proofs.PlanningLemmas.{with_run, more_steps, step_made}
 use Rattle.tangle_expansion.proofs.planning.Planning.add_step.Goals as goal
 
@@ -31,5 +32,5 @@ returns c =
     let run : c.push.new.self.items ≡ (p.plan.items ++ last_run p.start (length p.text.items)) ++ c.args.step ∷ []
     = c.in_ok-push.ensures.items ∙ ap (λ l. l ++ c.args.step ∷ []) (c.in_ok-end_run.ensures.ok ∙ ap (λ n. p.plan.items ++ last_run p.start n) end) in
     rw (← c.self.view_is, c.pieces_behind-self-inside.ensures, c.marks_behind-self-inside.ensures, end)
-    (ap {B = Making} (λ (l : List Slot). record { node = title_of p.name; piece = pieces_passed p.piece c.args.step; marks = marks_passed p.marks c.args.step; made = l; bytes = p.text.items })
+    (ap {B = Making} (λ (l : List Slot). record { node = title_of p.name; piece = pieces_passed p.piece c.args.step; marks = marks_passed p.marks c.args.step; made = l; bytes = p.text.items; codes = p.codes.items; uses = p.uses.items })
     (step_made (title_of p.name) p.text.items p.plan.items c.push.new.self.items p.piece p.marks p.start c.args.step c.self.invariant c.requires run))

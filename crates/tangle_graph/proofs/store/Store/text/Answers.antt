@@ -1,9 +1,7 @@
-use Rattle.std.proofs.Common.{◌≡◌, ◌∙◌, List, Vec, ℕ, length, ap, sym}
+use Rattle.std.proofs.Common.{◌≡◌, ◌∙◌, Vec, ℕ, length, ap, sym}
 use Rattle.std.specs.Global.{Global}
-use Rattle.std.specs.Prelude.{All, slice_get}
+use Rattle.std.specs.Prelude.{slice_get}
 use Rattle.std.proofs.lemmas.List.{length-map}
-use Rattle.tangle_expansion.specs.NodeTexts.{node_uses}
-use Rattle.tangle_expansion.specs.declared.expansion.NodeText.{NodeText}
 use Rattle.tangle_graph.specs.Nodes.{entry_if}
 use Rattle.tangle_graph.specs.Stores.{StoreRead}
 use Rattle.tangle_graph.specs.Plans.{node_texts}

@@ -1,5 +1,5 @@
 use Rattle.std.proofs.Common.{false, ap, sym, ◌∙◌}
-use Rattle.tangle_lexer.specs.Occurrences.{place_at}
+use Rattle.tangle_lines.specs.Reading.{place_at}
 use Rattle.tangle_scan.specs.Rules.{blanks, items_by_place}
 use Rattle.tangle_scan.proofs.lemmas.SpacingLemmas.{unchanged-stays}
 use Rattle.tangle_scan.proofs.gathering.Workspace.lay.Goals as goal

@@ -1,0 +1,37 @@
+use Rattle.std.proofs.Common.{ℕ, false, refl, ap, ◌∙◌, arith, All}
+use Rattle.std.specs.Prelude.{slice_index_or, flat_map}
+use Rattle.tangle_scan.specs.Web.{PieceRead}
+use Rattle.tangle_expansion.specs.ItemCodes.{bytes_in, names_in, piece_codes}
+use Rattle.tangle_scan.specs.SourceOrder.{IsInRange}
+use Rattle.tangle_expansion.specs.ItemSlots.{pieces_at}
+use Rattle.tangle_expansion.proofs.HeldLemmas.{pieces_next, pieces_done, codes_held, all_at}
+use Rattle.tangle_expansion.proofs.PlanningLemmas.{piece_made}
+use Rattle.tangle_expansion.proofs.planning.add_pieces.Goals as goal
+
+pub loop-number-preserved : goal.loop-number-preserved
+loop-number-preserved c =
+    let inv = c.loop-number.invariant in
+    let web = c.args.web.now in
+    let table = c.args.table.now in
+    let numbers = c.args.numbers.now in
+    let old = c.loop-number.planning in
+    let i = c.loop-number.number-index in
+    let n = slice_index_or numbers i 0 in
+    let p = c.index-pieces-number.result in
+    let low = c.requires.numbers i 0 c.loop-number-test.true in
+    let is = c.index-pieces-number.is ∙ ap (λ l. slice_index_or l n p) c.pieces-pieces.ensures.pieces in
+    rw c.in_ok-add_piece.ensures (record {
+      node = inv.node;
+      made = piece_made web.texts table (λ (id : ℕ). slice_index_or c.args.has_piece.now id false) c.args.planning.now.node old.node
+          old.piece web.pieces numbers i n p c.items.result.now old.made _ inv.node c.loop-number-test.true refl low is c.items.ensures inv.made;
+      bytes = rw c.items.ensures (pieces_next (λ (q : PieceRead). flat_map (bytes_in web.texts) q.items) web.pieces numbers i n p old.bytes _ c.loop-number-test.true refl low is inv.bytes);
+      codes = rw c.items.ensures (pieces_next (λ (q : PieceRead). piece_codes table q.items) web.pieces numbers i n p old.codes _ c.loop-number-test.true refl low is inv.codes);
+      uses = rw c.items.ensures (pieces_next (λ (q : PieceRead). flat_map (names_in table) q.items) web.pieces numbers i n p old.uses _ c.loop-number-test.true refl low is inv.uses);
+    })
+
+pub returns-clause-codes : goal.returns-clause-codes
+returns-clause-codes c =
+    let web = c.args.web.now in
+    let done = pieces_done (λ (q : PieceRead). piece_codes c.args.table.now q.items) web.pieces c.args.numbers.now c.loop-number.number-index c.loop-number.planning.codes _ (omega arith) c.loop-number.invariant.codes in
+    done ∙ codes_held web.texts c.args.table.now (pieces_at web.pieces c.args.numbers.now)
+    (all_at (λ (p : PieceRead). All (IsInRange web.texts) p.items) web.pieces c.args.numbers.now c.pieces-pieces.ensures.well_formed.spans.pieces c.requires.numbers)

@@ -1,0 +1,54 @@
+//! How many parts a node has of its own, by its plan.
+ghost use Rattle.std.specs.Prelude.{◌≡◌, ◌<◌, ◌^◌, ℕ, List, length, min};
+ghost use Rattle.tangle_expansion.specs.Meaning.{bytes_passed};
+ghost use Rattle.tangle_expansion.specs.NodeTexts.{node_uses, plan_slots};
+ghost use Rattle.tangle_expansion.specs.Shapes.{Program};
+ghost use Rattle.tangle_expansion.specs.Slots.{step_slots};
+
+use crate::expansion::{NodeText, Step};
+
+/// How many parts a step has behind so many bytes of a text of this size.
+#[tactic(auto, using(crate::proofs::CountLemmas::between_counted))]
+fn parts_of_step(step: Step, start: usize, size: usize) -> usize
+    ensures { (text : List ℕ) → length text ≡ size → length (step_slots Program text 0 0 start step) ≡ result }
+{
+    match step {
+        Step::Run(end) => end.min(size).saturating_sub(start),
+        Step::Open => 2,
+        Step::Mark | Step::Macros | Step::Space | Step::Use(_) | Step::Close => 1,
+    }
+}
+
+/// How many bytes of the text are behind a step.
+fn bytes_behind(step: Step, start: usize) -> usize
+    ensures { result ≡ bytes_passed start step }
+{
+    match step {
+        Step::Run(end) => end,
+        Step::Open | Step::Mark | Step::Macros | Step::Space | Step::Use(_) | Step::Close => start,
+    }
+}
+
+impl NodeText {
+    /// How many parts the node has of its own, where each use of a name with a piece counts as one. What is more than a number can be counts
+    /// as the greatest number.
+    pub fn part_count(&self) -> usize
+        ensures { (cap : ℕ) → cap < 2 ^ 64 → min cap result ≡ min cap (length (plan_slots self.now)) }
+    {
+        let size = self.text.len();
+        let mut count: usize = 0;
+        let mut start = 0;
+        for step in self.plan.as_slice() {
+            count = count.saturating_add(parts_of_step(*step, start, size));
+            start = bytes_behind(*step, start);
+        }
+        count
+    }
+
+    /// The numbers of the names that its items use, one for each use that is resolved.
+    pub fn uses(&self) -> &[usize]
+        ensures { result.now ≡ node_uses self.now }
+    {
+        self.uses.as_slice()
+    }
+}
