@@ -1,7 +1,7 @@
 -- Texts of items that stand side by side in the source.
-use Rattle.std.proofs.Common.{◌≡◌, ◌∙◌, ℕ, ◌+◌, ◌-◌, ◌<◌, ◌≤◌, Bool, List, [], ◌∷◌, ◌++◌, take, drop, length, refl, ap, sym, subst, append_assoc, append-nil, arith, get_or, drop-cons, add-one}
-use Rattle.std.specs.Prelude.{flat_map, Option, None, Some}
-use Rattle.std.proofs.lemmas.List.{map-append, drop-drop}
+use Rattle.std.proofs.Common.{◌≡◌, ◌∙◌, ℕ, ◌+◌, ◌-◌, ◌<◌, ◌≤◌, Bool, List, [], ◌∷◌, ◌++◌, take, drop, length, refl, ap, sym, subst, append_assoc, arith, get_or, drop-cons, add-one}
+use Rattle.std.specs.Prelude.{flat_map, Option}
+use Rattle.std.proofs.lemmas.List.{drop-drop}
 use Rattle.std.proofs.Math.Seq.{take-add}
 use Rattle.tangle_lines.specs.Bytes.{space}
 use Rattle.tangle_scan.specs.declared.items.Item.{Item}
@@ -10,13 +10,12 @@ use Rattle.tangle_lexer.specs.declared.spans.Span.{Span}
 use Rattle.tangle_scan.specs.Rules.{span_text}
 use Rattle.tangle_scan.specs.SourceOrder.{IsSpan}
 use Rattle.tangle_names.specs.NameTable.{TableRead}
-use Rattle.tangle_expansion.specs.Flat.{Byte}
-use Rattle.tangle_expansion.specs.Slots.{Own, byte_slots}
+use Rattle.tangle_expansion.specs.Slots.{byte_slots}
 use Rattle.tangle_expansion.specs.Planned.{Making}
 use Rattle.tangle_expansion.specs.declared.codes.ItemCode.{ItemCode}
 use Rattle.tangle_expansion.specs.ItemCodes.{bytes_in, code_in, names_in, piece_codes}
-use Rattle.tangle_expansion.specs.ItemSlots.{marks_behind_item, item_slots, items_slots, piece_slots}
-use Rattle.tangle_expansion.specs.Runs.{IsTextOf, IsJoined, IsRunWith, AddsItem, run_text}
+use Rattle.tangle_expansion.specs.ItemSlots.{item_slots, items_slots, piece_slots}
+use Rattle.tangle_expansion.specs.Runs.{IsJoined, IsRunWith, AddsItem, run_text}
 use Rattle.tangle_expansion.proofs.HeldLemmas.{items_next}
 use Rattle.tangle_expansion.proofs.PlanningLemmas.{item_made}
 
@@ -50,16 +49,6 @@ is_joined run span line at = record {
   text = λ texts h k. text_joined texts run span line at h k;
 }
 
--- a range goes on with an item
-
-pub runs_with_text : (texts : List (List ℕ)) (x : Item) (run span more : Span) → IsTextOf x span → IsSpan texts span → IsJoined run span more → IsSpan texts run → IsRunWith texts run x more
-runs_with_text texts x run span more text range joined here = record {
-  range = joined.range texts here range;
-  bytes = ap (λ l. span_text texts run ++ l) (text.bytes texts) ∙ joined.text texts here range;
-  slots = λ table has_piece node piece marks. text.slots texts table has_piece node piece marks ∙ ap byte_slots (sym (text.bytes texts));
-  marks = text.marks;
-}
-
 -- one more byte of a line
 byte_behind : (whole : List ℕ) (start end byte : ℕ) → start ≤ end → end < length whole → get_or whole end 0 ≡ byte
     → (take (end - start) (drop start whole) ++ byte ∷ []) ≡ take (end + 1 - start) (drop start whole)
@@ -81,57 +70,6 @@ runs_with_space texts x run end blank more here lt is = rw (blank, more) (record
   marks = λ marks. refl;
 })
 
--- an item is added
-
-pub adds_to_run : (texts : List (List ℕ)) (table : TableRead) (has_piece : ℕ → Bool) (x : Item) (run more : Span) (made : Making) → IsRunWith texts run x more
-    → AddsItem texts table has_piece x (Some run) (Some more) made made
-adds_to_run texts table has_piece x run more made h = record {
-  node = refl;
-  piece = refl;
-  marks = sym (h.marks made.marks);
-  made = ap (λ l. made.made ++ byte_slots l) (sym h.bytes)
-      ∙ ap (λ l. made.made ++ l) (map-append (λ b. Own (Byte b)) (span_text texts run) (bytes_in texts x))
-      ∙ sym (append_assoc made.made (byte_slots (span_text texts run)) (byte_slots (bytes_in texts x)))
-      ∙ ap (λ l. (made.made ++ byte_slots (span_text texts run)) ++ l) (sym (h.slots table has_piece made.node made.piece made.marks));
-  bytes = ap (λ l. made.bytes ++ l) (sym h.bytes) ∙ sym (append_assoc made.bytes (span_text texts run) (bytes_in texts x));
-  codes = refl;
-  uses = refl;
-}
-
--- with the range that was still to be copied
-abbrev pub with_run_text : List (List ℕ) → Option Span → Making → Making
-with_run_text texts run old = record old { made = old.made ++ byte_slots (run_text texts run); bytes = old.bytes ++ run_text texts run }
-
-pub adds_text : (texts : List (List ℕ)) (table : TableRead) (has_piece : ℕ → Bool) (x : Item) (run : Option Span) (span : Span) (old new : Making)
-    → new ≡ with_run_text texts run old → IsTextOf x span → AddsItem texts table has_piece x run (Some span) old new
-adds_text texts table has_piece x run span old new e h = rw e (record {
-  node = refl;
-  piece = refl;
-  marks = sym (h.marks old.marks);
-  made = ap (λ l. (old.made ++ byte_slots (run_text texts run)) ++ l) (sym (h.slots texts table has_piece old.node old.piece old.marks));
-  bytes = ap (λ l. (old.bytes ++ run_text texts run) ++ l) (sym (h.bytes texts));
-  codes = refl;
-  uses = refl;
-})
-
-pub adds_other : (texts : List (List ℕ)) (table : TableRead) (has_piece : ℕ → Bool) (x : Item) (run : Option Span) (old mid new : Making)
-    → mid ≡ with_run_text texts run old
-    → new ≡ record mid {
-      marks = marks_behind_item mid.marks x;
-      made = mid.made ++ item_slots texts table has_piece mid.node mid.piece mid.marks x;
-      bytes = mid.bytes ++ bytes_in texts x;
-    }
-    → AddsItem texts table has_piece x run None old new
-adds_other texts table has_piece x run old mid new e f = rw (f, e) (record {
-  node = refl;
-  piece = refl;
-  marks = refl;
-  made = append-nil ((old.made ++ byte_slots (run_text texts run)) ++ item_slots texts table has_piece old.node old.piece old.marks x);
-  bytes = append-nil ((old.bytes ++ run_text texts run) ++ bytes_in texts x);
-  codes = refl;
-  uses = refl;
-})
-
 -- the items of a piece from one number on are still to be added to what is being made, behind a range
 pub record IsOnTheWay (texts : List (List ℕ)) (table : TableRead) (has_piece : ℕ → Bool) (first : Making) (items : List Item) (i : ℕ) (run : Option Span) (made : Making) : Type 0 where
   pub node : made.node ≡ first.node
@@ -149,32 +87,24 @@ codes_next table items i d codes whole h e =
     let next : drop i items ≡ x ∷ drop (i + 1) items = drop-cons items i d h ∙ ap (λ j. x ∷ drop j items) (sym (add-one i)) in
     append_assoc codes (code_in table x ∷ []) (piece_codes table (drop (i + 1) items)) ∙ ap (λ l. codes ++ piece_codes table l) (sym next) ∙ e
 
-goes_on_there : (texts : List (List ℕ)) (table : TableRead) (has_piece : ℕ → Bool) (first : Making) (items : List Item) (i : ℕ) (d : Item) (run next : Option Span) (old mid new : Making)
-    → i < length items
-    → mid ≡ record old { codes = old.codes ++ code_in table (get_or items i d) ∷ []; uses = old.uses ++ names_in table (get_or items i d) }
-    → AddsItem texts table has_piece (get_or items i d) run next mid new
+goes_on_there : (texts : List (List ℕ)) (table : TableRead) (has_piece : ℕ → Bool) (first : Making) (items : List Item) (i : ℕ) (d : Item) (run next : Option Span) (old new : Making)
+    → i < length items → AddsItem texts table has_piece (get_or items i d) run next old new
     → IsOnTheWay texts table has_piece first items i run old → IsOnTheWay texts table has_piece first items (i + 1) next new
-goes_on_there texts table has_piece first items i d run next old mid new h e adds way =
+goes_on_there texts table has_piece first items i d run next old new h adds way =
     let x = get_or items i d in
-    let adds' : AddsItem texts table has_piece x run next (record old { codes = old.codes ++ code_in table x ∷ []; uses = old.uses ++ names_in table x }) new
-    = subst (λ m. AddsItem texts table has_piece x run next m new) e adds in
     record {
-      node = adds'.node ∙ way.node;
-      piece = adds'.piece ∙ way.piece;
-      slots = ap (λ l. l ++ items_slots texts table has_piece first.node first.piece new.marks (drop (i + 1) items)) adds'.made
-          ∙ ap (λ m. ((old.made ++ byte_slots (run_text texts run)) ++ item_slots texts table has_piece old.node old.piece old.marks x) ++ items_slots texts table has_piece first.node first.piece m (drop (i + 1) items)) adds'.marks
+      node = adds.node ∙ way.node;
+      piece = adds.piece ∙ way.piece;
+      slots = ap (λ l. l ++ items_slots texts table has_piece first.node first.piece new.marks (drop (i + 1) items)) adds.made
+          ∙ ap (λ m. ((old.made ++ byte_slots (run_text texts run)) ++ item_slots texts table has_piece old.node old.piece old.marks x) ++ items_slots texts table has_piece first.node first.piece m (drop (i + 1) items)) adds.marks
           ∙ item_made texts table has_piece first.node old.node first.piece old.piece old.marks items i d (old.made ++ byte_slots (run_text texts run)) _ way.node way.piece h way.slots;
-      bytes = ap (λ l. l ++ flat_map (bytes_in texts) (drop (i + 1) items)) adds'.bytes ∙ items_next (bytes_in texts) items i d (old.bytes ++ run_text texts run) _ h way.bytes;
-      codes = ap (λ l. l ++ piece_codes table (drop (i + 1) items)) adds'.codes ∙ codes_next table items i d old.codes _ h way.codes;
-      uses = ap (λ l. l ++ flat_map (names_in table) (drop (i + 1) items)) adds'.uses ∙ items_next (names_in table) items i d old.uses _ h way.uses;
+      bytes = ap (λ l. l ++ flat_map (bytes_in texts) (drop (i + 1) items)) adds.bytes ∙ items_next (bytes_in texts) items i d (old.bytes ++ run_text texts run) _ h way.bytes;
+      codes = ap (λ l. l ++ piece_codes table (drop (i + 1) items)) adds.codes ∙ codes_next table items i d old.codes _ h way.codes;
+      uses = ap (λ l. l ++ flat_map (names_in table) (drop (i + 1) items)) adds.uses ∙ items_next (names_in table) items i d old.uses _ h way.uses;
     }
 
-pub goes_on : (texts : List (List ℕ)) (table : TableRead) (has_piece : ℕ → Bool) (first : Making) (items : List Item) (i : ℕ) (x d : Item) (run next : Option Span) (old mid new : Making)
-    → i < length items → x ≡ get_or items i d
-    → mid ≡ record old { codes = old.codes ++ code_in table x ∷ []; uses = old.uses ++ names_in table x }
-    → AddsItem texts table has_piece x run next mid new
+pub goes_on : (texts : List (List ℕ)) (table : TableRead) (has_piece : ℕ → Bool) (first : Making) (items : List Item) (i : ℕ) (x d : Item) (run next : Option Span) (old new : Making)
+    → i < length items → x ≡ get_or items i d → AddsItem texts table has_piece x run next old new
     → IsOnTheWay texts table has_piece first items i run old → IsOnTheWay texts table has_piece first items (i + 1) next new
-goes_on texts table has_piece first items i x d run next old mid new h is e adds =
-    goes_on_there texts table has_piece first items i d run next old mid new h
-    (subst (λ y. mid ≡ record old { codes = old.codes ++ code_in table y ∷ []; uses = old.uses ++ names_in table y }) is e)
-    (subst (λ y. AddsItem texts table has_piece y run next mid new) is adds)
+goes_on texts table has_piece first items i x d run next old new h is adds =
+    goes_on_there texts table has_piece first items i d run next old new h (subst (λ y. AddsItem texts table has_piece y run next old new) is adds)

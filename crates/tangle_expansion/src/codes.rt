@@ -1,5 +1,6 @@
 //! What two shapes are compared by, beside the bytes of their items: codes of the items, and the names that they use.
-ghost use Rattle.std.specs.Prelude.{◌≡◌, ◌↔◌, true, ◌++◌, ◌-◌, length, OnOk, decimal};
+ghost use Rattle.std.specs.Prelude.{◌≡◌, ◌↔◌, true, ◌++◌, ◌-◌, ◌<◌, length, OnOk, decimal};
+ghost use Rattle.std.specs.List.{All};
 ghost use Rattle.tangle_scan.specs.WellFormed.{IsUseBelow};
 ghost use Rattle.tangle_expansion.specs.ItemCodes.{use_code as code_of_use, code_in, names_resolved};
 ghost use Rattle.tangle_expansion.specs.Codes.{piece_end};
@@ -7,7 +8,7 @@ ghost use Rattle.tangle_expansion.specs.Codes.{piece_end};
 use itoa::Buffer;
 use tangle_lines::NoMemory;
 use tangle_names::{NameTable, Resolved};
-use tangle_scan::{Item, Span};
+use tangle_scan::{Item, Piece, Span};
 
 /// The kind of an item of a shape, or the end of a piece.
 #[derive(Clone, Copy, Debug, PartialEq, Eq)]
@@ -35,7 +36,7 @@ pub(crate) struct ItemCode {
 }
 
 /// The code of an item whose text is a range of the source.
-fn text_code(kind: ItemKind, span: Span) -> ItemCode
+pub(crate) fn text_code(kind: ItemKind, span: Span) -> ItemCode
     ensures { result ≡ record { kind = kind; size = span.end - span.start } }
 {
     ItemCode {
@@ -94,6 +95,17 @@ pub(crate) fn end_of_piece() -> ItemCode
     ensures { result ≡ piece_end }
 {
     fixed_code(ItemKind::PieceEnd, 0)
+}
+
+/// How many codes the pieces with these numbers have, for the room that they take.
+pub(crate) fn code_count(pieces: &[Piece], numbers: &[usize]) -> usize
+    requires { All (λ n. n < length pieces.now) numbers.now }
+{
+    let mut count = numbers.len();
+    for number in numbers {
+        count = count.saturating_add(pieces[*number].items().len());
+    }
+    count
 }
 
 /// Whether two codes are the same.

@@ -10,12 +10,12 @@ ghost use Rattle.tangle_expansion.specs.Codes.{piece_end, shape_codes};
 ghost use Rattle.tangle_expansion.specs.Planned.{nothing_made};
 ghost use Rattle.tangle_expansion.specs.Shapes.{Program};
 ghost use Rattle.tangle_expansion.specs.NodeTexts.{node_title, node_bytes, node_codes, node_uses, plan_slots, plan_uses, HoldsShape};
-ghost use Rattle.tangle_expansion.specs.Runs.{AddsItem, run_text};
+ghost use Rattle.tangle_expansion.specs.Runs.{AddsItem, AddsText, run_text};
 ghost use Rattle.tangle_expansion.specs.ItemSlots.{marks_behind_item, name_slots, item_slots, piece_slots, pieces_slots, pieces_at};
 
-use crate::codes::{ItemCode, add_name, code_of, end_of_piece};
+use crate::codes::{ItemCode, ItemKind, add_name, code_count, code_of, end_of_piece, text_code};
 use crate::expansion::{NodeText, Step};
-use crate::runs::{text_of, with_item};
+use crate::runs::{joined, text_of, with_space};
 use itoa::Buffer;
 use std::alloc::Global;
 use std::marker::Model;
@@ -65,18 +65,19 @@ impl Planning {
         }
     }
 
-    /// Begins with a node of this name, or the program.
-    fn begin(&mut self, name: Option<Vec<u8>>)
-        ensures { self.new ≡ nothing_made (title_of name) }
+    /// Begins with a node of this name, or the program, with room for so many codes.
+    fn begin(&mut self, alloc: Global, name: Option<Vec<u8>>, codes: usize) -> Result<(), NoMemory>
+        ensures { OnOk result (self.new ≡ nothing_made (title_of name)) }
     {
+        self.codes = Vec::with_capacity(alloc, codes)?;
         self.name = name;
         self.text.clear();
         self.plan.clear();
-        self.codes.clear();
         self.uses.clear();
         self.piece = 0;
         self.marks = 0;
         self.start = 0;
+        Ok(())
     }
 
     /// Adds bytes that are written as they stand.
@@ -113,23 +114,22 @@ impl Planning {
         Ok(())
     }
 
-    /// Adds the code of an item, and the number of the name that it uses.
-    fn add_code(&mut self, table: &NameTable, item: &Item) -> Result<(), NoMemory>
-        requires { IsUseBelow (length table.now.resolved) item.now }
-        ensures { OnOk result (self.new ≡ record self.old { codes = self.old.codes ++ code_in table.now item.now ∷ []; uses = self.old.uses ++ names_in table.now item.now }) }
+    /// Adds the code of an item, or of the end of a piece.
+    fn add_code(&mut self, code: ItemCode) -> Result<(), NoMemory>
+        ensures { OnOk result (self.new ≡ record self.old { codes = self.old.codes ++ code ∷ [] }) }
     {
-        self.codes.push(code_of(item, table))?;
-        if let Item::UseOf(occurrence) = *item {
-            add_name(&mut self.uses, table.resolve(occurrence.number()))?;
-        }
+        self.codes.push(code)?;
         Ok(())
     }
 
-    /// Adds the code of the end of a piece.
-    fn end_codes(&mut self) -> Result<(), NoMemory>
-        ensures { OnOk result (self.new ≡ record self.old { codes = self.old.codes ++ piece_end ∷ [] }) }
+    /// Adds the number of the name that an item uses, if it uses one.
+    fn add_name(&mut self, table: &NameTable, item: &Item) -> Result<(), NoMemory>
+        requires { IsUseBelow (length table.now.resolved) item.now }
+        ensures { OnOk result (self.new ≡ record self.old { uses = self.old.uses ++ names_in table.now item.now }) }
     {
-        self.codes.push(end_of_piece())?;
+        if let Item::UseOf(occurrence) = *item {
+            add_name(&mut self.uses, table.resolve(occurrence.number()))?;
+        }
         Ok(())
     }
 
@@ -147,8 +147,8 @@ impl Planning {
         Ok(NodeText {
             text: Vec::from_slice(alloc, &self.text)?,
             plan,
-            codes: Vec::from_slice(alloc, &self.codes)?,
             uses: Vec::from_slice(alloc, &self.uses)?,
+            codes: replace(&mut self.codes, Vec::new(alloc)),
             name: replace(&mut self.name, None),
         })
     }
@@ -245,6 +245,67 @@ fn add_item(
     }
 }
 
+/// Adds a range that is still to be copied, if there is one.
+fn add_run(planning: &mut Planning, web: &Web, run: Option<Span>) -> Result<(), NoMemory>
+    requires run { IfSome run (IsSpan web.now.texts) }
+    ensures { OnOk result (planning.new ≡ record planning.old { made = planning.old.made ++ byte_slots (run_text web.now.texts run); bytes = planning.old.bytes ++ run_text web.now.texts run }) }
+{
+    match run {
+        Some(run) => planning.add_bytes(web.text(run)),
+        None => Ok(()),
+    }
+}
+
+/// Adds a text behind a range that is still to be copied, if there is one: the range that is to be copied then.
+fn add_text(
+    planning: &mut Planning,
+    web: &Web,
+    run: Option<Span>,
+    kind: ItemKind,
+    span: Span,
+) -> Result<Option<Span>, NoMemory>
+    requires run { IfSome run (IsSpan web.now.texts) }
+    requires span { IsSpan web.now.texts span }
+    ensures range { IfOk result (λ next. IfSome next (IsSpan web.now.texts)) }
+    ensures added { IfOk result (λ next. AddsText web.now.texts kind span run next planning.old planning.new) }
+{
+    planning.add_code(text_code(kind, span))?;
+    if let Some(before) = run {
+        if let Some(more) = joined(before, span) {
+            return Ok(Some(more));
+        }
+    }
+    add_run(planning, web, run)?;
+    Ok(Some(span))
+}
+
+/// Adds an item without a text behind a range that is still to be copied, if there is one: the range that is to be copied then.
+fn add_other(
+    planning: &mut Planning,
+    web: &Web,
+    table: &NameTable,
+    has_piece: &[bool],
+    run: Option<Span>,
+    item: &Item,
+) -> Result<Option<Span>, NoMemory>
+    requires span { IsInRange web.now.texts item.now }
+    requires name { IsUseBelow (length table.now.resolved) item.now }
+    requires run { IfSome run (IsSpan web.now.texts) }
+    ensures range { IfOk result (λ next. IfSome next (IsSpan web.now.texts)) }
+    ensures added { IfOk result (λ next. AddsItem web.now.texts table.now (λ id. slice_index_or has_piece.now id false) item.now run next planning.old planning.new) }
+{
+    planning.add_code(code_of(item, table))?;
+    planning.add_name(table, item)?;
+    if let Some(before) = run {
+        if let Some(more) = with_space(web, before, item) {
+            return Ok(Some(more));
+        }
+    }
+    add_run(planning, web, run)?;
+    add_item(planning, web, table, has_piece, *item)?;
+    Ok(None)
+}
+
 /// Adds an item behind a range that is still to be copied, if there is one: the range that is to be copied then.
 fn add_behind(
     planning: &mut Planning,
@@ -260,29 +321,9 @@ fn add_behind(
     ensures range { IfOk result (λ next. IfSome next (IsSpan web.now.texts)) }
     ensures added { IfOk result (λ next. AddsItem web.now.texts table.now (λ id. slice_index_or has_piece.now id false) item.now run next planning.old planning.new) }
 {
-    if let Some(before) = run {
-        if let Some(more) = with_item(web, before, item) {
-            return Ok(Some(more));
-        }
-    }
-    add_run(planning, web, run)?;
     match text_of(item) {
-        Some(span) => Ok(Some(span)),
-        None => {
-            add_item(planning, web, table, has_piece, *item)?;
-            Ok(None)
-        }
-    }
-}
-
-/// Adds a range that is still to be copied, if there is one.
-fn add_run(planning: &mut Planning, web: &Web, run: Option<Span>) -> Result<(), NoMemory>
-    requires run { IfSome run (IsSpan web.now.texts) }
-    ensures { OnOk result (planning.new ≡ record planning.old { made = planning.old.made ++ byte_slots (run_text web.now.texts run); bytes = planning.old.bytes ++ run_text web.now.texts run }) }
-{
-    match run {
-        Some(run) => planning.add_bytes(web.text(run)),
-        None => Ok(()),
+        Some((kind, span)) => add_text(planning, web, run, kind, span),
+        None => add_other(planning, web, table, has_piece, run, item),
     }
 }
 
@@ -309,10 +350,9 @@ fn add_piece(
     planning.add_step(Step::Open)?;
     let mut run = None;
     for item in items {
-        planning.add_code(table, item)?;
         run = add_behind(planning, web, table, has_piece, run, item)?;
     }
-    planning.end_codes()?;
+    planning.add_code(end_of_piece())?;
     add_run(planning, web, run)?;
     planning.add_step(Step::Close)
 }
@@ -366,7 +406,8 @@ pub fn plan_node(
     ensures uses { IfOk result (λ n. node_uses n ≡ pieces_names table.now (pieces_at web.now.pieces numbers.now)) }
     ensures plan_uses { IfOk result (λ n. plan_uses n ≡ filter (λ id. slice_index_or has_piece.now id false) (pieces_names table.now (pieces_at web.now.pieces numbers.now))) }
 {
-    planning.begin(name);
+    let codes = code_count(web.pieces(), numbers);
+    planning.begin(alloc, name, codes)?;
     add_pieces(planning, web, table, has_piece, numbers)?;
     let node = planning.finish(alloc)?;
     Ok(node)

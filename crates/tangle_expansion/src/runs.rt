@@ -1,19 +1,21 @@
 //! Texts of items that stand side by side in the source, so that they are copied at once.
 ghost use Rattle.std.specs.Prelude.{◌≡◌, true, IfSome};
-ghost use Rattle.tangle_scan.specs.SourceOrder.{IsInRange, IsSpan};
+ghost use Rattle.tangle_scan.specs.SourceOrder.{IsSpan};
 ghost use Rattle.tangle_scan.specs.declared.items.Item.TheVariants as item_kind;
 ghost use Rattle.tangle_expansion.specs.Runs.{IsJoined, IsRunWith, IsTextOf};
 
+use crate::codes::ItemKind;
 use tangle_scan::{Item, Span, Web};
 
-/// The range of an item with a text.
-pub(crate) fn text_of(item: &Item) -> Option<Span>
-    ensures { IfSome result (IsTextOf item.now) }
+/// The kind and the range of an item with a text.
+pub(crate) fn text_of(item: &Item) -> Option<(ItemKind, Span)>
+    ensures { IfSome result (λ text. IsTextOf item.now text.0 text.1) }
 {
     match item {
-        Item::Word(span) | Item::Sign(span) | Item::Quoted(span) | Item::Verbatim(span) => Some(
-            *span,
-        ),
+        Item::Word(span) => Some((ItemKind::Word, *span)),
+        Item::Sign(span) => Some((ItemKind::Sign, *span)),
+        Item::Quoted(span) => Some((ItemKind::Quoted, *span)),
+        Item::Verbatim(span) => Some((ItemKind::Verbatim, *span)),
         Item::QuoteBreak
         | Item::Code(_)
         | Item::Blank
@@ -25,7 +27,7 @@ pub(crate) fn text_of(item: &Item) -> Option<Span>
 }
 
 /// A range with the one that begins where it ends.
-fn joined(run: Span, span: Span) -> Option<Span>
+pub(crate) fn joined(run: Span, span: Span) -> Option<Span>
     ensures { IfSome result (IsJoined run span) }
 {
     if run.line == span.line && run.end == span.start {
@@ -50,7 +52,7 @@ fn is_blank(item: &Item) -> bool
 }
 
 /// A range with an item behind it, if that is white space, and a space in the source.
-fn with_space(web: &Web, run: Span, item: &Item) -> Option<Span>
+pub(crate) fn with_space(web: &Web, run: Span, item: &Item) -> Option<Span>
     requires run { IsSpan web.now.texts run }
     ensures { IfSome result (IsRunWith web.now.texts run item.now) }
 {
@@ -66,17 +68,5 @@ fn with_space(web: &Web, run: Span, item: &Item) -> Option<Span>
         })
     } else {
         None
-    }
-}
-
-/// A range with an item behind it, if the two stand side by side.
-pub(crate) fn with_item(web: &Web, run: Span, item: &Item) -> Option<Span>
-    requires run { IsSpan web.now.texts run }
-    requires item { IsInRange web.now.texts item.now }
-    ensures { IfSome result (IsRunWith web.now.texts run item.now) }
-{
-    match text_of(item) {
-        Some(span) => joined(run, span),
-        None => with_space(web, run, item),
     }
 }

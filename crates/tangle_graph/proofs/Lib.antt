@@ -17,3 +17,4 @@ mod StoreIs
 mod OrderingLemmas
 mod FaultLemmas
 pub mod WeightLemmas
+pub mod UsesLemmas

@@ -1,10 +1,9 @@
 -- Rows that grow by the pieces of a web, one after another.
-use Rattle.std.proofs.Common.{◌≡◌, ◌∙◌, ◌<◌, ◌≤◌, ◌+◌, length-append, ℕ, zero, suc, Bool, true, false, cond, List, [], ◌∷◌, ◌++◌, length, map, take, filter, flat_map, get_or, refl, ap, sym, arith, append_assoc, append-nil, add-zero, Vec}
+use Rattle.std.proofs.Common.{◌≡◌, ◌∙◌, ◌<◌, ◌≤◌, ◌+◌, length-append, ℕ, zero, suc, Bool, true, false, cond, List, [], ◌∷◌, ◌++◌, length, map, take, filter, get_or, refl, ap, sym, arith, append_assoc, append-nil, add-zero, Vec}
 use Rattle.std.specs.Global.{Global}
 use Rattle.std.proofs.lemmas.List.{map-append, get_or_append_left, get_or_push}
 use Rattle.std.specs.Prelude.{All, if◌then◌else◌}
-use Rattle.std.proofs.lemmas.List.Elements.{filter_more, All-append, All-cons, All-nil}
-use Rattle.std.proofs.lemmas.Grind.{flat_map-append}
+use Rattle.std.proofs.lemmas.List.Elements.{All-append, All-cons, All-nil}
 use Rattle.std.proofs.Math.Decide.{dec_lt}
 use Rattle.digraph.specs.Graph.{rows_of}
 use Rattle.digraph.specs.Rows.{IsRowsOf, GrowsBy}
@@ -21,16 +20,6 @@ places_more p k (x ∷ xs) (suc i) d h =
     ap (λ n. places p k (take n (x ∷ xs))) one_more
     ∙ (ap (λ r. cond (p x) (k ∷ []) [] ++ r) (places_more p (k + 1) xs i d low ∙ ap (λ n. places p (k + 1) (take i xs) ++ cond (p (get_or xs i d)) (n ∷ []) []) place)
     ∙ sym (append_assoc (cond (p x) (k ∷ []) []) (places p (k + 1) (take i xs)) (cond (p (get_or xs i d)) ((k + suc i) ∷ []) [])))
-
-pub used_more : {X : Type 0} (p : X → Bool) (f : X → List ℕ) (xs : List X) (i : ℕ) (d : X) → i < length xs
-    → flat_map f (filter p (take (i + 1) xs)) ≡ flat_map f (filter p (take i xs)) ++ cond (p (get_or xs i d)) (f (get_or xs i d)) []
-used_more p f xs i d h =
-    ap (flat_map f) (filter_more p xs i d h) ∙ (flat_map-append f (filter p (take i xs)) (cond (p (get_or xs i d)) (get_or xs i d ∷ []) [])
-    ∙ ap (λ r. flat_map f (filter p (take i xs)) ++ r) (by (p (get_or xs i d))))
-  where
-    by : (b : Bool) → flat_map f (cond b (get_or xs i d ∷ []) []) ≡ cond b (f (get_or xs i d)) []
-    by true = append-nil (f (get_or xs i d))
-    by false = refl
 
 pub rows_by : (count : ℕ) (f g h : ℕ → List ℕ) (old new : List (List ℕ)) → IsRowsOf count f old → GrowsBy g old new → ((n : ℕ) → h n ≡ f n ++ g n) → IsRowsOf count h new
 rows_by count f g h old new is more sum = record {

@@ -1,17 +1,21 @@
 //! The graph of a web by number: pieces, uses and users of each node, and an order of those that reach no cycle.
-ghost use Rattle.std.specs.Prelude.{◌≡◌, ◌<◌, ℕ, IfOk, length};
+ghost use Rattle.std.specs.Prelude.{◌≡◌, ◌<◌, ◌+◌, ℕ, IfOk, length};
 ghost use Rattle.std.specs.List.{IsDistinct};
 ghost use Rattle.std.specs.List.Sorted.{IsStrictlyIncreasing};
 ghost use Rattle.std.specs.Str.{bytes_eq};
 ghost use Rattle.digraph.specs.Graph.{rows_of, row_at};
 ghost use Rattle.digraph.specs.Order.{IsOrder};
-ghost use Rattle.digraph.specs.Rows.{IsConverse};
+ghost use Rattle.digraph.specs.Rows.{IsConverse, IsRowsOf};
 ghost use Rattle.tangle_expansion.specs.Projects.{ResolvesInside};
+ghost use Rattle.tangle_graph.specs.Grouping.{places_of};
 ghost use Rattle.tangle_graph.specs.Groups.{IsGraphOf};
+ghost use Rattle.tangle_graph.specs.Plans.{AreTexts, node_texts};
 
-use crate::pieces::{pieces_by_node, uses_by_node};
+use crate::texts::uses_of_texts;
 use digraph::{all_once, order, users};
 use std::alloc::{AllocError, Global};
+use std::rc::Rc;
+use tangle_expansion::NodeText;
 use tangle_names::NameTable;
 use tangle_scan::Web;
 
@@ -26,19 +30,26 @@ pub(crate) struct Graph {
 }
 
 impl Graph {
-    /// The graph of a web with its table of names.
-    pub(crate) fn build(alloc: Global, web: &Web, table: &NameTable) -> Result<Graph, AllocError>
+    /// The graph of a web with its table of names, by the numbers of each node's pieces and its text.
+    pub(crate) fn build(
+        alloc: Global,
+        web: &Web,
+        table: &NameTable,
+        pieces: Vec<Vec<usize>>,
+        texts: &[Rc<NodeText>],
+    ) -> Result<Graph, AllocError>
+        requires grouped { IsRowsOf (length table.now.names + 1) (places_of table.now web.now.pieces) (rows_of pieces.items) }
+        requires texts { AreTexts web.now table.now (rows_of pieces.items) (node_texts texts.now) }
         requires distinct { IsDistinct bytes_eq table.now.names }
         requires inside { ResolvesInside table.now }
-        requires ours { length table.now.resolved ≡ length web.now.occurrences }
+        ensures pieces { IfOk result (λ graph. graph.pieces ≡ pieces) }
         ensures graph { IfOk result (λ graph. IsGraphOf web.now table.now graph.pieces.items graph.uses.items) }
         ensures increasing { IfOk result (λ graph. (n : ℕ) → IsStrictlyIncreasing (row_at (rows_of graph.uses.items) n)) }
         ensures size { IfOk result (λ graph. length graph.users.items ≡ length graph.uses.items) }
         ensures converse { IfOk result (λ graph. IsConverse graph.uses.items graph.users.items) }
         ensures order { IfOk result (λ graph. IsOrder graph.uses.items graph.order.items) }
     {
-        let pieces = pieces_by_node(alloc, web.pieces(), table)?;
-        let mut rows = uses_by_node(alloc, web.pieces(), table)?;
+        let mut rows = uses_of_texts(alloc, texts)?;
         all_once(&mut rows);
         let uses: &[Vec<usize>] = &rows;
         let users = users(alloc, uses)?;

@@ -1,10 +1,10 @@
 //! The text and the plan of each node.
-ghost use Rattle.std.specs.Prelude.{◌≡◌, ◌<◌, IfOk, length, filter, All, slice_index_or, false};
+ghost use Rattle.std.specs.Prelude.{◌≡◌, ◌<◌, IfOk, length, map, filter, All, slice_index_or, false};
 ghost use Rattle.digraph.specs.Graph.{rows_of};
 ghost use Rattle.tangle_expansion.specs.ItemCodes.{pieces_names};
 ghost use Rattle.tangle_expansion.specs.ItemSlots.{pieces_at, pieces_slots};
 ghost use Rattle.tangle_expansion.specs.Meaning.{title_of};
-ghost use Rattle.tangle_expansion.specs.NodeTexts.{plan_slots, plan_uses};
+ghost use Rattle.tangle_expansion.specs.NodeTexts.{node_uses, plan_slots, plan_uses};
 ghost use Rattle.tangle_graph.specs.Nodes.{title_at};
 ghost use Rattle.tangle_graph.specs.Plans.{ArePlans, ArePiecesInside, AreFilled, AreTexts, IsTextOf, node_texts, slots_of, uses_of_plans};
 
@@ -86,4 +86,18 @@ pub(crate) fn texts_by_node(
         texts.push(text)?;
     }
     Ok(texts)
+}
+
+/// The names that the items of each node use, each as often as it is used.
+pub(crate) fn uses_of_texts(
+    alloc: Global,
+    texts: &[Rc<NodeText>],
+) -> Result<Vec<Vec<usize>>, AllocError>
+    ensures { IfOk result (λ rows. rows_of rows.items ≡ map node_uses (node_texts texts.now)) }
+{
+    let mut rows = Vec::with_capacity(alloc, texts.len())?;
+    for text in texts {
+        rows.push(Vec::from_slice(alloc, text.uses())?)?;
+    }
+    Ok(rows)
 }

@@ -10,6 +10,6 @@ loop-item-preserved c =
     let i = c.loop-item.item-index in
     record {
       range = c.in_ok-run.ensures.range;
-      way = goes_on c.args.web.now.texts c.args.table.now has c.args.planning.now items i c.item-item.result c.item-item.result c.loop-item.run c.in_ok-run.run' c.loop-item.planning c.add_code.new.self c.add_behind.new.planning
-          c.loop-item-test.true c.item-item.is c.in_ok-add_code.ensures c.in_ok-run.ensures.added c.loop-item.invariant.way;
+      way = goes_on c.args.web.now.texts c.args.table.now has c.args.planning.now items i c.item-item.result c.item-item.result c.loop-item.run c.in_ok-run.run' c.loop-item.planning c.add_behind.new.planning
+          c.loop-item-test.true c.item-item.is c.in_ok-run.ensures.added c.loop-item.invariant.way;
     }

@@ -15,7 +15,7 @@ returns-clause-plan c =
     ap (λ t. slots t (node_bytes n) 0 0 0 n.plan.items) c.in_ok-node.ensures.node
     ∙ c.in_ok-node.ensures.made
     ∙ c.in_ok-add_pieces.ensures.made
-    ∙ ap (λ t. pieces_slots c.args.web.now.texts c.args.table.now has t 0 (pieces_at c.args.web.now.pieces c.args.numbers.now)) (ap (λ (m : Making). m.node) c.begin.ensures)
+    ∙ ap (λ t. pieces_slots c.args.web.now.texts c.args.table.now has t 0 (pieces_at c.args.web.now.pieces c.args.numbers.now)) (ap (λ (m : Making). m.node) c.in_ok-begin.ensures)
 
 pub returns-clause-shape : goal.returns-clause-shape
 returns-clause-shape c =

@@ -1,7 +1,6 @@
-use Rattle.std.proofs.Common.{◌≡◌, ◌∙◌, ◌<◌, ℕ, Bool, List, [], length, map, get_or, ap, refl, sym, subst, arith, false, Vec}
+use Rattle.std.proofs.Common.{◌≡◌, ◌∙◌, ◌<◌, ℕ, Bool, List, length, map, get_or, ap, refl, sym, subst, arith, false, Vec}
 use Rattle.std.specs.Global.{Global}
-use Rattle.std.specs.Prelude.{All}
-use Rattle.std.proofs.lemmas.List.{get_or-map, length-map}
+use Rattle.std.proofs.lemmas.List.{length-map}
 use Rattle.std.specs.List.{IsDistinct}
 use Rattle.std.specs.Str.{bytes_eq}
 use Rattle.tangle_names.specs.NameTable.{TableRead}
@@ -20,6 +19,8 @@ use Rattle.tangle_graph.proofs.LimitLemmas.{limited, program_filled}
 use Rattle.tangle_graph.proofs.OrderingLemmas.{order_is, grouped_by}
 use Rattle.tangle_graph.proofs.StoreIs.{store_made}
 use Rattle.tangle_graph.proofs.TextLemmas.{names_below}
+use Rattle.tangle_graph.proofs.UsesLemmas.{pieces_inside}
+use Rattle.tangle_scan.specs.Web.{PieceRead}
 use Rattle.tangle_graph.proofs.store.Store.build.Goals as goal
 
 pub build-requires-clause-distinct : goal.build-requires-clause-distinct
@@ -30,7 +31,7 @@ outputs-requires-clause-program c =
     let graph = c.in_ok-graph.ensures.graph in
     let low : c.count.result < length c.deref-pieces.result.now = omega (arith, c.count.ensures, ap length c.deref-pieces.ensures.value, graph.rows_size) in
     c.is_filled-has_piece.ensures
-    ∙ ap is_filled (c.deref-5.ensures.value ∙ sym (row_read c.deref-pieces.result.now c.count.result c.index-pieces-count.result low c.index-pieces-count.is))
+    ∙ ap is_filled (c.deref-8.ensures.value ∙ sym (row_read c.deref-pieces.result.now c.count.result c.index-pieces-count.result low c.index-pieces-count.is))
     ∙ (λ i. is_filled (row_at (rows_of (c.deref-pieces.ensures.value i)) (c.count.ensures i)))
     ∙ program_filled c.args.web.now c.args.table.now c.in_ok-graph.graph.pieces.items c.in_ok-graph.graph.uses.items graph
 
@@ -41,22 +42,22 @@ outputs-requires-clause-flags c = λ n h.
     let flags = c.in_ok-expandable.expandable.items in
     let graph = c.in_ok-graph.ensures.graph in
     let within : AreWithin (rows_of rows) c.in_ok-weights.weights.items c.in_ok-depths.depths.items flags =
-    subst (λ ds. AreWithin (rows_of rows) c.in_ok-weights.weights.items ds flags) c.deref-4.ensures.value
-    (subst (λ ws. AreWithin (rows_of rows) ws c.deref-4.result.now flags) c.deref-3.ensures.value
-    (subst (λ (g : Graph). AreWithin (rows_of g) c.deref-3.result.now c.deref-4.result.now flags) c.deref-pieces.ensures.value c.in_ok-expandable.ensures)) in
+    subst (λ ds. AreWithin (rows_of rows) c.in_ok-weights.weights.items ds flags) c.deref-7.ensures.value
+    (subst (λ ws. AreWithin (rows_of rows) ws c.deref-7.result.now flags) c.deref-6.ensures.value
+    (subst (λ (g : Graph). AreWithin (rows_of g) c.deref-6.result.now c.deref-7.result.now flags) c.deref-pieces.ensures.value c.in_ok-expandable.ensures)) in
     let same : length c.deref-uses.result.now ≡ length uses = ap length c.deref-uses.ensures.value in
-    let read : length c.deref-6.result.now ≡ length flags = ap length c.deref-6.ensures.value in
+    let read : length c.deref-9.result.now ≡ length flags = ap length c.deref-9.ensures.value in
     let low : n < length uses = omega (arith, h, read, within.size, rows_size rows, graph.rows_size, graph.uses_size) in
-    ap (λ l. get_or l n false) c.deref-6.ensures.value
+    ap (λ l. get_or l n false) c.deref-9.ensures.value
     ∙ limited c.args.web.now c.args.table.now rows uses graph c.in_ok-weights.weights.items c.in_ok-depths.depths.items flags within
     (λ k room. c.in_ok-weights.ensures.weights k (omega (arith, room, same))) (λ k room. c.in_ok-depths.ensures.depths k (omega (arith, room, same))) n low
 
 pub texts_by_node-requires-clause-inside : goal.texts_by_node-requires-clause-inside
 texts_by_node-requires-clause-inside c =
-    let rows = c.in_ok-graph.graph.pieces.items in
-    let count = length c.args.web.now.pieces in
-    let inside : ArePiecesInside count rows = (λ k d h. subst (λ (r : List ℕ). All (λ i. i < count) r) (get_or-map (λ (v : Vec ℕ Global). v.items) rows k d [] h) (c.in_ok-graph.ensures.graph.numbers k h)) in
-    subst (ArePiecesInside count) (sym c.deref-pieces.ensures.value) inside
+    let rows = c.in_ok-rows.rows.items in
+    let inside = pieces_inside c.args.table.now c.pieces.result.now rows c.in_ok-rows.ensures in
+    subst (ArePiecesInside (length c.args.web.now.pieces)) (sym c.deref-3.ensures.value)
+    (subst (λ (ps : List PieceRead). ArePiecesInside (length ps) rows) c.pieces.ensures.pieces inside)
 
 pub graph_faults-requires-clause-flags : goal.graph_faults-requires-clause-flags
 graph_faults-requires-clause-flags c = λ n h.
@@ -65,13 +66,13 @@ graph_faults-requires-clause-flags c = λ n h.
     let flags = c.in_ok-expandable.expandable.items in
     let graph = c.in_ok-graph.ensures.graph in
     let within : AreWithin (rows_of rows) c.in_ok-weights.weights.items c.in_ok-depths.depths.items flags =
-    subst (λ ds. AreWithin (rows_of rows) c.in_ok-weights.weights.items ds flags) c.deref-4.ensures.value
-    (subst (λ ws. AreWithin (rows_of rows) ws c.deref-4.result.now flags) c.deref-3.ensures.value
-    (subst (λ (g : Graph). AreWithin (rows_of g) c.deref-3.result.now c.deref-4.result.now flags) c.deref-pieces.ensures.value c.in_ok-expandable.ensures)) in
+    subst (λ ds. AreWithin (rows_of rows) c.in_ok-weights.weights.items ds flags) c.deref-7.ensures.value
+    (subst (λ ws. AreWithin (rows_of rows) ws c.deref-7.result.now flags) c.deref-6.ensures.value
+    (subst (λ (g : Graph). AreWithin (rows_of g) c.deref-6.result.now c.deref-7.result.now flags) c.deref-pieces.ensures.value c.in_ok-expandable.ensures)) in
     let same : length c.deref-uses.result.now ≡ length uses = ap length c.deref-uses.ensures.value in
-    let read : length c.deref-7.result.now ≡ length flags = ap length c.deref-7.ensures.value in
+    let read : length c.deref-10.result.now ≡ length flags = ap length c.deref-10.ensures.value in
     let low : n < length uses = omega (arith, h, read, within.size, rows_size rows, graph.rows_size, graph.uses_size) in
-    ap (λ l. get_or l n false) c.deref-7.ensures.value
+    ap (λ l. get_or l n false) c.deref-10.ensures.value
     ∙ limited c.args.web.now c.args.table.now rows uses graph c.in_ok-weights.weights.items c.in_ok-depths.depths.items flags within
     (λ k room. c.in_ok-weights.ensures.weights k (omega (arith, room, same))) (λ k room. c.in_ok-depths.ensures.depths k (omega (arith, room, same))) n low
 
@@ -85,9 +86,9 @@ returns-clause-store c =
     let flags = c.in_ok-expandable.expandable.items in
     let graph = c.in_ok-graph.ensures.graph in
     let within : AreWithin (rows_of rows) c.in_ok-weights.weights.items c.in_ok-depths.depths.items flags =
-    subst (λ ds. AreWithin (rows_of rows) c.in_ok-weights.weights.items ds flags) c.deref-4.ensures.value
-    (subst (λ ws. AreWithin (rows_of rows) ws c.deref-4.result.now flags) c.deref-3.ensures.value
-    (subst (λ (g : Graph). AreWithin (rows_of g) c.deref-3.result.now c.deref-4.result.now flags) c.deref-pieces.ensures.value c.in_ok-expandable.ensures)) in
+    subst (λ ds. AreWithin (rows_of rows) c.in_ok-weights.weights.items ds flags) c.deref-7.ensures.value
+    (subst (λ ws. AreWithin (rows_of rows) ws c.deref-7.result.now flags) c.deref-6.ensures.value
+    (subst (λ (g : Graph). AreWithin (rows_of g) c.deref-6.result.now c.deref-7.result.now flags) c.deref-pieces.ensures.value c.in_ok-expandable.ensures)) in
     let same : length c.deref-uses.result.now ≡ length uses = ap length c.deref-uses.ensures.value in
     let weighed : (n : ℕ) → n < length uses → get_or c.in_ok-weights.weights.items n 0 ≡ weight_of (project web table) (title_at table.names n) =
     (λ n room. c.in_ok-weights.ensures.weights n (omega (arith, room, same))) in
@@ -95,13 +96,14 @@ returns-clause-store c =
     (λ n room. c.in_ok-depths.ensures.depths n (omega (arith, room, same))) in
     let inside = subst ResolvesInside (sym c.requires) (c.names_resolve_inside.ensures web) in
     let has : ℕ → Bool = (λ id. get_or c.in_ok-filled.filled.items id false) in
-    let filled : AreFilled (rows_of rows) c.in_ok-filled.filled.items = subst (λ (g : Graph). AreFilled (rows_of g) c.in_ok-filled.filled.items) c.deref-pieces.ensures.value c.in_ok-filled.ensures in
+    let taken : c.in_ok-rows.rows.items ≡ rows = sym (ap (λ (v : Vec (Vec ℕ Global) Global). v.items) c.in_ok-graph.ensures.pieces) in
+    let filled : AreFilled (rows_of rows) c.in_ok-filled.filled.items = subst (λ (g : Graph). AreFilled (rows_of g) c.in_ok-filled.filled.items) (c.deref.ensures.value ∙ taken) c.in_ok-filled.ensures in
     let has_is : (id : ℕ) → id < length table.names → has id ≡ is_filled (row_at (rows_of rows) id) = (λ id low. filled.flag id (omega (arith, low, graph.rows_size, rows_size rows))) in
     let planned : ArePlans web table has (rows_of rows) (slots_of c.in_ok-node_texts.node_texts.items) (uses_of_plans c.in_ok-node_texts.node_texts.items) =
-    subst (λ (g : Graph). ArePlans web table has (rows_of g) (slots_of c.in_ok-node_texts.node_texts.items) (uses_of_plans c.in_ok-node_texts.node_texts.items)) c.deref-pieces.ensures.value
-    (subst (λ (fs : List Bool). ArePlans web table (λ id. get_or fs id false) (rows_of c.deref-pieces.result.now) (slots_of c.in_ok-node_texts.node_texts.items) (uses_of_plans c.in_ok-node_texts.node_texts.items)) c.deref.ensures.value c.in_ok-node_texts.ensures.plans) in
+    subst (λ (g : Graph). ArePlans web table has (rows_of g) (slots_of c.in_ok-node_texts.node_texts.items) (uses_of_plans c.in_ok-node_texts.node_texts.items)) (c.deref-3.ensures.value ∙ taken)
+    (subst (λ (fs : List Bool). ArePlans web table (λ id. get_or fs id false) (rows_of c.deref-3.result.now) (slots_of c.in_ok-node_texts.node_texts.items) (uses_of_plans c.in_ok-node_texts.node_texts.items)) c.deref-2.ensures.value c.in_ok-node_texts.ensures.plans) in
     let shaped : AreTexts web table (rows_of rows) (node_texts c.in_ok-node_texts.node_texts.items) =
-    subst (λ (g : Graph). AreTexts web table (rows_of g) (node_texts c.in_ok-node_texts.node_texts.items)) c.deref-pieces.ensures.value c.in_ok-node_texts.ensures.texts in
+    subst (λ (g : Graph). AreTexts web table (rows_of g) (node_texts c.in_ok-node_texts.node_texts.items)) (c.deref-3.ensures.value ∙ taken) c.in_ok-node_texts.ensures.texts in
     store_made web table rows uses users c.in_ok-self_containing.field-0.items c.in_ok-weights.weights.items c.in_ok-depths.depths.items flags c.in_ok-outputs.field-0.items c.in_ok-graph_faults.field-0.items
     (slots_of c.in_ok-node_texts.node_texts.items) (uses_of_plans c.in_ok-node_texts.node_texts.items) (node_texts c.in_ok-node_texts.node_texts.items) has
     (subst (λ (t : TableRead). IsDistinct bytes_eq t.names) (sym c.requires) (c.names_are_the_full_names.ensures.once web.occurrences))
@@ -128,9 +130,9 @@ invariant_of-result c =
     let graph = c.in_ok-graph.ensures.graph in
     let order = c.in_ok-graph.graph.order.items in
     let within : AreWithin (rows_of rows) c.in_ok-weights.weights.items c.in_ok-depths.depths.items flags =
-    subst (λ ds. AreWithin (rows_of rows) c.in_ok-weights.weights.items ds flags) c.deref-4.ensures.value
-    (subst (λ ws. AreWithin (rows_of rows) ws c.deref-4.result.now flags) c.deref-3.ensures.value
-    (subst (λ (g : Graph). AreWithin (rows_of g) c.deref-3.result.now c.deref-4.result.now flags) c.deref-pieces.ensures.value c.in_ok-expandable.ensures)) in
+    subst (λ ds. AreWithin (rows_of rows) c.in_ok-weights.weights.items ds flags) c.deref-7.ensures.value
+    (subst (λ ws. AreWithin (rows_of rows) ws c.deref-7.result.now flags) c.deref-6.ensures.value
+    (subst (λ (g : Graph). AreWithin (rows_of g) c.deref-6.result.now c.deref-7.result.now flags) c.deref-pieces.ensures.value c.in_ok-expandable.ensures)) in
     let same : length c.deref-uses.result.now ≡ length uses = ap length c.deref-uses.ensures.value in
     let measured : (n : ℕ) → n < length uses → get_or c.in_ok-depths.depths.items n 0 ≡ depth_of (project web table) (title_at table.names n) =
     (λ n room. c.in_ok-depths.ensures.depths n (omega (arith, room, same))) in
@@ -142,7 +144,7 @@ invariant_of-result c =
     record {
       order = subst (IsOrderIn _) (sym nodes)
           (order_is web table rows uses order c.in_ok-weights.weights.items c.in_ok-depths.depths.items flags _ graph c.in_ok-graph.ensures.order within measured c.in_ok-texts.ensures used refl);
-      uses = names_below web table (rows_of c.deref-pieces.result.now) (node_texts c.in_ok-node_texts.node_texts.items) (length c.in_ok-texts.field-0.items) inside c.in_ok-node_texts.ensures.texts size;
+      uses = names_below web table (rows_of c.deref-3.result.now) (node_texts c.in_ok-node_texts.node_texts.items) (length c.in_ok-texts.field-0.items) inside c.in_ok-node_texts.ensures.texts size;
     }
 
 pub returns-clause-grouped : goal.returns-clause-grouped

@@ -1,0 +1,42 @@
+-- The names that each node uses, by its text.
+use Rattle.std.proofs.Common.{◌≡◌, ◌∙◌, ◌<◌, ◌+◌, ℕ, List, [], length, map, get_or, ap, sym, subst, arith, Vec}
+use Rattle.std.specs.Prelude.{filter, All}
+use Rattle.std.specs.Global.{Global}
+use Rattle.std.proofs.lemmas.List.{get_or-map, length-map}
+use Rattle.std.proofs.lemmas.Option.{get_or_from_slice_get}
+use Rattle.digraph.specs.Graph.{rows_of, row_at}
+use Rattle.digraph.specs.Rows.{IsRowsOf}
+use Rattle.digraph.proofs.GraphLemmas.{rows_size}
+use Rattle.tangle_scan.specs.Web.{PieceRead, WebRead}
+use Rattle.tangle_names.specs.NameTable.{TableRead}
+use Rattle.tangle_expansion.specs.ItemCodes.{pieces_names}
+use Rattle.tangle_expansion.specs.ItemSlots.{pieces_at, no_piece}
+use Rattle.tangle_expansion.specs.NodeTexts.{node_uses}
+use Rattle.tangle_expansion.specs.declared.expansion.NodeText.{NodeText}
+use Rattle.tangle_graph.specs.Grouping.{places_of, used_numbers, is_piece_of_number}
+use Rattle.tangle_graph.specs.Plans.{ArePiecesInside, AreTexts}
+use Rattle.tangle_graph.proofs.PlanLemmas.{names_same}
+use Rattle.tangle_graph.proofs.RowLemmas.{places_below, places_read}
+
+pub uses_collected : (web : WebRead) (table : TableRead) (pieces : List (List ℕ)) (texts : List NodeText) (uses : List (List ℕ))
+    → IsRowsOf (length table.names + 1) (places_of table web.pieces) pieces → AreTexts web table pieces texts → uses ≡ map node_uses texts
+    → IsRowsOf (length table.names + 1) (used_numbers table web.pieces) uses
+uses_collected web table pieces texts uses grouped are e = rw e (record {
+  size = length-map texts node_uses ∙ are.size ∙ grouped.size;
+  row = λ n low. (
+      let told = are.each n (omega (arith, low, grouped.size)) in
+      get_or-map node_uses texts n told.0 [] (omega (arith, low, are.size, grouped.size))
+      ∙ ap node_uses (get_or_from_slice_get texts n told.0 told.0 told.1)
+      ∙ told.2.names
+      ∙ ap (λ r. pieces_names table (pieces_at web.pieces r)) (grouped.row n low)
+      ∙ ap (pieces_names table) (places_read (is_piece_of_number table n) [] web.pieces no_piece)
+      ∙ names_same table (filter (is_piece_of_number table n) web.pieces));
+})
+
+-- the places of pieces are numbers of pieces
+pub pieces_inside : (table : TableRead) (pieces : List PieceRead) (rows : List (Vec ℕ Global)) → IsRowsOf (length table.names + 1) (places_of table pieces) (rows_of rows)
+    → ArePiecesInside (length pieces) rows
+pieces_inside table pieces rows grouped = λ k d h. (
+    let within : k < length table.names + 1 = omega (arith, h, rows_size rows, grouped.size) in
+    let row : row_at (rows_of rows) k ≡ (get_or rows k d).items = get_or-map (λ (v : Vec ℕ Global). v.items) rows k d [] h in
+    subst (All (λ i. i < length pieces)) (sym (grouped.row k within) ∙ row) (places_below (is_piece_of_number table k) 0 (length pieces) pieces (omega arith)))
