@@ -6,6 +6,7 @@
 // to come. Without this library nothing is so large, so the same test passes and refuses nothing.
 #define _GNU_SOURCE
 #include <fcntl.h>
+#include <malloc.h>
 #include <stddef.h>
 #include <stdlib.h>
 #include <unistd.h>
@@ -55,6 +56,8 @@ void *malloc(size_t size) {
     return is_refused() ? NULL : __libc_malloc(size);
 }
 
+// A block that has the room stays where it is: giving room back asks for none, and a call does without that.
 void *realloc(void *block, size_t size) {
-    return is_refused() ? NULL : __libc_realloc(block, size);
+    int grows = size > malloc_usable_size(block);
+    return grows && is_refused() ? NULL : __libc_realloc(block, size);
 }

@@ -93,10 +93,17 @@ pub(crate) fn node_before(old_names: &NameTable, new_names: &NameTable, node: No
 {
     match node {
         Node::Program => Some(Node::Program),
-        Node::Name(id) => match old_names.find(new_names.text(id)) {
-            Some(before) => Some(Node::Name(before)),
-            None => None,
-        },
+        Node::Name(id) => {
+            let text = new_names.text(id);
+            // Most edits leave each name its number, and then nothing is looked up.
+            if id < old_names.count() && old_names.text(id) == text {
+                return Some(Node::Name(id));
+            }
+            match old_names.find(text) {
+                Some(before) => Some(Node::Name(before)),
+                None => None,
+            }
+        }
     }
 }
 

@@ -1,7 +1,5 @@
 -- Kept expansions, as a map from nodes.
-use Rattle.std.specs.Prelude.{◌≡◌, ◌≢◌, ℕ, List, [], Option, Some, unwrap_or}
-use Rattle.std.specs.BTreeMap.{get}
-use Rattle.std.specs.Ordering.{nat_cmp}
+use Rattle.std.specs.Prelude.{◌≡◌, ◌≢◌, ℕ, List, [], Option, Some, None, unwrap_or, slice_index_or}
 use Rattle.tangle_expansion.specs.Flat.{Part}
 use Rattle.tangle_expansion.specs.declared.nodes.Node.{Node}
 use Rattle.tangle_expansion.specs.declared.nodes.Node.TheVariants.{Program, Name}
@@ -10,7 +8,7 @@ use Rattle.tangle_expansion.specs.declared.kept.Kept.{Kept}
 -- the expansion that is kept of the node
 abbrev pub kept_at : Kept → Node → Option (List Part)
 kept_at kept Program = kept.program
-kept_at kept (Name id) = get nat_cmp kept.names id
+kept_at kept (Name id) = slice_index_or kept.names.items id None
 
 -- the node has this expansion now, and each other one what it had
 pub record PutsKept (old new : Kept) (node : Node) (parts : List Part) : Type 0 where

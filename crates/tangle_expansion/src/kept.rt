@@ -7,14 +7,14 @@ ghost use Rattle.tangle_expansion.specs.declared.nodes.Node.{Node};
 use crate::expansion::Expansion;
 use crate::nodes::Node;
 use std::alloc::Global;
-use std::collections::BTreeMap;
 use tangle_lines::NoMemory;
 
 /// Expansions by node.
 #[derive(Drop)]
 pub struct Kept {
     program: Option<Expansion>,
-    names: BTreeMap<usize, Expansion>,
+    // By the number of the name.
+    names: Vec<Option<Expansion>>,
 }
 
 impl Kept {
@@ -24,8 +24,20 @@ impl Kept {
     {
         Kept {
             program: None,
-            names: BTreeMap::new(alloc),
+            names: Vec::new(alloc),
         }
+    }
+
+    /// Makes a place for the name with this number, if there is none.
+    fn make_place(&mut self, id: usize) -> Result<(), NoMemory>
+        ensures { SameKept self.old self.new }
+    {
+        let places = id.saturating_add(1);
+        self.names.reserve(places.saturating_sub(self.names.len()))?;
+        for _place in self.names.len()..places {
+            self.names.push(None)?;
+        }
+        Ok(())
     }
 
     /// Keeps this expansion of the node.
@@ -38,10 +50,14 @@ impl Kept {
                 self.program = Some(expansion);
                 Ok(())
             }
-            Node::Name(id) => match self.names.insert(id, expansion) {
-                Ok(_) => Ok(()),
-                Err(_) => Err(NoMemory),
-            },
+            Node::Name(id) => {
+                self.make_place(id)?;
+                if id >= self.names.len() {
+                    return Err(NoMemory);
+                }
+                self.names[id] = Some(expansion);
+                Ok(())
+            }
         }
     }
 
@@ -51,7 +67,10 @@ impl Kept {
     {
         match node {
             Node::Program => self.program.as_ref(),
-            Node::Name(id) => self.names.get(&id),
+            Node::Name(id) => match self.names.get(id) {
+                Some(place) => place.as_ref(),
+                None => None,
+            },
         }
     }
 }

@@ -100,12 +100,15 @@ fn push_unit(name: &mut Vec<u8>, white: bool, unit: Unit, front: Front) -> Resul
     }
 }
 
+/// Room for the text of most names: it grows for longer ones.
+const NAME_ROOM: usize = 32;
+
 /// Reads the text of a name up to its end.
 fn read_text(alloc: Global, ahead: &mut Reader) -> Result<Vec<u8>, AllocError>
     ensures text { IfOk result (λ name. name.items ≡ spec.name_text ahead.old) }
     ensures ahead { OnOk result (ahead.new ≡ region_end region.Name ahead.old) }
 {
-    let mut name = Vec::new(alloc);
+    let mut name = Vec::with_capacity(alloc, NAME_ROOM)?;
     let mut white = false;
     while let Some(front) = ahead.front() {
         let unit = unit_of(Region::Name, front.byte, front.next);

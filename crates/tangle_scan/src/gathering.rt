@@ -80,11 +80,10 @@ fn note_faults(
     Ok(())
 }
 
-/// The tokens and the items of a part on its way to a piece or a macro. Their memory serves every part.
+/// The tokens of a part on its way to a piece or a macro. Their memory serves every part.
 #[derive(Drop)]
 pub struct Workspace {
     tokens: Vec<Token>,
-    items: Vec<Item>,
 }
 
 impl Workspace {
@@ -92,26 +91,32 @@ impl Workspace {
     pub fn new(alloc: Global) -> Self {
         Workspace {
             tokens: Vec::new(alloc),
-            items: Vec::new(alloc),
         }
     }
 
     /// Lays the items of a C part whose head ends on a line, and answers whether some of its tokens are rare. Most parts have none of
     /// these, and are laid once as they are.
-    fn lay(&mut self, source: &Source, line: u32, tokens: &[Token]) -> Result<bool, NoMemory>
-        ensures items { OnOk result (self.new.items.items ≡ rules.part_items source.now.lines line tokens.now) }
+    fn lay(
+        &mut self,
+        source: &Source,
+        items: &mut Vec<Item>,
+        line: u32,
+        tokens: &[Token],
+    ) -> Result<bool, NoMemory>
+        ensures items { OnOk result (items.new.items ≡ rules.part_items source.now.lines line tokens.now) }
         ensures rare { IfOk result (λ rare. rare ≡ list_any passes.is_rare tokens.now) }
     {
-        let rare = lay_part(source, &mut self.items, line, tokens)?;
+        let rare = lay_part(source, items, line, tokens)?;
         if !rare {
             return Ok(rare);
         }
         let left = part_tokens(source, &mut self.tokens, tokens)?;
-        lay_part(source, &mut self.items, line, left)?;
+        lay_part(source, items, line, left)?;
         Ok(rare)
     }
 
     /// The items of a C part whose head ends on a line, and whether some of its tokens are rare.
+    // They are laid where they stay, in room for an item of each token: a part has few more, and what is left of the room is given back.
     fn part_items(
         &mut self,
         alloc: Global,
@@ -122,8 +127,10 @@ impl Workspace {
         ensures items { IfOk result (λ r. r.0.items ≡ rules.part_items source.now.lines line tokens.now) }
         ensures rare { IfOk result (λ r. r.1 ≡ list_any passes.is_rare tokens.now) }
     {
-        let rare = self.lay(source, line, tokens)?;
-        Ok((Vec::from_slice(alloc, &self.items)?, rare))
+        let mut items = Vec::with_capacity(alloc, tokens.len())?;
+        let rare = self.lay(source, &mut items, line, tokens)?;
+        items.shrink_to_fit();
+        Ok((items, rare))
     }
 
     /// The items of a macro.
@@ -138,8 +145,10 @@ impl Workspace {
         ensures { IfOk result (λ items. items.items ≡ rules.macro_items (texts_of source.now.lines) tokens.now) }
     {
         let left = macro_tokens(source, &mut self.tokens, tokens, has_rare)?;
-        lay_macro(&mut self.items, left)?;
-        Ok(Vec::from_slice(alloc, &self.items)?)
+        let mut items = Vec::with_capacity(alloc, left.len())?;
+        lay_macro(&mut items, left)?;
+        items.shrink_to_fit();
+        Ok(items)
     }
 }
 

@@ -1,10 +1,9 @@
 //! Each growth of a start and of an edit refused in turn: the call says so, and all is as it was.
-use crate::support::{AMPLE, Kind, edit, files_with, start, tell_all, tell_project};
+use crate::support::{Kind, check_handed_back, edit, files_with, start, tell_all, told_project};
 use crate::webs::{ABBREVIATION, CYCLE, TWO_BRANCHES, chain};
 use std::alloc::{AllocError, Global};
 use std::process::Abort;
 use std::test::Fail;
-use tangle_folders::MemorySink;
 use tangle_lines::{Edit, Files, Refusal, Roles};
 use tangle_session::Session;
 
@@ -78,14 +77,36 @@ fn edit_of(alloc: Global, step: &Step) -> Result<Edit, AllocError> {
     edit(alloc, kind, file, at, text)
 }
 
-// Makes the edits one after another, each with every growth of it refused in turn.
-fn refuse_in_steps(rt: &impl Abort, alloc: Global, web: &[u8], steps: &[Step]) -> Result<(), Fail> {
-    let mut session = start(alloc, web)?;
-    for step in steps.iter().chain(&EDITS_OF_FILES) {
-        let edit = edit_of(alloc, step)?;
-        refuse_each_growth(rt, alloc, &mut session, &edit, step.3)?;
+// Makes an edit with every growth of it refused in turn.
+fn refuse_in_step(
+    rt: &impl Abort,
+    alloc: Global,
+    session: &mut Session,
+    step: &Step,
+) -> Result<(), Fail> {
+    let edit = edit_of(alloc, step)?;
+    refuse_each_growth(rt, alloc, session, &edit, step.3)?;
+    Ok(())
+}
+
+// Makes these edits one after another.
+fn refuse_in_each(
+    rt: &impl Abort,
+    alloc: Global,
+    session: &mut Session,
+    steps: &[Step],
+) -> Result<(), Fail> {
+    for step in steps {
+        refuse_in_step(rt, alloc, session, step)?;
     }
     Ok(())
+}
+
+// Makes these edits one after another, and then those of files.
+fn refuse_in_steps(rt: &impl Abort, alloc: Global, web: &[u8], steps: &[Step]) -> Result<(), Fail> {
+    let mut session = start(alloc, web)?;
+    refuse_in_each(rt, alloc, &mut session, steps)?;
+    refuse_in_each(rt, alloc, &mut session, &EDITS_OF_FILES)
 }
 
 #[test]
@@ -123,13 +144,29 @@ fn edits_of_two_branches(rt: HostRuntime) -> Result<(), Fail> {
     refuse_in_steps(&rt, rt.alloc(), TWO_BRANCHES, &steps)
 }
 
+// Makes the same edit twice: first it affects 41 nodes, and then none. It gives the growths that did not come.
+fn refuse_twice(
+    rt: &impl Abort,
+    alloc: Global,
+    session: &mut Session,
+    edit: &Edit,
+) -> Result<(u32, u32), Fail> {
+    let first = refuse_each_growth(rt, alloc, session, edit, 41)?;
+    let second = refuse_each_growth(rt, alloc, session, edit, 0)?;
+    Ok((first, second))
+}
+
+// Makes the last of 41 names another one, twice.
+fn refuse_at_the_end_of_a_chain(rt: &impl Abort, alloc: Global) -> Result<(u32, u32), Fail> {
+    let web = chain(alloc, b'k', 10_001, 10_040, 1)?;
+    let edit = edit(alloc, Kind::Replace, b"a.w", 83, b"2")?;
+    let mut session = start(alloc, &web)?;
+    refuse_twice(rt, alloc, &mut session, &edit)
+}
+
 #[test]
 fn an_edit_that_affects_nothing_makes_fewer(rt: HostRuntime) -> Result<(), Fail> {
-    let alloc = rt.alloc();
-    let mut session = start(alloc, &chain(alloc, b'k', 10_001, 10_040, 1)?)?;
-    let edit = edit(alloc, Kind::Replace, b"a.w", 83, b"2")?;
-    let first = refuse_each_growth(&rt, alloc, &mut session, &edit, 41)?;
-    let second = refuse_each_growth(&rt, alloc, &mut session, &edit, 0)?;
+    let (first, second) = refuse_at_the_end_of_a_chain(&rt, rt.alloc())?;
     // Without the harness no growth is refused at all.
     assert!(rt; first == 1 || first >= second.saturating_add(41));
     Ok(())
@@ -147,28 +184,24 @@ fn start_without(
     (handed_back, end_refusals(alloc, is_harnessed))
 }
 
-fn told_project(alloc: Global, files: &Files, roles: &Roles) -> Result<MemorySink, Fail> {
-    let mut sink = MemorySink::new(alloc, AMPLE);
-    tell_project(files, roles, &mut sink)?;
-    Ok(sink)
+// A cycle with a change file, and their roles.
+fn changed_cycle(alloc: Global) -> Result<(Files, Roles), Fail> {
+    let change = b"@x\nint h;\n@y\nint k;\n@z\n";
+    let files = files_with(alloc, &[(b"a.w", CYCLE), (b"a.ch", change)])?;
+    let roles = Roles::new(alloc, b"a.w", Some(b"a.ch"), b"a.c")?;
+    Ok((files, roles))
 }
 
 // Starts with this growth refused, and says whether none was; else files and roles are handed back as they were.
 fn start_is_spared(rt: &impl Abort, alloc: Global, nth: u32) -> Result<bool, Fail> {
-    let change = b"@x\nint h;\n@y\nint k;\n@z\n";
-    let files = files_with(alloc, &[(b"a.w", CYCLE), (b"a.ch", change)])?;
-    let roles = Roles::new(alloc, b"a.w", Some(b"a.ch"), b"a.c")?;
+    let (files, roles) = changed_cycle(alloc)?;
     let before = told_project(alloc, &files, &roles)?;
     let (handed_back, was_spared) = start_without(alloc, files, roles, nth);
     assert_eq!(rt; handed_back.is_none(), was_spared);
-    match handed_back {
-        None => Ok(true),
-        Some((files, roles, refusal)) => {
-            assert_eq!(rt; refusal, Refusal::NoMemory);
-            assert!(rt; told_project(alloc, &files, &roles)?.bytes() == before.bytes());
-            Ok(false)
-        }
+    if let Some(handed_back) = &handed_back {
+        check_handed_back(rt, alloc, &before, handed_back, Refusal::NoMemory)?;
     }
+    Ok(was_spared)
 }
 
 #[test]

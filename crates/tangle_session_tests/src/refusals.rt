@@ -1,5 +1,5 @@
 //! Edits that a session refuses, and outputs that are none: all stays as it was.
-use crate::support::{AMPLE, Kind, edit, start, start_with, tell_all};
+use crate::support::{AMPLE, Kind, edit, start, start_with, tell_all, write_output};
 use crate::webs::ONE_NAME;
 use std::alloc::Global;
 use std::process::Abort;
@@ -36,30 +36,39 @@ fn check_refused(
     Ok(())
 }
 
-#[test]
-fn refused_edits_change_nothing(rt: HostRuntime) -> Result<(), Fail> {
-    let alloc = rt.alloc();
-    let files: [(&[u8], &[u8]); 2] = [(b"a.w", ONE_NAME), (b"a.ch", b"@x\n1\n@y\n2\n@z\n")];
-    let mut session = start_with(alloc, &files, Some(b"a.ch"))?;
+// The session refuses each of these edits, and makes one that it need not refuse.
+fn check_each_refused(rt: &impl Abort, alloc: Global, session: &mut Session) -> Result<(), Fail> {
     for row in &REFUSED {
-        check_refused(&rt, alloc, &mut session, row)?;
+        check_refused(rt, alloc, session, row)?;
     }
     session.apply(&edit(alloc, Kind::Insert, b"a.w", 6, b"% end")?)?;
     Ok(())
 }
 
 #[test]
+fn refused_edits_change_nothing(rt: HostRuntime) -> Result<(), Fail> {
+    let files: [(&[u8], &[u8]); 2] = [(b"a.w", ONE_NAME), (b"a.ch", b"@x\n1\n@y\n2\n@z\n")];
+    let mut session = start_with(rt.alloc(), &files, Some(b"a.ch"))?;
+    check_each_refused(&rt, rt.alloc(), &mut session)
+}
+
+// The session has no output file of this name: nothing is written.
+fn check_none(rt: &impl Abort, alloc: Global, session: &Session, name: &[u8]) {
+    let mut sink = MemorySink::new(alloc, AMPLE);
+    assert_eq!(rt;
+        write_output(session, name, &mut sink),
+        Err(Refusal::NoOutput)
+    );
+    assert_eq!(rt; sink.bytes().len(), 0);
+    assert_eq!(rt; session.output_size(name), None);
+}
+
+#[test]
 fn outputs_that_are_none(rt: HostRuntime) -> Result<(), Fail> {
     let session = start(rt.alloc(), ONE_NAME)?;
-    let mut sink = MemorySink::new(rt.alloc(), AMPLE);
     for name in [b"".as_slice(), b"a.w", b"a.c ", b"b.c", b"v"] {
-        assert_eq!(rt;
-            session.write_output(name, &mut sink),
-            Err(Refusal::NoOutput)
-        );
-        assert_eq!(rt; session.output_size(name), None);
+        check_none(&rt, rt.alloc(), &session, name);
     }
-    assert_eq!(rt; sink.bytes().len(), 0);
     assert_eq!(rt; session.output_size(b"a.c"), Some(83));
     Ok(())
 }

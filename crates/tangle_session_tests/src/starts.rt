@@ -1,10 +1,11 @@
 //! Sessions that are started: their outputs, faults and work, and why a start is refused.
-use crate::support::{AMPLE, check_faults, check_outputs, files_with, start, tell_project};
+use crate::support::{
+    check_faults, check_handed_back, check_outputs, files_with, start, told_project,
+};
 use crate::webs::{chain, doubling};
 use std::alloc::Global;
 use std::process::Abort;
 use std::test::Fail;
-use tangle_folders::MemorySink;
 use tangle_lines::{Refusal, Roles};
 use tangle_session::Session;
 
@@ -40,13 +41,23 @@ const WEBS: [(&[u8], &[u8], &[u8]); 6] = [
     ),
 ];
 
+// A session of this web has these outputs and faults.
+fn check_web(
+    rt: &impl Abort,
+    alloc: Global,
+    web: &[u8],
+    outputs: &[u8],
+    faults: &[u8],
+) -> Result<(), Fail> {
+    let session = start(alloc, web)?;
+    check_outputs(rt, alloc, &session, outputs)?;
+    check_faults(rt, alloc, &session, faults)
+}
+
 #[test]
 fn outputs_and_faults_of_webs(rt: HostRuntime) -> Result<(), Fail> {
-    let alloc = rt.alloc();
     for (web, outputs, faults) in &WEBS {
-        let session = start(alloc, web)?;
-        check_outputs(&rt, alloc, &session, outputs)?;
-        check_faults(&rt, alloc, &session, faults)?;
+        check_web(&rt, rt.alloc(), web, outputs, faults)?;
     }
     Ok(())
 }
@@ -63,27 +74,35 @@ fn names_too_large_to_be_written(rt: HostRuntime) -> Result<(), Fail> {
     check_faults(&rt, alloc, &session, TOO_LARGE)
 }
 
+// The session has so many output files, and its start expanded so many nodes.
+fn check_counts(rt: &impl Abort, session: &Session, outputs: usize, work: u64) {
+    assert_eq!(rt; session.output_names().count(), outputs);
+    assert_eq!(rt; session.last_work(), work);
+}
+
+// A program over a chain of names up to this one has so many output files and these faults; a thousand nodes are expanded.
+fn check_chain(
+    rt: &impl Abort,
+    alloc: Global,
+    last: usize,
+    outputs: usize,
+    faults: &[u8],
+) -> Result<(), Fail> {
+    let web = chain(alloc, b'k', 10_001, last, 1)?;
+    let session = start(alloc, &web)?;
+    check_counts(rt, &session, outputs, 1000);
+    check_faults(rt, alloc, &session, faults)
+}
+
 #[test]
 fn deepest_program(rt: HostRuntime) -> Result<(), Fail> {
-    let session = start(rt.alloc(), &chain(rt.alloc(), b'k', 10_001, 10_999, 1)?)?;
-    check_faults(&rt, rt.alloc(), &session, b"")?;
-    assert_eq!(rt;
-        (session.output_names().count(), session.last_work()),
-        (1, 1000)
-    );
-    Ok(())
+    check_chain(&rt, rt.alloc(), 10_999, 1, b"")
 }
 
 #[test]
 fn program_that_is_too_deep(rt: HostRuntime) -> Result<(), Fail> {
-    let session = start(rt.alloc(), &chain(rt.alloc(), b'k', 10_001, 11_000, 1)?)?;
     let fault = b"error: too large: the unnamed program\n";
-    check_faults(&rt, rt.alloc(), &session, fault)?;
-    assert_eq!(rt;
-        (session.output_names().count(), session.last_work()),
-        (0, 1000)
-    );
-    Ok(())
+    check_chain(&rt, rt.alloc(), 11_000, 0, fault)
 }
 
 // A start over `b.w` and `a.ch` is refused so, and hands back files and roles as they were.
@@ -96,14 +115,11 @@ fn check_refused(
 ) -> Result<(), Fail> {
     let files = files_with(alloc, &[(b"b.w", b"@ A.\n@c\nx\n"), (b"a.ch", b"@x\n")])?;
     let roles = Roles::new(alloc, web, change, b"b.c")?;
-    let mut before = MemorySink::new(alloc, AMPLE);
-    tell_project(&files, &roles, &mut before)?;
-    let (files, roles, why) = Session::start(alloc, files, roles).err().ok_or("started")?;
-    assert_eq!(rt; why, refusal);
-    let mut after = MemorySink::new(alloc, AMPLE);
-    tell_project(&files, &roles, &mut after)?;
-    assert!(rt; after.bytes() == before.bytes());
-    Ok(())
+    let before = told_project(alloc, &files, &roles)?;
+    match Session::start(alloc, files, roles) {
+        Ok(_) => Err(Fail::from("started")),
+        Err(handed_back) => check_handed_back(rt, alloc, &before, &handed_back, refusal),
+    }
 }
 
 #[test]

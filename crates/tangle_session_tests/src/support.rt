@@ -4,7 +4,7 @@ use std::alloc::{AllocError, Global};
 use std::process::Abort;
 use std::test::Fail;
 use tangle_folders::MemorySink;
-use tangle_lines::{Edit, Files, Roles, Sink, put, write_fault};
+use tangle_lines::{Edit, Files, Refusal, Roles, Sink, put, write_fault};
 use tangle_session::Session;
 
 /// Room for all that a test writes.
@@ -74,14 +74,23 @@ fn tell(sink: &mut MemorySink, line: &[u8]) -> Result<(), Fail> {
     Ok(())
 }
 
+/// Writes an output file. It stands apart, so that what a session promises of it is looked at once.
+pub(crate) fn write_output<S: Sink>(
+    session: &Session,
+    name: &[u8],
+    sink: &mut S,
+) -> Result<u128, Refusal> {
+    session.write_output(name, sink)
+}
+
 // Tells an output file: its name on a line, and its bytes. As many go out as the session counts.
 fn tell_output(session: &Session, name: &[u8], sink: &mut MemorySink) -> Result<(), Fail> {
     tell(sink, name)?;
     let before = sink.bytes().len();
-    let written = session.write_output(name, sink)?;
+    let written = write_output(session, name, sink)?;
     let after = sink.bytes().len();
     if session.output_size(name) != Some(written)
-        || after.checked_sub(before) != Some(written as usize)
+        || (after as u128).checked_sub(before as u128) != Some(written)
     {
         return Err(Fail::from("another size than was written"));
     }
@@ -117,16 +126,37 @@ fn tell_files(files: &Files, sink: &mut MemorySink) -> Result<(), Fail> {
     Ok(())
 }
 
-/// The files and the roles.
-pub(crate) fn tell_project(
-    files: &Files,
-    roles: &Roles,
-    sink: &mut MemorySink,
-) -> Result<(), Fail> {
+// The files and the roles.
+fn tell_project(files: &Files, roles: &Roles, sink: &mut MemorySink) -> Result<(), Fail> {
     tell_files(files, sink)?;
     tell(sink, roles.web())?;
     tell(sink, roles.change().unwrap_or(b"|"))?;
     tell(sink, roles.out())
+}
+
+/// What is told of files and roles.
+pub(crate) fn told_project(
+    alloc: Global,
+    files: &Files,
+    roles: &Roles,
+) -> Result<MemorySink, Fail> {
+    let mut sink = MemorySink::new(alloc, AMPLE);
+    tell_project(files, roles, &mut sink)?;
+    Ok(sink)
+}
+
+/// A start that was refused so handed back files and roles as they were told before.
+pub(crate) fn check_handed_back(
+    rt: &impl Abort,
+    alloc: Global,
+    before: &MemorySink,
+    handed_back: &(Files, Roles, Refusal),
+    wanted: Refusal,
+) -> Result<(), Fail> {
+    let (files, roles, refusal) = handed_back;
+    assert_eq!(rt; *refusal, wanted);
+    assert!(rt; told_project(alloc, files, roles)?.bytes() == before.bytes());
+    Ok(())
 }
 
 /// All that can be asked of a session: outputs, faults, files, roles, and the last work.

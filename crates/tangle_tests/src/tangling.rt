@@ -1,22 +1,19 @@
 //! Webs that are tangled by the calls of the graph and of expansions.
-ghost use Rattle.std.specs.Prelude.{◌≡◌, ℕ, true, IfOk, OnOk, IsSome, Contains};
+ghost use Rattle.std.specs.Prelude.{◌≡◌, true, IfOk};
 ghost use Rattle.tangle_names.specs.NameTable.{table_of};
-ghost use Rattle.tangle_expansion.specs.Kept.{kept_at, PutsKept};
-ghost use Rattle.tangle_expansion.specs.Limits.{flat_of};
 ghost use Rattle.tangle_expansion.specs.Outputs.{IsReady};
 ghost use Rattle.tangle_expansion.specs.Shapes.{Project};
-ghost use Rattle.tangle_expansion.specs.declared.nodes.Node.TheVariants as node_kind;
-ghost use Rattle.tangle_graph.specs.Stores.{IsStoreOf, KeepsUsed, is_expandable_at, plan_uses_at, title_in_store};
+ghost use Rattle.tangle_graph.specs.Stores.{IsStoreOf};
 ghost use Rattle.tangle_tests.specs.Keeping.{KeepsWritable};
 
 use crate::support::{files_with, read};
 use std::alloc::Global;
 use std::test::Fail;
+use tangle_affected::expand_all;
 use tangle_expansion::{
-    Kept, Node, Numbers, Output, Work, expandable_nodes_are_light, file_size,
-    used_names_are_expandable, write_file,
+    Kept, Numbers, Output, Work, expandable_nodes_are_light, file_size, write_file,
 };
-use tangle_graph::{Store, expand_one};
+use tangle_graph::Store;
 use tangle_lines::{NoMemory, Sink, Source, WriteFault};
 use tangle_names::NameTable;
 use tangle_scan::{Web, scan};
@@ -30,37 +27,13 @@ pub(crate) struct Tangled {
     pub(crate) work: Work,
 }
 
-// Expands a node, and keeps its expansion.
-fn expand_next(
-    alloc: Global,
-    store: &Store,
-    node: Node,
-    kept: &mut Kept,
-    work: &mut Work,
-) -> Result<(), NoMemory>
-    requires expandable { is_expandable_at store.now node ≡ true }
-    requires used { (id : ℕ) → Contains (plan_uses_at store.now node) id → IsSome (kept_at kept.old (node_kind.Name id)) }
-    ensures { (project : Project) → IsStoreOf project store.now → KeepsUsed project store.now kept.old node
-        → OnOk result (PutsKept kept.old kept.new node (flat_of project (title_in_store store.now node))) }
-{
-    let expansion = expand_one(alloc, store, node, kept, work)?;
-    kept.put(node, expansion)
-}
-
-// Expands each expandable node.
-fn expand_all(alloc: Global, store: &Store, work: &mut Work) -> Result<Kept, NoMemory>
+// Expands each expandable node: what is kept then can be written.
+fn expand_writable(alloc: Global, store: &Store, work: &mut Work) -> Result<Kept, NoMemory>
     requires { (project : Project) × IsStoreOf project store.now }
     ensures { IfOk result (KeepsWritable store.now) }
 {
-    used_names_are_expandable();
     expandable_nodes_are_light();
-    let mut kept = Kept::new(alloc);
-    for node in store.order() {
-        if store.expandable(*node) {
-            expand_next(alloc, store, *node, &mut kept, work)?;
-        }
-    }
-    Ok(kept)
+    Ok(expand_all(alloc, store, work)?)
 }
 
 /// Tangles a web, for the main file `a.c`.
@@ -71,7 +44,7 @@ pub(crate) fn tangle_web(alloc: Global, web: &Web, table: &NameTable) -> Result<
     let store = Store::build(alloc, web, table, b"a.c")?;
     let numbers = Numbers::build(alloc, web, &store)?;
     let mut work = Work::new(alloc);
-    let kept = expand_all(alloc, &store, &mut work)?;
+    let kept = expand_writable(alloc, &store, &mut work)?;
     Ok(Tangled {
         store,
         kept,
