@@ -12,10 +12,16 @@ compare() { # NAME WORD..
 test_comparison() {
     compare 'generated webs' generated "$stage" "$room/ctangle" 0 2102
     compare 'short webs' short "$stage" "$room/ctangle" 50
+}
+
+test_cuts() {
     set -- "$top"/tests/cases/scanning/*/in/a.w "$top"/tests/cases/names/*/in/a.w \
         "$top/tests/cases/output/names-that-contain-each-other-have-no-output/in/a.w" \
         "$top/tests/cases/output/name-over-two-sections-and-a-named-file/in/a.w"
     compare 'cut webs' cut "$stage" "$room/ctangle" "$@"
     compare 'webs edited into their cuts' edited "${RETANGLE:-$top/bin/retangle}" "$@"
+}
+
+test_scripts() {
     compare 'scripts' scripts "${RETANGLE:-$top/bin/retangle}" 0 4000 --no-lists
 }

@@ -4,7 +4,8 @@
 #
 # usage: tests/run.sh [PART..]
 #
-# The parts are documents, example, cases, talks, machine, limits, memory and comparison; without a word all are run.
+# The parts are documents, example, cases, talks, machine, limits, memory, comparison, cuts and scripts; without a word all are run. Several
+# run side by side, as many at a time as there are processors; what each says is shown when all have ended.
 #
 # CTANGLE=PATH and RETANGLE=PATH take other programs.
 # The last line is 'N passed, M failed'.
@@ -24,10 +25,24 @@ fi
 room=$(mktemp -d)
 trap 'rm -rf "$room"' EXIT
 chmod 755 "$room"
+
+. "$top/tests/lib.sh"
+
+# The longest parts come first.
+[ $# -gt 0 ] || set -- scripts comparison cuts memory limits talks cases machine example documents
+if [ $# -gt 1 ]; then
+    printf '%s\n' "$@" | xargs -P "$(nproc)" -I PART sh -c '"$0" "$1" >"$2/$1" 2>&1' "$0" PART "$room"
+    for part; do
+        count_last_line "$part" "$room/$part"
+    done
+    echo "$passed passed, $failed failed"
+    [ "$failed" -eq 0 ]
+    exit
+fi
+
 cp "$program" "$room/ctangle"
 chmod 755 "$room/ctangle"
 
-. "$top/tests/lib.sh"
 . "$top/tests/documents.sh"
 . "$top/tests/example.sh"
 . "$top/tests/cases.sh"
@@ -37,10 +52,7 @@ chmod 755 "$room/ctangle"
 . "$top/tests/memory.sh"
 . "$top/tests/comparison.sh"
 
-[ $# -gt 0 ] || set -- documents example cases talks machine limits memory comparison
-for part; do
-    "test_$part"
-done
+"test_$1"
 
 echo "$passed passed, $failed failed"
 [ "$failed" -eq 0 ]

@@ -1,4 +1,4 @@
-//! The tests of the crates below: what no clause of theirs says.
+//! The tests of the crates up to the graph: what no clause of theirs says.
 //!
 //! They stand in a crate of their own, since a crate that has tests is proved once more for them.
 #![tactic(auto)]
@@ -20,24 +20,16 @@ mod graphs;
 #[cfg(test)]
 mod growths;
 #[cfg(test)]
-mod loads;
-#[cfg(test)]
 mod messages;
 #[cfg(test)]
 mod outputs;
 #[cfg(test)]
 mod reading;
 #[cfg(test)]
-mod real_folder;
-#[cfg(test)]
 mod scanning;
 #[cfg(test)]
 mod section_names;
 #[cfg(test)]
-mod stops;
-#[cfg(test)]
 mod support;
 #[cfg(test)]
 mod tangling;
-#[cfg(test)]
-mod words;
