@@ -9,3 +9,4 @@ mod WorkedWebs
 mod RetangleLemmas
 mod WorkedWords
 mod AnswerLemmas
+mod AloneLemmas

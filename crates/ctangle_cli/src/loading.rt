@@ -1,11 +1,12 @@
 //! Loading: the files that a run reads.
-ghost use Rattle.std.specs.Prelude.{◌≡◌, ◌≤◌, ◌∷◌, ◌||◌, ℕ, List, [], length, map, true, false, Option, unwrap_or, IfOk, IfErr, IfSome, OnOk, OnErr, None};
+ghost use Rattle.std.specs.Prelude.{◌≡◌, ◌≤◌, ◌∷◌, ◌||◌, ℕ, List, [], length, map, true, false, Option, is_some, unwrap_or, IfOk, IfErr, IfSome, OnOk, OnErr, None};
 ghost use Rattle.std.specs.List.{list_any};
 ghost use Rattle.std.specs.Option.{option_copied};
 ghost use Rattle.std.specs.Str.{bytes_eq};
 ghost use Rattle.tangle_folders.specs.Folder.{file_limit};
 ghost use Rattle.tangle_lines.specs.Adding.{has_file};
 ghost use Rattle.tangle_lines.specs.Roles.{fits, is_there, is_there_if_any};
+ghost use Rattle.tangle_lines.specs.Inclusion.{included_name};
 ghost use Rattle.tangle_lines.specs.Lines.{FileTable};
 ghost use Rattle.ctangle_cli.specs.Asking.{AsksForAll, AsksOnce};
 ghost use Rattle.ctangle_cli.specs.Tries.{AsksOn, RoundsOnce, StopsAsking, TriesAll, named_in, tried};
@@ -17,7 +18,9 @@ use indexmap::IndexSet;
 use std::alloc::Global;
 use std::marker::Model;
 use tangle_folders::{Folder, FolderFault};
-use tangle_lines::{Fault, FaultKind, Files, NoMemory, Refusal, Roles, is_file_name, read_source};
+use tangle_lines::{
+    Fault, FaultKind, Files, Line, NoMemory, Refusal, Roles, is_file_name, read_source,
+};
 
 /// Why the files of a run are not loaded.
 #[derive(Debug, Drop)]
@@ -271,11 +274,39 @@ fn read_inclusions<F: Folder>(
     Ok(())
 }
 
-// The faults of reading these files.
+// Whether the line is an inclusion.
+fn is_inclusion(line: &[u8]) -> bool
+    ensures { result ≡ is_some (included_name line.now) }
+{
+    matches!(line, [b'@', b'i' | b'I', ..])
+}
+
+// Whether one of the lines is an inclusion.
+fn has_inclusion(lines: &[Line]) -> bool
+    ensures { result ≡ list_any (λ line. is_some (included_name line)) lines.now }
+{
+    lines.iter().any(|line| is_inclusion(line.bytes()))
+}
+
+// Whether nothing but the web is read, so that nothing is missing.
+fn is_web_alone(files: &Files, roles: &Roles) -> bool
+    ensures { result ≡ true → missing_of files.now roles.now ≡ [] }
+{
+    match (roles.change(), files.lines(roles.web())) {
+        (None, Some(lines)) => !has_inclusion(lines),
+        _ => false,
+    }
+}
+
+// The faults of reading these files, for the inclusions that are missing. Most webs include nothing: then all is told by a look at the
+// front of each line, and the session alone reads the web.
 fn faults_of(alloc: Global, files: &Files, roles: &Roles) -> Result<Vec<Fault>, NoMemory>
     requires { fits files.now roles.now ≡ true }
     ensures { IfOk result (λ faults. missed_in faults.items ≡ missing_of files.now roles.now) }
 {
+    if is_web_alone(files, roles) {
+        return Ok(Vec::new(alloc));
+    }
     let source = read_source(alloc, files, roles)?;
     Ok(source.into_faults())
 }
