@@ -1,11 +1,11 @@
 //! How many parts a node has of its own, by its plan.
 ghost use Rattle.std.specs.Prelude.{◌≡◌, ◌<◌, ◌^◌, ℕ, List, length, min};
-ghost use Rattle.tangle_expansion.specs.Meaning.{bytes_passed};
 ghost use Rattle.tangle_expansion.specs.NodeTexts.{node_uses, plan_slots};
 ghost use Rattle.tangle_expansion.specs.Shapes.{Program};
 ghost use Rattle.tangle_expansion.specs.Slots.{step_slots};
 
 use crate::expansion::{NodeText, Step};
+use crate::steps::bytes_behind;
 
 /// How many parts a step has behind so many bytes of a text of this size.
 #[tactic(auto, using(crate::proofs::CountLemmas::between_counted))]
@@ -16,16 +16,6 @@ fn parts_of_step(step: Step, start: usize, size: usize) -> usize
         Step::Run(end) => end.min(size).saturating_sub(start),
         Step::Open => 2,
         Step::Mark | Step::Macros | Step::Space | Step::Use(_) | Step::Close => 1,
-    }
-}
-
-/// How many bytes of the text are behind a step.
-fn bytes_behind(step: Step, start: usize) -> usize
-    ensures { result ≡ bytes_passed start step }
-{
-    match step {
-        Step::Run(end) => end,
-        Step::Open | Step::Mark | Step::Macros | Step::Space | Step::Use(_) | Step::Close => start,
     }
 }
 
@@ -40,7 +30,7 @@ impl NodeText {
         let mut start = 0;
         for step in self.plan.as_slice() {
             count = count.saturating_add(parts_of_step(*step, start, size));
-            start = bytes_behind(*step, start);
+            start = bytes_behind(start, *step);
         }
         count
     }

@@ -18,6 +18,7 @@ mod numbers;
 mod planning;
 mod runs;
 mod shapes;
+mod steps;
 mod work;
 mod writing;
 

@@ -16,6 +16,7 @@ ghost use Rattle.tangle_expansion.specs.ItemSlots.{marks_behind_item, name_slots
 use crate::codes::{ItemCode, ItemKind, add_name, code_count, code_of, end_of_piece, text_code};
 use crate::expansion::{NodeText, Step};
 use crate::runs::{joined, text_of, with_space};
+use crate::steps::{marks_behind, pieces_behind};
 use itoa::Buffer;
 use std::alloc::Global;
 use std::marker::Model;
@@ -163,27 +164,6 @@ fn end_run(plan: &mut Vec<Step>, start: usize, end: usize) -> Result<(), NoMemor
         plan.push(Step::Run(end))?;
     }
     Ok(())
-}
-
-fn pieces_behind(piece: usize, step: Step) -> usize
-    requires { piece + 1 < 2 ^ 64 }
-    ensures { result ≡ pieces_passed piece step }
-{
-    match step {
-        Step::Close => piece + 1,
-        Step::Open | Step::Run(_) | Step::Mark | Step::Macros | Step::Space | Step::Use(_) => piece,
-    }
-}
-
-fn marks_behind(marks: usize, step: Step) -> usize
-    requires { marks + 1 < 2 ^ 64 }
-    ensures { result ≡ marks_passed marks step }
-{
-    match step {
-        Step::Open | Step::Close => 0,
-        Step::Mark => marks + 1,
-        Step::Run(_) | Step::Macros | Step::Space | Step::Use(_) => marks,
-    }
 }
 
 /// Whether the name with this number has a piece.

@@ -7,6 +7,7 @@ ghost use Rattle.tangle_expansion.specs.Numbers.{node_numbers, opening_text, clo
 
 use crate::expansion::{Body, Expansion, NodeText, Step};
 use crate::numbers::{Numbers, PieceNumbers, place_at, section_at};
+use crate::steps::{bytes_behind, marks_behind, pieces_behind};
 use itoa::Buffer;
 use tangle_lines::{Origin, Sink, WriteFault, put};
 
@@ -146,50 +147,11 @@ fn passed(at: Cursor, step: Step) -> Cursor
     ensures marks { result.marks ≡ marks_passed at.marks step }
     ensures start { result.start ≡ bytes_passed at.start step }
 {
-    let next = at.step + 1;
-    match step {
-        Step::Open => Cursor {
-            step: next,
-            piece: at.piece,
-            marks: 0,
-            start: at.start,
-        },
-        Step::Run(end) => Cursor {
-            step: next,
-            piece: at.piece,
-            marks: at.marks,
-            start: end,
-        },
-        Step::Mark => Cursor {
-            step: next,
-            piece: at.piece,
-            marks: at.marks + 1,
-            start: at.start,
-        },
-        Step::Macros => Cursor {
-            step: next,
-            piece: at.piece,
-            marks: at.marks,
-            start: at.start,
-        },
-        Step::Space => Cursor {
-            step: next,
-            piece: at.piece,
-            marks: at.marks,
-            start: at.start,
-        },
-        Step::Use(_) => Cursor {
-            step: next,
-            piece: at.piece,
-            marks: at.marks,
-            start: at.start,
-        },
-        Step::Close => Cursor {
-            step: next,
-            piece: at.piece + 1,
-            marks: 0,
-            start: at.start,
-        },
+    Cursor {
+        step: at.step + 1,
+        piece: pieces_behind(at.piece, step),
+        marks: marks_behind(at.marks, step),
+        start: bytes_behind(at.start, step),
     }
 }
 

@@ -1,8 +1,9 @@
 -- The first uses of names, the faults of names one by one, and the flags of nodes.
-use Rattle.std.proofs.Common.{◌≡◌, ◌∙◌, ◌<◌, ◌≤◌, ◌+◌, ◌↔◌, ◌&&◌, ℕ, zero, suc, Bool, true, false, cond, not, List, [], ◌∷◌, ◌++◌, length, map, flat_map, drop, drop-cons, get_or, refl, ap, sym, arith, append-nil, append_assoc, add-zero, zero-add}
+use Rattle.std.proofs.Common.{◌≡◌, ◌∙◌, ◌<◌, ◌≤◌, ◌+◌, ◌↔◌, ◌&&◌, ℕ, zero, suc, Bool, true, false, cond, not, List, [], ◌∷◌, ◌++◌, length, map, flat_map, drop, drop-cons, take, get_or, refl, ap, sym, arith, append-nil, append_assoc, add-zero, zero-add}
 use Rattle.std.specs.List.{position_or_len, range_with_len}
-use Rattle.std.proofs.lemmas.List.{get_or-map, length-map}
+use Rattle.std.proofs.lemmas.List.{flat_map_more, get_or-map, take_all, take_more}
 use Rattle.std.specs.Prelude.{None, if◌then◌else◌}
+use Rattle.tangle_lines.specs.declared.faults.FaultKind.{FaultKind}
 use Rattle.tangle_lines.specs.declared.faults.FaultKind.TheVariants as kind
 use Rattle.tangle_lines.specs.Faults.{Finding, fault_unplaced}
 use Rattle.tangle_lexer.specs.Occurrences.{OccurrenceRead}
@@ -24,7 +25,9 @@ use Rattle.tangle_graph.specs.Faults.{is_use, is_defined, is_too_large, ReachesC
 use Rattle.tangle_graph.specs.Groups.{IsGraphOf}
 use Rattle.tangle_graph.specs.Nodes.{title_at, UsesTitle}
 use Rattle.tangle_graph.specs.Outputs.{has_pieces, is_expandable}
+use Rattle.tangle_graph.specs.Plans.{AreFilled}
 use Rattle.tangle_graph.specs.Stores.{is_filled}
+use Rattle.tangle_graph.proofs.ReachLemmas.{contains_by_titles, cycle_by_titles}
 
 -- one occurrence more in front
 first_at : (q : OccurrenceRead → Bool) (os : List OccurrenceRead) (i : ℕ) (o : OccurrenceRead) → i < length os → o ≡ get_or os i o
@@ -63,29 +66,14 @@ pub faults_step : (g : ℕ → List Finding) (n : ℕ) (before now next : List F
 faults_step g n before now next sofar is =
     is ∙ ap (λ l. l ++ g n) sofar ∙ append_assoc before (flat_map g (range_with_len 0 n)) (g n) ∙ ap (λ l. before ++ l) (ap (λ k. flat_map g (range_with_len 0 n) ++ g k) (sym (zero-add n)) ∙ sym (range_more g 0 n))
 
--- Reaching by titles is reaching by the uses of titles.
+-- the faults of one kind more
+pub kinds_step : (f : FaultKind → List Finding) (ks : List FaultKind) (i : ℕ) (d : FaultKind) (before now : List Finding) → i < length ks
+    → before ≡ flat_map f (take i ks) → now ≡ before ++ f (get_or ks i d) → now ≡ flat_map f (take (i + 1) ks)
+kinds_step f ks i d before now h sofar is =
+    is ∙ ap (λ l. l ++ f (get_or ks i d)) sofar ∙ flat_map_more f [] (take i ks) (get_or ks i d) ∙ ap (flat_map f) (sym (take_more ks i d h))
 
-reaches_names : (p : Project) (a b : Title) → title.Reaches p a b → graph.Reaches (UsesTitle p) a b
-reaches_names p a b title.here = graph.here
-reaches_names p a b (title.on {name = name} u r) = graph.on {b = Named name} u (reaches_names p (Named name) b r)
-
-reaches_titles : (p : Project) (a b : Title) → graph.Reaches (UsesTitle p) a b → title.Reaches p a b
-reaches_titles p a b graph.here = title.here
-reaches_titles p a b (graph.on {b = title.Program} u r) = absurd u
-reaches_titles p a b (graph.on {b = Named name} u r) = title.on u (reaches_titles p (Named name) b r)
-
-contains_titles : (project : Project) (a : Title) → graph.ContainsItself (UsesTitle project) a ↔ title.ContainsItself project a
-contains_titles project a = (λ c. down c.0 c.1 c.2, λ c. (Named c.0, c.1, reaches_names project (Named c.0) a c.2))
-  where
-    down : (b : Title) → UsesTitle project a b → graph.Reaches (UsesTitle project) b a → title.ContainsItself project a
-    down title.Program u r = absurd u
-    down (Named name) u r = (name, u, reaches_titles project (Named name) a r)
-
-cycle_titles : (project : Project) (a : Title) → graph.ReachesCycle (UsesTitle project) a ↔ ReachesCycle project a
-cycle_titles project a = (
-  λ c. (c.0, reaches_titles project a c.0 c.1, (contains_titles project c.0).0 c.2),
-  λ c. (c.0, reaches_names project a c.0 c.1, (contains_titles project c.0).1 c.2),
-)
+pub kinds_whole : (f : FaultKind → List Finding) (ks : List FaultKind) (i : ℕ) (now : List Finding) → length ks ≤ i → now ≡ flat_map f (take i ks) → now ≡ flat_map f ks
+kinds_whole f ks i now h is = is ∙ ap (flat_map f) (take_all i ks h)
 
 -- a node has a piece where there is a number of one
 module _ (web : WebRead) (table : TableRead) (rows uses : Graph) (is : IsGraphOf web table rows uses) where
@@ -99,20 +87,20 @@ module _ (web : WebRead) (table : TableRead) (rows uses : Graph) (is : IsGraphOf
   has_mapped [] = refl
   has_mapped (k ∷ row) = refl
 
-  pub defined_flag : (flags : List Bool) → flags ≡ map is_filled (rows_of rows) → (n : ℕ) → n ≤ length table.names → flag_at flags n ≡ is_defined web table n
-  defined_flag flags made n h =
-      ap (λ l. get_or l n false) made ∙ get_or-map is_filled (rows_of rows) n [] false (let low = row_below n h in omega (arith, low, rows_size rows))
+  pub defined_flag : (flags : List Bool) → AreFilled (rows_of rows) flags → (n : ℕ) → n ≤ length table.names → flag_at flags n ≡ is_defined web table n
+  defined_flag flags filled n h =
+      filled.flag n (let low = row_below n h in omega (arith, low, rows_size rows))
       ∙ has_mapped (row_at (rows_of rows) n)
       ∙ ap (λ ps. has_pieces (map (λ (p : PieceRead). map (shape_item web.texts table) p.items) ps)) (is.pieces n (row_below n h))
 
-  pub defined_size : (flags : List Bool) → flags ≡ map is_filled (rows_of rows) → length flags ≡ length table.names + 1
-  defined_size flags made = ap length made ∙ length-map (rows_of rows) is_filled ∙ rows_size rows ∙ is.rows_size
+  pub defined_size : (flags : List Bool) → AreFilled (rows_of rows) flags → length flags ≡ length table.names + 1
+  defined_size flags filled = filled.size ∙ rows_size rows ∙ is.rows_size
 
   pub containing_flag : (flags : List Bool) → FlagsJust uses flags (graph.ContainsItself (HasUse uses)) → (n : ℕ) → n ≤ length table.names
       → (flag_at flags n ≡ true) ↔ title.ContainsItself (project web table) (title_at table.names n)
   containing_flag flags just n h =
       let alike = contains_alike uses (UsesTitle (project web table)) (title_at table.names) is.titled n (below n h) in
-      let titles = contains_titles (project web table) (title_at table.names n) in
+      let titles = contains_by_titles (project web table) (title_at table.names n) in
       let flag = just n (below n h) in
       (λ e. titles.0 (alike.0 (flag.0 e)), λ c. flag.1 (alike.1 (titles.1 c)))
 
@@ -120,17 +108,16 @@ module _ (web : WebRead) (table : TableRead) (rows uses : Graph) (is : IsGraphOf
       → (flag_at flags n ≡ true) ↔ ReachesCycle (project web table) (title_at table.names n)
   reaching_flag flags just n h =
       let alike = cycle_alike uses (UsesTitle (project web table)) (title_at table.names) is.titled n (below n h) in
-      let titles = cycle_titles (project web table) (title_at table.names n) in
+      let titles = cycle_by_titles (project web table) (title_at table.names n) in
       let flag = just n (below n h) in
       (λ e. titles.0 (alike.0 (flag.0 e)), λ c. flag.1 (alike.1 (titles.1 c)))
 
--- lists that grow one after the other
-pub joined : {X : Type 0} (now a b c d e f g : List X) (l0 l1 l2 l3 l4 l5 l6 : List X) → l0 ≡ [] → l1 ≡ l0 ++ a → l2 ≡ l1 ++ b → l3 ≡ l2 ++ c → l4 ≡ l3 ++ d → l5 ≡ l4 ++ e
-    → l6 ≡ l5 ++ f → now ≡ l6 ++ g → now ≡ a ++ (b ++ (c ++ (d ++ (e ++ (f ++ g)))))
-joined now a b c d e f g l0 l1 l2 l3 l4 l5 l6 h0 h1 h2 h3 h4 h5 h6 h7 =
-    h7 ∙ next l5 l6 f g h6 ∙ next l4 l5 e (f ++ g) h5 ∙ next l3 l4 d (e ++ (f ++ g)) h4 ∙ next l2 l3 c (d ++ (e ++ (f ++ g))) h3
-    ∙ next l1 l2 b (c ++ (d ++ (e ++ (f ++ g)))) h2 ∙ next l0 l1 a (b ++ (c ++ (d ++ (e ++ (f ++ g))))) h1
-    ∙ ap (λ l. l ++ (a ++ (b ++ (c ++ (d ++ (e ++ (f ++ g))))))) h0
+-- lists that grow one after the other, the first four at once
+pub joined : {X : Type 0} (now a b c d e f g : List X) (l0 l1 l2 : List X) → l0 ≡ a ++ (b ++ (c ++ (d ++ []))) → l1 ≡ l0 ++ e → l2 ≡ l1 ++ f → now ≡ l2 ++ g
+    → now ≡ a ++ (b ++ (c ++ (d ++ (e ++ (f ++ g)))))
+joined now a b c d e f g l0 l1 l2 h0 h1 h2 h3 =
+    h3 ∙ next l1 l2 f g h2 ∙ next l0 l1 e (f ++ g) h1 ∙ ap (λ l. l ++ (e ++ (f ++ g))) h0 ∙ append_assoc a (b ++ (c ++ (d ++ []))) (e ++ (f ++ g))
+    ∙ ap (λ l. a ++ l) (append_assoc b (c ++ (d ++ [])) (e ++ (f ++ g)) ∙ ap (λ l. b ++ l) (append_assoc c (d ++ []) (e ++ (f ++ g)) ∙ ap (λ l. c ++ l) (append_assoc d [] (e ++ (f ++ g)))))
   where
     next : {X : Type 0} (before now x y : List X) → now ≡ before ++ x → now ++ y ≡ before ++ (x ++ y)
     next before now x y h = ap (λ l. l ++ y) h ∙ append_assoc before x y

@@ -12,6 +12,7 @@ mod PlanLemmas
 mod TextLemmas
 pub mod ShapeLemmas
 mod PushLemmas
+mod ReachLemmas
 mod ExpandLemmas
 mod StoreIs
 mod OrderingLemmas

@@ -36,7 +36,8 @@ use Rattle.tangle_graph.specs.Plans.{ArePlans, AreTexts}
 use Rattle.tangle_graph.proofs.PlanLemmas.{UsesWithPiece, plan_uses_pieces, parts_fit}
 use Rattle.tangle_graph.proofs.NodeLemmas.{numbered, title-node, node_is, once_titled, title_inside}
 use Rattle.tangle_graph.proofs.LimitLemmas.{shape_size}
-use Rattle.tangle_graph.proofs.StoreLemmas.{same_number, contains_mapped, mapped_contains, filled_row, there, contains_by_titles, expandable_is}
+use Rattle.tangle_graph.proofs.StoreLemmas.{same_number, contains_mapped, mapped_contains, filled_row, there, expandable_is}
+use Rattle.tangle_graph.proofs.ReachLemmas.{contains_by_titles}
 
 module _ (web : WebRead) (table : TableRead) (rows uses users : Graph) (flags : List Bool) (weights depths : List ℕ) (expandable : List Bool) (outputs : List OutputRead) (faults : List Finding) (slots : List (List Slot)) (plan_uses : List (List ℕ)) (texts : List NodeText) (has : ℕ → Bool)
     (distinct : IsDistinct bytes_eq table.names) (inside : ResolvesInside table) (is : IsGraphOf web table rows uses) (converse : IsConverse uses users)

@@ -5,8 +5,7 @@ use Rattle.std.proofs.Math.Decide.{dec_lt}
 use Rattle.std.proofs.lemmas.Bool.Decides.{nat_tests}
 use Rattle.std.proofs.lemmas.Slice.Eq.{bytes_eq-Decides}
 use Rattle.std.proofs.lemmas.List.{get_or-map, length-map}
-use Rattle.tangle_expansion.specs.Shapes.{Title, Named, Shape, Project, Uses}
-use Rattle.tangle_expansion.specs.Shapes as title
+use Rattle.tangle_expansion.specs.Shapes.{Title, Named, Shape, Project}
 use Rattle.tangle_expansion.specs.Flat.{weight, depth}
 use Rattle.tangle_expansion.specs.Limits.{levels, heaviest, weight_cap, weight_of, depth_of, IsExpandableNode}
 use Rattle.tangle_expansion.specs.declared.nodes.Node.TheVariants.{Program, Name}
@@ -15,8 +14,7 @@ use Rattle.tangle_names.specs.declared.Resolved.{Resolved}
 use Rattle.tangle_names.specs.declared.Resolved.TheVariants as resolved
 use Rattle.tangle_names.specs.NameTable.{TableRead}
 use Rattle.tangle_expansion.specs.Projects.{resolved_at, node_of, node_of_name, is_node, is_piece_of, IsNameBelow, ResolvesInside, project}
-use Rattle.digraph.specs.Reach as graph
-use Rattle.tangle_graph.specs.Nodes.{node_at, UsesTitle}
+use Rattle.tangle_graph.specs.Nodes.{node_at}
 use Rattle.tangle_graph.specs.Outputs.{has_pieces, is_expandable}
 use Rattle.tangle_graph.specs.Stores.{is_filled}
 use Rattle.tangle_graph.proofs.MeasureLemmas.{weight-settles}
@@ -44,27 +42,6 @@ mapped_contains f (x ∷ xs) y (zero, h, e) = (x, (0, omega arith, refl), e)
 mapped_contains f (x ∷ xs) y (suc k, h, e) =
     let rest = mapped_contains f xs y (k, omega (arith, h), e) in
     (rest.0, (suc rest.1.0, omega (arith, rest.1.1), rest.1.2), rest.2)
-
--- Reaching by titles is reaching by the uses of titles.
-
-reaches_names : (project : Project) (a b : Title) → title.Reaches project a b → graph.Reaches (UsesTitle project) a b
-reaches_names project a b title.here = graph.here
-reaches_names project a b (title.on {name = name} u r) = graph.on {b = Named name} u (reaches_names project (Named name) b r)
-
-reaches_titles : (project : Project) (a b : Title) → graph.Reaches (UsesTitle project) a b → title.Reaches project a b
-reaches_titles project a b graph.here = title.here
-reaches_titles project a b (graph.on {b = title.Program} u r) = absurd u
-reaches_titles project a b (graph.on {b = Named name} u r) = title.on u (reaches_titles project (Named name) b r)
-
-pub contains_by_titles : (project : Project) (a : Title) → graph.ContainsItself (UsesTitle project) a ↔ title.ContainsItself project a
-contains_by_titles project a = (
-  λ c. down c.0 c.1 c.2,
-  λ c. (Named c.0, c.1, reaches_names project (Named c.0) a c.2),
-)
-  where
-    down : (b : Title) → UsesTitle project a b → graph.Reaches (UsesTitle project) b a → title.ContainsItself project a
-    down title.Program u r = absurd u
-    down (Named name) u r = (name, u, reaches_titles project (Named name) a r)
 
 -- Expandable, by the capped weight and depth.
 

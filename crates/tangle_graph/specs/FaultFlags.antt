@@ -22,11 +22,11 @@ first_use_by_number f os id = position_or_len (λ o. is_use o.role && is_number 
 
 -- the flags tell of each node whether it has a piece, contains itself, reaches a name that does, and is expandable
 pub record AreNodeFlags (web : WebRead) (table : TableRead) (flags : NodeFlags) : Type 0 where
-  pub defined_size : length flags.defined.items ≡ length table.names + 1
-  pub containing_size : length flags.self_containing.items ≡ length table.names + 1
-  pub reaching_size : length flags.reaching.items ≡ length table.names + 1
-  pub expandable_size : length flags.expandable.items ≡ length table.names + 1
-  pub defined : (n : ℕ) → n ≤ length table.names → flag_at flags.defined.items n ≡ is_defined web table n
-  pub containing : (n : ℕ) → n ≤ length table.names → (flag_at flags.self_containing.items n ≡ true) ↔ ContainsItself (project web table) (title_at table.names n)
-  pub reaching : (n : ℕ) → n ≤ length table.names → (flag_at flags.reaching.items n ≡ true) ↔ ReachesCycle (project web table) (title_at table.names n)
-  pub expandable : (n : ℕ) → n ≤ length table.names → flag_at flags.expandable.items n ≡ is_expandable (project web table) (title_at table.names n)
+  pub defined_size : length flags.defined.now ≡ length table.names + 1
+  pub containing_size : length flags.self_containing.now ≡ length table.names + 1
+  pub reaching_size : length flags.reaching.now ≡ length table.names + 1
+  pub expandable_size : length flags.expandable.now ≡ length table.names + 1
+  pub defined : (n : ℕ) → n ≤ length table.names → flag_at flags.defined.now n ≡ is_defined web table n
+  pub containing : (n : ℕ) → n ≤ length table.names → (flag_at flags.self_containing.now n ≡ true) ↔ ContainsItself (project web table) (title_at table.names n)
+  pub reaching : (n : ℕ) → n ≤ length table.names → (flag_at flags.reaching.now n ≡ true) ↔ ReachesCycle (project web table) (title_at table.names n)
+  pub expandable : (n : ℕ) → n ≤ length table.names → flag_at flags.expandable.now n ≡ is_expandable (project web table) (title_at table.names n)

@@ -8,15 +8,18 @@ ghost use Rattle.tangle_names.specs.NameTable.{TableRead, table_of};
 ghost use Rattle.tangle_names.specs.Numbers.{NotesNumber};
 ghost use Rattle.tangle_names.specs.Resolving.{resolve};
 ghost use Rattle.tangle_expansion.specs.Projects.{project};
-ghost use Rattle.digraph.specs.Graph.{InRange, rows_of};
+ghost use Rattle.digraph.specs.Graph.{HasUse, rows_of};
+ghost use Rattle.digraph.specs.Flags.{FlagsJust};
+ghost use Rattle.digraph.specs.Reach.{ContainsItself};
 ghost use Rattle.tangle_graph.specs.Groups.{IsGraphOf};
 ghost use Rattle.tangle_graph.specs.Nodes.{title_at};
 ghost use Rattle.tangle_graph.specs.Outputs.{is_expandable};
-ghost use Rattle.tangle_graph.specs.Stores.{is_filled};
+ghost use Rattle.tangle_graph.specs.Plans.{AreFilled};
 ghost use Rattle.tangle_graph.specs.FaultFlags.{AreNodeFlags, flag_at, first_use_by_number};
 ghost use Rattle.tangle_graph.specs.Faults.{AreGraphFaults, fault_of, fault_place, faults_of_names, first_use, is_too_large, is_use};
 
-use digraph::{reaching_cycles, self_containing};
+use crate::graph::Graph;
+use digraph::reaching_cycles;
 use std::alloc::{AllocError, Global};
 use tangle_lines::{Fault, FaultKind, NoMemory};
 use tangle_names::{NameTable, Resolved};
@@ -24,50 +27,11 @@ use tangle_scan::{Occurrence, OccurrenceRole, Web};
 
 /// A flag for each node: whether it has a piece, contains itself, reaches a name that does, and is expandable.
 #[derive(Drop)]
-pub(crate) struct NodeFlags {
-    pub(crate) defined: Vec<bool>,
-    pub(crate) self_containing: Vec<bool>,
-    pub(crate) reaching: Vec<bool>,
-    pub(crate) expandable: Vec<bool>,
-}
-
-/// Whether each row has a number.
-fn filled(alloc: Global, rows: &[Vec<usize>]) -> Result<Vec<bool>, AllocError>
-    ensures { IfOk result (λ flags. flags.items ≡ map is_filled (rows_of rows.now)) }
-{
-    let mut flags = Vec::with_capacity(alloc, rows.len())?;
-    for row in rows {
-        flags.push(!row.is_empty())?;
-    }
-    Ok(flags)
-}
-
-impl NodeFlags {
-    /// The flags of the nodes of a graph, given those of the nodes that are expandable.
-    pub(crate) fn gather(
-        alloc: Global,
-        pieces: &[Vec<usize>],
-        uses: &[Vec<usize>],
-        users: &[Vec<usize>],
-        expandable: &[bool],
-    ) -> Result<NodeFlags, AllocError>
-        requires { InRange uses.now }
-        ensures { IfOk result (λ flags. (web : WebRead) (table : TableRead) → IsGraphOf web table pieces.now uses.now
-            → length expandable.now ≡ length table.names + 1
-            → ((n : ℕ) → n < length expandable.now → flag_at expandable.now n ≡ is_expandable (project web table) (title_at table.names n))
-            → AreNodeFlags web table flags) }
-    {
-        let defined = filled(alloc, pieces)?;
-        let self_containing = self_containing(alloc, uses, users)?;
-        let reaching = reaching_cycles(alloc, uses, users, &self_containing)?;
-        let expandable = Vec::from_slice(alloc, expandable)?;
-        Ok(NodeFlags {
-            defined,
-            self_containing,
-            reaching,
-            expandable,
-        })
-    }
+pub(crate) struct NodeFlags<'f> {
+    pub(crate) defined: &'f [bool],
+    pub(crate) self_containing: &'f [bool],
+    pub(crate) reaching: &'f [bool],
+    pub(crate) expandable: &'f [bool],
 }
 
 /// Whether it is a use.
@@ -129,7 +93,7 @@ fn first_use(web: &Web, table: &NameTable, first_uses: &[usize], id: usize) -> O
 fn is_too_large(web: &Web, table: &NameTable, flags: &NodeFlags, n: usize) -> bool
     requires node { n ≤ length table.now.names }
     requires flags { AreNodeFlags web.now table.now flags.now }
-    ensures { result ≡ is_too_large web.now table.now (flag_at flags.now.reaching.items) n }
+    ensures { result ≡ is_too_large web.now table.now (flag_at flags.now.reaching.now) n }
 {
     flags.defined[n] && (!flags.reaching[n] && !flags.expandable[n])
 }
@@ -154,7 +118,7 @@ fn fault_place(
     requires name { id < length table.now.names }
     requires flags { AreNodeFlags web.now table.now flags.now }
     requires used { use_number ≡ first_use web.now table.now id }
-    ensures { result ≡ fault_place web.now table.now out.now (flag_at flags.now.self_containing.items) (flag_at flags.now.reaching.items) kind id }
+    ensures { result ≡ fault_place web.now table.now out.now (flag_at flags.now.self_containing.now) (flag_at flags.now.reaching.now) kind id }
 {
     let first = Some(table.first_occurrence(id));
     let is_defined = flags.defined[id];
@@ -215,7 +179,7 @@ fn add_faults(
     requires numbers { (id : ℕ) → id < length table.now.names
         → slice_index_or first_uses.now id 0 ≡ first_use_by_number (resolve web.now.occurrences) web.now.occurrences id }
     ensures { OnOk result (faults.new.items ≡ faults.old.items
-        ++ faults_of_names web.now table.now out.now (flag_at flags.now.self_containing.items) (flag_at flags.now.reaching.items) kind) }
+        ++ faults_of_names web.now table.now out.now (flag_at flags.now.self_containing.now) (flag_at flags.now.reaching.now) kind) }
 {
     for id in 0..table.count() {
         let use_number = first_use(web, table, first_uses, id);
@@ -255,84 +219,51 @@ pub(crate) fn faults(
     let uses = first_uses(alloc, web, table)?;
     let program = table.count();
     let is_large = is_too_large(web, table, flags, program);
+    let has_text = flags.defined[program];
     let mut faults = Vec::new(alloc);
-    add_faults(
-        alloc,
-        &mut faults,
+    let kinds = [
         FaultKind::Undefined,
-        web,
-        table,
-        out,
-        flags,
-        &uses,
-    )?;
-    add_faults(
-        alloc,
-        &mut faults,
         FaultKind::Unused,
-        web,
-        table,
-        out,
-        flags,
-        &uses,
-    )?;
-    add_faults(
-        alloc,
-        &mut faults,
         FaultKind::SelfContaining,
-        web,
-        table,
-        out,
-        flags,
-        &uses,
-    )?;
-    add_faults(
-        alloc,
-        &mut faults,
         FaultKind::TooLarge,
-        web,
-        table,
-        out,
-        flags,
-        &uses,
-    )?;
+    ];
+    for kind in &kinds {
+        add_faults(alloc, &mut faults, *kind, web, table, out, flags, &uses)?;
+    }
     add_unplaced(alloc, &mut faults, FaultKind::TooLarge, is_large)?;
-    add_faults(
-        alloc,
-        &mut faults,
-        FaultKind::FileClash,
-        web,
-        table,
-        out,
-        flags,
-        &uses,
-    )?;
-    add_unplaced(
-        alloc,
-        &mut faults,
-        FaultKind::NoProgram,
-        !flags.defined[program],
-    )?;
+    let clash = FaultKind::FileClash;
+    add_faults(alloc, &mut faults, clash, web, table, out, flags, &uses)?;
+    add_unplaced(alloc, &mut faults, FaultKind::NoProgram, !has_text)?;
     Ok(faults)
 }
 
-/// The faults of the graph of names with these pieces, uses and users, for a main file of this name.
+/// The faults of this graph of names, for a main file of this name, given flags of the nodes that have a piece, of those that contain
+/// themselves and of those that are expandable.
 pub(crate) fn graph_faults(
     alloc: Global,
     web: &Web,
     table: &NameTable,
     out: &[u8],
-    pieces: &[Vec<usize>],
-    uses: &[Vec<usize>],
-    users: &[Vec<usize>],
+    graph: &Graph,
+    defined: &[bool],
+    self_containing: &[bool],
     expandable: &[bool],
 ) -> Result<Vec<Fault>, NoMemory>
     requires table { table.now ≡ table_of web.now }
-    requires graph { IsGraphOf web.now table.now pieces.now uses.now }
-    requires size { length expandable.now ≡ length table.now.names + 1 }
-    requires flags { (n : ℕ) → n < length expandable.now → flag_at expandable.now n ≡ is_expandable (project web.now table.now) (title_at table.now.names n) }
+    requires graph { IsGraphOf web.now table.now graph.now.pieces.items graph.now.uses.items }
+    requires defined { AreFilled (rows_of graph.now.pieces.items) defined.now }
+    requires containing_size { length self_containing.now ≡ length graph.now.uses.items }
+    requires containing { FlagsJust graph.now.uses.items self_containing.now (ContainsItself (HasUse graph.now.uses.items)) }
+    requires expandable_size { length expandable.now ≡ length table.now.names + 1 }
+    requires expandable { (n : ℕ) → n < length expandable.now → flag_at expandable.now n ≡ is_expandable (project web.now table.now) (title_at table.now.names n) }
     ensures { IfOk result (λ faults. AreGraphFaults web.now table.now out.now faults.items) }
 {
-    let flags = NodeFlags::gather(alloc, pieces, uses, users, expandable)?;
+    let reaching = reaching_cycles(alloc, &graph.uses, &graph.users, self_containing)?;
+    let flags = NodeFlags {
+        defined,
+        self_containing,
+        reaching: &reaching,
+        expandable,
+    };
     faults(alloc, web, table, out, &flags)
 }

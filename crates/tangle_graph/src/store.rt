@@ -109,15 +109,25 @@ impl Store {
         let depths = depths(alloc, web, table, pieces, uses, order)?;
         let expandable = expandable(alloc, pieces, &weights, &depths)?;
         let has_piece = is_filled(&pieces[table.count()]);
+        let self_containing = self_containing(alloc, uses, users)?;
         Ok(Store {
             names: texts(alloc, table)?,
             uses: nodes_by_node(alloc, table.count(), uses)?,
             users: nodes_by_node(alloc, table.count(), users)?,
             order: nodes_of(alloc, table.count(), order)?,
-            self_containing: self_containing(alloc, uses, users)?,
             outputs: outputs(alloc, web, table, out, has_piece, &expandable)?,
             texts: node_texts,
-            faults: graph_faults(alloc, web, table, out, pieces, uses, users, &expandable)?,
+            faults: graph_faults(
+                alloc,
+                web,
+                table,
+                out,
+                &graph,
+                &filled,
+                &self_containing,
+                &expandable,
+            )?,
+            self_containing,
             weights,
             depths,
             expandable,

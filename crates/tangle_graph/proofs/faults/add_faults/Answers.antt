@@ -9,6 +9,6 @@ loop-id-preserved c =
     let web = c.args.web.now in
     let table = c.args.table.now in
     let flags = c.args.flags.now in
-    faults_step (λ id. fault_of web table c.args.kind id (fault_place web table c.args.out.now (flag_at flags.self_containing.items) (flag_at flags.reaching.items) c.args.kind id)) c.loop-id.id
+    faults_step (λ id. fault_of web table c.args.kind id (fault_place web table c.args.out.now (flag_at flags.self_containing.now) (flag_at flags.reaching.now) c.args.kind id)) c.loop-id.id
     c.args.faults.now.items c.loop-id.faults.items c.add_fault.new.faults.items c.loop-id.invariant
     (c.in_ok-add_fault.ensures ∙ ap (λ n. c.loop-id.faults.items ++ fault_of web table c.args.kind c.loop-id.id n) c.fault_place-number.ensures)

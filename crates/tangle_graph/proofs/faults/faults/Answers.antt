@@ -1,11 +1,18 @@
-use Rattle.std.proofs.Common.{◌≡◌, ◌≤◌, ◌∙◌, ◌<◌, ◌++◌, ◌∷◌, [], not, cond, ap, arith, length}
+use Rattle.std.proofs.Common.{◌≡◌, ◌≤◌, ◌∙◌, ◌<◌, ◌++◌, ◌∷◌, [], List, not, cond, ap, arith, length}
 use Rattle.std.proofs.lemmas.List.{get_or_default}
+use Rattle.tangle_lines.specs.declared.faults.FaultKind.{FaultKind}
 use Rattle.tangle_lines.specs.declared.faults.FaultKind.TheVariants as kind
 use Rattle.tangle_lines.specs.Faults.{fault_unplaced}
 use Rattle.tangle_graph.specs.FaultFlags.{flag_at}
 use Rattle.tangle_graph.specs.Faults.{is_defined, is_too_large, faults_of_names}
-use Rattle.tangle_graph.proofs.FaultLemmas.{joined, unless}
+use Rattle.tangle_graph.proofs.FaultLemmas.{joined, kinds_step, kinds_whole, unless}
 use Rattle.tangle_graph.proofs.faults.faults.Goals as goal
+
+pub loop-kind-preserved : goal.loop-kind-preserved
+loop-kind-preserved c =
+    let of_kind = faults_of_names c.args.web.now c.args.table.now c.args.out.now (flag_at c.args.flags.now.self_containing.now) (flag_at c.args.flags.now.reaching.now) in
+    let kinds : List FaultKind = kind.Undefined ∷ kind.Unused ∷ kind.SelfContaining ∷ kind.TooLarge ∷ [] in
+    kinds_step of_kind kinds c.loop-kind.kind-index _ c.loop-kind.faults.items c.add_faults.new.faults.items c.loop-kind-test.true c.loop-kind.invariant c.in_ok-add_faults.ensures
 
 pub returns : goal.returns
 returns c =
@@ -16,22 +23,22 @@ returns c =
     let told = c.requires.flags in
     let n = c.count-program.result in
     let program : n ≡ length table.names = c.count-program.ensures in
-    let room : n < length flags.defined.items = omega (arith, program, told.defined_size) in
+    let room : n < length flags.defined.now = omega (arith, program, told.defined_size) in
     let low : n ≤ length table.names = omega (arith, program) in
-    let is_large = c.is_too_large-is_large.ensures ∙ ap (is_too_large web table (flag_at flags.reaching.items)) program in
-    let is_there = c.index.ensures ∙ get_or_default flags.defined.items n _ _ room ∙ told.defined n low ∙ ap (is_defined web table) program in
-    let of_kind = faults_of_names web table out (flag_at flags.self_containing.items) (flag_at flags.reaching.items) in
+    let is_large = c.is_too_large-is_large.ensures ∙ ap (is_too_large web table (flag_at flags.reaching.now)) program in
+    let is_there = get_or_default flags.defined.now n _ _ room ∙ told.defined n low ∙ ap (is_defined web table) program in
+    let of_kind = faults_of_names web table out (flag_at flags.self_containing.now) (flag_at flags.reaching.now) in
+    let kinds : List FaultKind = kind.Undefined ∷ kind.Unused ∷ kind.SelfContaining ∷ kind.TooLarge ∷ [] in
     record {
-      contains_itself = flag_at flags.self_containing.items;
-      reaches_cycle = flag_at flags.reaching.items;
+      contains_itself = flag_at flags.self_containing.now;
+      reaches_cycle = flag_at flags.reaching.now;
       self_containing = told.containing;
       cyclic = told.reaching;
       list = joined c.add_unplaced-2.new.faults.items (of_kind kind.Undefined) (of_kind kind.Unused) (of_kind kind.SelfContaining) (of_kind kind.TooLarge)
-          _ (of_kind kind.FileClash) _ c.new-faults.result.items c.add_faults.new.faults.items c.add_faults-2.new.faults.items c.add_faults-3.new.faults.items
-          c.add_faults-4.new.faults.items c.add_unplaced.new.faults.items c.add_faults-5.new.faults.items
-          c.new-faults.ensures.items c.in_ok-add_faults.ensures c.in_ok-add_faults-2.ensures c.in_ok-add_faults-3.ensures c.in_ok-add_faults-4.ensures
-          (c.in_ok-add_unplaced.ensures ∙ ap (λ b. c.add_faults-4.new.faults.items ++ cond b (fault_unplaced kind.TooLarge ∷ []) []) is_large)
-          c.in_ok-add_faults-5.ensures
-          (c.in_ok-add_unplaced-2.ensures ∙ ap (λ b. c.add_faults-5.new.faults.items ++ cond (not b) (fault_unplaced kind.NoProgram ∷ []) []) is_there
-          ∙ ap (λ l. c.add_faults-5.new.faults.items ++ l) (unless (is_defined web table (length table.names)) (fault_unplaced kind.NoProgram ∷ [])));
+          _ (of_kind kind.FileClash) _ c.loop-kind.faults.items c.add_unplaced.new.faults.items c.add_faults-2.new.faults.items
+          (kinds_whole of_kind kinds c.loop-kind.kind-index c.loop-kind.faults.items (omega (arith, c.loop-kind-test.false)) c.loop-kind.invariant)
+          (c.in_ok-add_unplaced.ensures ∙ ap (λ b. c.loop-kind.faults.items ++ cond b (fault_unplaced kind.TooLarge ∷ []) []) is_large)
+          c.in_ok-add_faults-2.ensures
+          (c.in_ok-add_unplaced-2.ensures ∙ ap (λ b. c.add_faults-2.new.faults.items ++ cond (not b) (fault_unplaced kind.NoProgram ∷ []) []) is_there
+          ∙ ap (λ l. c.add_faults-2.new.faults.items ++ l) (unless (is_defined web table (length table.names)) (fault_unplaced kind.NoProgram ∷ [])));
     }

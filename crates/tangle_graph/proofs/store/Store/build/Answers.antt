@@ -59,8 +59,8 @@ texts_by_node-requires-clause-inside c =
     subst (ArePiecesInside (length c.args.web.now.pieces)) (sym c.deref-3.ensures.value)
     (subst (λ (ps : List PieceRead). ArePiecesInside (length ps) rows) c.pieces.ensures.pieces inside)
 
-pub graph_faults-requires-clause-flags : goal.graph_faults-requires-clause-flags
-graph_faults-requires-clause-flags c = λ n h.
+pub graph_faults-requires-clause-expandable : goal.graph_faults-requires-clause-expandable
+graph_faults-requires-clause-expandable c = λ n h.
     let rows = c.in_ok-graph.graph.pieces.items in
     let uses = c.in_ok-graph.graph.uses.items in
     let flags = c.in_ok-expandable.expandable.items in
@@ -70,11 +70,18 @@ graph_faults-requires-clause-flags c = λ n h.
     (subst (λ ws. AreWithin (rows_of rows) ws c.deref-7.result.now flags) c.deref-6.ensures.value
     (subst (λ (g : Graph). AreWithin (rows_of g) c.deref-6.result.now c.deref-7.result.now flags) c.deref-pieces.ensures.value c.in_ok-expandable.ensures)) in
     let same : length c.deref-uses.result.now ≡ length uses = ap length c.deref-uses.ensures.value in
-    let read : length c.deref-10.result.now ≡ length flags = ap length c.deref-10.ensures.value in
+    let read : length c.deref-12.result.now ≡ length flags = ap length c.deref-12.ensures.value in
     let low : n < length uses = omega (arith, h, read, within.size, rows_size rows, graph.rows_size, graph.uses_size) in
-    ap (λ l. get_or l n false) c.deref-10.ensures.value
+    ap (λ l. get_or l n false) c.deref-12.ensures.value
     ∙ limited c.args.web.now c.args.table.now rows uses graph c.in_ok-weights.weights.items c.in_ok-depths.depths.items flags within
     (λ k room. c.in_ok-weights.ensures.weights k (omega (arith, room, same))) (λ k room. c.in_ok-depths.ensures.depths k (omega (arith, room, same))) n low
+
+pub graph_faults-requires-clause-containing : goal.graph_faults-requires-clause-containing
+graph_faults-requires-clause-containing c =
+    let uses = c.in_ok-graph.graph.uses.items in
+    let flags = c.in_ok-self_containing.self_containing.items in
+    let just : FlagsJust uses flags (ContainsItself (HasUse uses)) = subst (λ (g : Graph). FlagsJust g flags (ContainsItself (HasUse g))) c.deref-uses.ensures.value c.in_ok-self_containing.ensures.flags in
+    subst (λ fs. FlagsJust uses fs (ContainsItself (HasUse uses))) (sym c.deref-11.ensures.value) just
 
 pub returns-clause-store : goal.returns-clause-store
 returns-clause-store c =
@@ -104,12 +111,12 @@ returns-clause-store c =
     (subst (λ (fs : List Bool). ArePlans web table (λ id. get_or fs id false) (rows_of c.deref-3.result.now) (slots_of c.in_ok-node_texts.node_texts.items) (uses_of_plans c.in_ok-node_texts.node_texts.items)) c.deref-2.ensures.value c.in_ok-node_texts.ensures.plans) in
     let shaped : AreTexts web table (rows_of rows) (node_texts c.in_ok-node_texts.node_texts.items) =
     subst (λ (g : Graph). AreTexts web table (rows_of g) (node_texts c.in_ok-node_texts.node_texts.items)) (c.deref-3.ensures.value ∙ taken) c.in_ok-node_texts.ensures.texts in
-    store_made web table rows uses users c.in_ok-self_containing.field-0.items c.in_ok-weights.weights.items c.in_ok-depths.depths.items flags c.in_ok-outputs.field-0.items c.in_ok-graph_faults.field-0.items
+    store_made web table rows uses users c.in_ok-self_containing.self_containing.items c.in_ok-weights.weights.items c.in_ok-depths.depths.items flags c.in_ok-outputs.field-0.items c.in_ok-graph_faults.field-0.items
     (slots_of c.in_ok-node_texts.node_texts.items) (uses_of_plans c.in_ok-node_texts.node_texts.items) (node_texts c.in_ok-node_texts.node_texts.items) has
     (subst (λ (t : TableRead). IsDistinct bytes_eq t.names) (sym c.requires) (c.names_are_the_full_names.ensures.once web.occurrences))
     (subst ResolvesInside (sym c.requires) (c.names_resolve_inside.ensures web))
     graph c.in_ok-graph.ensures.converse c.in_ok-graph.ensures.increasing c.in_ok-graph.ensures.size
-    (subst (λ (g : Graph). FlagsJust g c.in_ok-self_containing.field-0.items (ContainsItself (HasUse g))) c.deref-uses.ensures.value c.in_ok-self_containing.ensures.flags)
+    (subst (λ (g : Graph). FlagsJust g c.in_ok-self_containing.self_containing.items (ContainsItself (HasUse g))) c.deref-uses.ensures.value c.in_ok-self_containing.ensures.flags)
     weighed measured (limited web table rows uses graph c.in_ok-weights.weights.items c.in_ok-depths.depths.items flags within weighed measured)
     has_is planned shaped (λ parts node. c.filled_plans_are_right.ensures web table has parts levels node inside)
     (texts_of c.in_ok-texts.field-0.items) (node_rows c.in_ok-nodes_by_node.field-0.items) (node_rows c.in_ok-nodes_by_node-2.field-0.items)
