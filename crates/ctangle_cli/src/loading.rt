@@ -6,7 +6,7 @@ ghost use Rattle.std.specs.Str.{bytes_eq};
 ghost use Rattle.tangle_folders.specs.Folder.{file_limit};
 ghost use Rattle.tangle_lines.specs.Adding.{has_file};
 ghost use Rattle.tangle_lines.specs.Roles.{fits, is_there, is_there_if_any};
-ghost use Rattle.tangle_lines.specs.Inclusion.{included_name};
+ghost use Rattle.tangle_lines.specs.Inclusion.{included_name as name_of_inclusion};
 ghost use Rattle.tangle_lines.specs.Lines.{FileTable};
 ghost use Rattle.ctangle_cli.specs.Asking.{AsksForAll, AsksOnce};
 ghost use Rattle.ctangle_cli.specs.Tries.{AsksOn, RoundsOnce, StopsAsking, TriesAll, named_in, tried};
@@ -19,7 +19,8 @@ use std::alloc::Global;
 use std::marker::Model;
 use tangle_folders::{Folder, FolderFault};
 use tangle_lines::{
-    Fault, FaultKind, Files, Line, NoMemory, Refusal, Roles, is_file_name, read_source,
+    Fault, FaultKind, Files, Line, NoMemory, Refusal, Roles, included_name, is_file_name,
+    read_source,
 };
 
 /// Why the files of a run are not loaded.
@@ -274,18 +275,13 @@ fn read_inclusions<F: Folder>(
     Ok(())
 }
 
-// Whether the line is an inclusion.
-fn is_inclusion(line: &[u8]) -> bool
-    ensures { result ≡ is_some (included_name line.now) }
-{
-    matches!(line, [b'@', b'i' | b'I', ..])
-}
-
 // Whether one of the lines is an inclusion.
 fn has_inclusion(lines: &[Line]) -> bool
-    ensures { result ≡ list_any (λ line. is_some (included_name line)) lines.now }
+    ensures { result ≡ list_any (λ line. is_some (name_of_inclusion line)) lines.now }
 {
-    lines.iter().any(|line| is_inclusion(line.bytes()))
+    lines
+        .iter()
+        .any(|line| included_name(line.bytes()).is_some())
 }
 
 // Whether nothing but the web is read, so that nothing is missing.

@@ -12,9 +12,9 @@ pub(crate) fn is_white_byte(byte: u8) -> bool
     byte == b' ' || byte == b'\t' || byte == b'\r' || byte == b'\x0b' || byte == b'\x0c'
 }
 
-/// The name of an inclusion, which may be empty: a line that begins with `@i` is one. A name in quotes may have white
-/// space in it; what follows the name is ignored.
-pub(crate) fn included_name(line: &[u8]) -> Option<&[u8]>
+/// The name that a line includes, which may be empty: a line that begins with `@i` or `@I` is an inclusion. A name in
+/// quotes may have white space in it; what follows the name is ignored. Other lines include nothing.
+pub fn included_name(line: &[u8]) -> Option<&[u8]>
     ensures { option_copied result ≡ name_of_inclusion line.now }
 {
     match line {

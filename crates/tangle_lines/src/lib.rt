@@ -24,6 +24,7 @@ pub use edits::Edit;
 pub use fault_text::write_fault;
 pub use faults::{Fault, FaultKind, Origin, Place};
 pub use files::{Files, is_file_name};
+pub use inclusion::included_name;
 pub use line::Line;
 pub use reading::{read_source, reading_goes_step_by_step};
 pub use refusal::Refusal;
