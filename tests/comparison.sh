@@ -1,4 +1,4 @@
-# 2,100 generated webs (and two that are too large), short webs, webs cut after every byte, in a folder and by the edits of a session, and
+# 4,000 generated webs (and two that are too large), short webs, webs cut after every byte, in a folder and by the edits of a session, and
 # 4,000 projects with scripts, against the reference tangler. The file tests/stage says how much the built ctangle does: front or whole
 # (tests/compare.py).
 
@@ -10,7 +10,7 @@ compare() { # NAME WORD..
 }
 
 test_comparison() {
-    compare 'generated webs' generated "$stage" "$room/ctangle" 0 2102
+    compare 'generated webs' generated "$stage" "$room/ctangle" 0 4002
     compare 'short webs' short "$stage" "$room/ctangle" 50
 }
 
