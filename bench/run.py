@@ -1,6 +1,6 @@
 """Times the built programs on generated webs, and prints tables with ratios and limits. It passes or fails nothing.
 
-usage: bench/run.py CTANGLE RETANGLE [PART..]      the parts are cutting, reading, scanning, names, whole, edits
+usage: bench/run.py CTANGLE RETANGLE [PART..]      the parts are cutting, reading, scanning, names, whole, session, edits
 
 Layers are told apart by where a run ends, and by what it finds. A change file that is not there ends it once the web
 is cut into lines, an inclusion that cannot be read once the sources were read, and a fault that cannot be told, since
@@ -121,6 +121,27 @@ def count_by_valgrind(command, folder, told='/dev/full', script=os.devnull):
     return int(found.group(1).replace(',', '')) if found else None
 
 
+def own_instructions(program, folder, crate):
+    """The instructions of a run, and those that stand in the functions of one crate and not in what they call, as callgrind counts them."""
+    if not shutil.which('valgrind'):
+        return None, None
+    with tempfile.NamedTemporaryFile('r') as log, open(os.devnull, 'w') as dropped:
+        subprocess.run(['valgrind', '--tool=callgrind', '--callgrind-out-file=' + log.name, program, 'a'], cwd=folder,
+                       stdin=subprocess.DEVNULL, stdout=dropped, stderr=dropped)
+        names, whole, own, here, is_call = {}, 0, 0, False, False
+        for line in log:
+            found = re.match(r'(c?)fn=(\(\d+\))(?: (.*))?', line)
+            if found:
+                name = names.setdefault(found.group(2), found.group(3))
+                here = here if found.group(1) else crate in name
+            elif line.startswith('calls='):
+                is_call = True
+            elif re.match(r'[+\-*\d]\S* \d+$', line):
+                count = 0 if is_call else int(line.split()[1])
+                whole, own, is_call = whole + count, own + count * here, False
+    return whole, own
+
+
 def find_counter():
     for tool, counter in (('perf', count_by_perf), ('valgrind', count_by_valgrind)):
         if shutil.which(tool) and counter(['true'], '.'):
@@ -234,6 +255,15 @@ def bench_whole(bench):
            'other: seconds', 'instructions', 'KB', 'status', 'seconds, ctangle to it', 'instructions, to it'], rows)
 
 
+def bench_session(bench):
+    """What a run's session takes beside the layers that it calls: a run that called them itself would not need it."""
+    rows = []
+    for name, lines in (('35,000 lines, 3,000 names', webs.leaves(35000, 3000)), ('100,000 lines', webs.named_program(100000))):
+        whole, own = own_instructions(bench.program, bench.folder({'a.w': lines}), 'tangle_session')
+        rows.append([name, whole, own, ratio(own, whole)])
+    table('What the session itself takes of a run (wanted: at most 0.03)', ['', 'instructions', 'its own', 'ratio'], rows)
+
+
 def bench_edits(bench):
     """Edits over a web of 35,000 lines with 3,000 names."""
     lines, dropped = webs.leaves(35000, 3000), webs.leaves(35000, 3000, tail=DROPPED)
@@ -294,7 +324,7 @@ class WholeRun:
 
 
 PARTS = {'cutting': bench_cutting, 'reading': bench_reading, 'scanning': bench_scanning, 'names': bench_names,
-         'whole': bench_whole, 'edits': bench_edits}
+         'whole': bench_whole, 'session': bench_session, 'edits': bench_edits}
 
 
 def main():

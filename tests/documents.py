@@ -25,10 +25,9 @@ DEFINITION = r'^ *(?:(?:abbrev|unfoldable) )?pub (?:record |data )?%s(?: |$)'
 FUNCTION = re.compile(r'^\s*(pub |pub\(crate\) )?(?:const )?fn (\w+)', re.M)
 CODED = re.compile(r'`([^`]+)`')
 
-# What the code of a crate calls, and the functions in which it stands, once in each: a session has one work for a start and one for an
-# edit (`expand_over`, by which `apply` alone tangles anew), and so last_work() counts all that was expanded for it. It writes texts by
-# the one call that writes a file.
-ONLY_IN = {'tangle_session': {'Work::new': {'start', 'expand_over'}, 'write_file': {'write_output'}, 'write_text': set()}}
+# What the code of a crate calls, and the functions in which it stands, once in each: a session begins one work in a start and one in an
+# edit, and so last_work() counts all that was expanded for it. It writes texts by the one call that writes a file.
+ONLY_IN = {'tangle_session': {'Work::new': {'start', 'apply'}, 'write_file': {'write_output'}, 'write_text': set()}}
 
 counts = {True: 0, False: 0}
 

@@ -152,7 +152,8 @@ impl Session {
         if let Some(refusal) = refusal_to_apply(&self.tangled.files, &self.roles, edit) {
             return Err(refusal);
         }
-        let next = tangle_again(self.alloc, &self.tangled, &self.roles, edit)?;
+        let work = Work::new(self.alloc);
+        let next = tangle_again(self.alloc, &self.tangled, &self.roles, edit, work)?;
         self.tangled = next;
         Ok(())
     }

@@ -1,5 +1,5 @@
 //! Files with what tangling makes of them: what a session holds besides its roles.
-ghost use Rattle.std.specs.Prelude.{◌≡◌, true, None, find, IfOk};
+ghost use Rattle.std.specs.Prelude.{◌≡◌, [], true, None, find, IfOk};
 ghost use Rattle.std.specs.Option.{option_copied};
 ghost use Rattle.std.specs.Str.{bytes_eq};
 ghost use Rattle.tangle_lines.specs.Edited.{edited};
@@ -48,21 +48,22 @@ fn edited_copy(files: &Files, edit: &Edit) -> Result<Files, NoMemory>
     }
 }
 
-/// What is held with this ground of the files, over the expansions that were kept.
+/// What is held with this ground of the files, over the expansions that were kept. The work has no node yet.
 fn expand_over(
     alloc: Global,
     old: &Tangled,
     files: Files,
     ground: Ground,
+    mut work: Work,
 ) -> Result<Tangled, NoMemory>
-    requires { (roles : RoleNames) × Holds old.now.files roles old.now × IsGroundAt files roles ground }
+    requires held { (roles : RoleNames) × Holds old.now.files roles old.now × IsGroundAt files roles ground }
+    requires unbegun { work ≡ [] }
     ensures files { IfOk result (λ new. new.files ≡ files) }
     ensures held { (roles : RoleNames) → Holds old.now.files roles old.now → IsGroundAt files roles ground → fits files roles ≡ true
         → IfOk result (λ new. Holds new.files roles new) }
     ensures work { (roles : RoleNames) → Holds old.now.files roles old.now → IsGroundAt files roles ground
         → IfOk result (λ new. ListsAffected (web_at old.now.files roles) (web_at new.files roles) new.work) }
 {
-    let mut work = Work::new(alloc);
     let kept = expand_again(
         alloc,
         &old.ground.store,
@@ -80,20 +81,23 @@ fn expand_over(
     })
 }
 
-/// What is held after an edit that isn't refused: the files are tangled anew, over the expansions that are kept.
+/// What is held after an edit that isn't refused: the files are tangled anew, over the expansions that are kept. The work has no node yet;
+/// what is expanded is noted there.
 pub(crate) fn tangle_again(
     alloc: Global,
     old: &Tangled,
     roles: &Roles,
     edit: &Edit,
+    work: Work,
 ) -> Result<Tangled, NoMemory>
     requires held { Holds old.now.files roles.now old.now }
     requires taken { None ≡ session_refusal old.now.files roles.now edit.now }
+    requires unbegun { work ≡ [] }
     ensures files { IfOk result (λ new. new.files ≡ edited old.now.files edit.now) }
     ensures held { IfOk result (λ new. Holds new.files roles.now new) }
     ensures work { IfOk result (λ new. ListsAffected (web_at old.now.files roles.now) (web_at new.files roles.now) new.work) }
 {
     let files = edited_copy(&old.files, edit)?;
     let ground = Ground::build(alloc, &files, roles)?;
-    expand_over(alloc, old, files, ground)
+    expand_over(alloc, old, files, ground, work)
 }
