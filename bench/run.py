@@ -121,8 +121,8 @@ def count_by_valgrind(command, folder, told='/dev/full', script=os.devnull):
     return int(found.group(1).replace(',', '')) if found else None
 
 
-def own_instructions(program, folder, crate):
-    """The instructions of a run, and those that stand in the functions of one crate and not in what they call, as callgrind counts them."""
+def own_instructions(program, folder, module):
+    """The instructions of a run, and those of the functions of one module without what they call, as callgrind counts them."""
     if not shutil.which('valgrind'):
         return None, None
     with tempfile.NamedTemporaryFile('r') as log, open(os.devnull, 'w') as dropped:
@@ -133,7 +133,7 @@ def own_instructions(program, folder, crate):
             found = re.match(r'(c?)fn=(\(\d+\))(?: (.*))?', line)
             if found:
                 name = names.setdefault(found.group(2), found.group(3))
-                here = here if found.group(1) else crate in name
+                here = here if found.group(1) else name.startswith(module)
             elif line.startswith('calls='):
                 is_call = True
             elif re.match(r'[+\-*\d]\S* \d+$', line):
@@ -256,10 +256,10 @@ def bench_whole(bench):
 
 
 def bench_session(bench):
-    """What a run's session takes beside the layers that it calls: a run that called them itself would not need it."""
+    """What the calls of a session take beside the layers: a run that called these itself would not need it. Inlined parts of them count too."""
     rows = []
     for name, lines in (('35,000 lines, 3,000 names', webs.leaves(35000, 3000)), ('100,000 lines', webs.named_program(100000))):
-        whole, own = own_instructions(bench.program, bench.folder({'a.w': lines}), 'tangle_session')
+        whole, own = own_instructions(bench.program, bench.folder({'a.w': lines}), 'tangle_session::session::')
         rows.append([name, whole, own, ratio(own, whole)])
     table('What the session itself takes of a run (wanted: at most 0.03)', ['', 'instructions', 'its own', 'ratio'], rows)
 
