@@ -5,19 +5,7 @@ use std::alloc::Global;
 use std::process::Abort;
 use std::test::Fail;
 use tangle_folders::{MemoryFolder, MemorySink};
-
-// Refuses the nth growth from here on, none at 0, where the harness of `tests/` stands before the allocator, and says
-// whether it does. Without it no memory is so large, and nothing is refused.
-fn refuse_growth(alloc: Global, nth: u32) -> bool {
-    Vec::<u8>::with_capacity(alloc, (1 << 62) + nth as usize).is_ok()
-}
-
-// Ends the refusals, and says whether the last one never came.
-fn end_refusals(alloc: Global, is_harnessed: bool) -> bool {
-    let is_waiting = Vec::<u8>::with_capacity(alloc, 3 << 61).is_ok();
-    refuse_growth(alloc, 0);
-    is_waiting || !is_harnessed
-}
+use tangle_test_support::{end_refusals, refuse_growth};
 
 const OUTPUT: &[u8] =
     b"/*1:*/\n#line 2 \"a.w\"\n\n#line 4 \"a.ch\"\nint z;\n#line 1 \"b.w\"\nint b;\n/*:1*/\n";

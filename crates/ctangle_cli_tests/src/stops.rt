@@ -1,9 +1,10 @@
 //! Runs that end with status 2 or 3: the line on standard error, and the files that stand.
-use crate::support::{check_only_output, folder_with, repeated, run, run_with_room};
+use crate::support::{check_only_output, folder_with, run, run_with_room};
 use std::alloc::Global;
 use std::process::Abort;
 use std::test::Fail;
 use tangle_folders::{FILE_LIMIT, MemoryFolder};
+use tangle_test_support::repeated;
 
 const WEB: &[u8] = b"@ A.\n@c\nint x;\n";
 

@@ -1,17 +1,12 @@
 //! What the tests share: folders and runs in memory.
 use ctangle_cli::run_ctangle;
-use std::alloc::{AllocError, Global};
+use std::alloc::Global;
 use std::process::Abort;
 use std::test::Fail;
 use tangle_folders::{MemoryFolder, MemorySink};
 
 /// Room for all that a test writes.
 pub(crate) const AMPLE: usize = 1_000_000;
-
-/// So many of one byte.
-pub(crate) fn repeated(alloc: Global, byte: u8, count: usize) -> Result<Vec<u8>, AllocError> {
-    vec![in alloc; byte; count]
-}
 
 /// A folder with these files.
 pub(crate) fn folder_with(alloc: Global, files: &[(&[u8], &[u8])]) -> Result<MemoryFolder, Fail> {

@@ -1,10 +1,11 @@
 //! Edits of started sessions: the outputs and faults behind each, and how many nodes were expanded for it.
-use crate::support::{Kind, check_faults, check_outputs, edit, start};
+use crate::support::{check_faults, check_outputs, start};
 use crate::webs::{ABBREVIATION, CYCLE, MACRO, ONE_NAME, TWO_BRANCHES, TWO_LINES};
 use std::alloc::Global;
 use std::process::Abort;
 use std::test::Fail;
 use tangle_session::Session;
+use tangle_test_support::{Kind, edit};
 
 /// A web, an edit of it, and the outputs, the faults and the last work behind it.
 struct Edited {

@@ -1,27 +1,15 @@
 //! Each growth of a start and of an edit refused in turn: the call says so, and all is as it was.
-use crate::support::{Kind, check_handed_back, edit, files_with, start, tell_all, told_project};
+use crate::support::{check_handed_back, start, tell_all, told_project};
 use crate::webs::{ABBREVIATION, CYCLE, TWO_BRANCHES, chain};
 use std::alloc::{AllocError, Global};
 use std::process::Abort;
 use std::test::Fail;
 use tangle_lines::{Edit, Files, Refusal, Roles};
 use tangle_session::Session;
+use tangle_test_support::{Kind, edit, end_refusals, files_with, refuse_growth};
 
 // More growths than any call makes here.
 const MOST: u32 = 10_000;
-
-// Refuses the nth growth from here on, none at 0, where the harness of `tests/` stands before the allocator, and says
-// whether it does. Without it no memory is so large, and nothing is refused.
-fn refuse_growth(alloc: Global, nth: u32) -> bool {
-    Vec::<u8>::with_capacity(alloc, (1 << 62) + nth as usize).is_ok()
-}
-
-// Ends the refusals, and says whether the last one never came.
-fn end_refusals(alloc: Global, is_harnessed: bool) -> bool {
-    let is_waiting = Vec::<u8>::with_capacity(alloc, 3 << 61).is_ok();
-    refuse_growth(alloc, 0);
-    is_waiting || !is_harnessed
-}
 
 // Applies the edit with this growth refused. It says whether none was, and the edit was made; else the session answers as before.
 fn edit_is_spared(

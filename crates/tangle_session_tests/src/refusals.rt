@@ -1,5 +1,5 @@
 //! Edits that a session refuses, and outputs that are none: all stays as it was.
-use crate::support::{AMPLE, Kind, edit, start, start_with, tell_all, write_output};
+use crate::support::{AMPLE, start, start_with, tell_all, write_output};
 use crate::webs::ONE_NAME;
 use std::alloc::Global;
 use std::process::Abort;
@@ -7,6 +7,7 @@ use std::test::Fail;
 use tangle_folders::MemorySink;
 use tangle_lines::Refusal;
 use tangle_session::Session;
+use tangle_test_support::{Kind, edit};
 
 // Edits of a web of five lines with a change file, and why they are refused.
 const REFUSED: [(Kind, &[u8], usize, &[u8], Refusal); 9] = [

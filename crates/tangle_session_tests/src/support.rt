@@ -1,23 +1,15 @@
 //! What the tests share: sessions, edits, and all that a session answers as text.
 use itoa::Buffer;
-use std::alloc::{AllocError, Global};
+use std::alloc::Global;
 use std::process::Abort;
 use std::test::Fail;
 use tangle_folders::MemorySink;
-use tangle_lines::{Edit, Files, Refusal, Roles, Sink, put, write_fault};
+use tangle_lines::{Files, Refusal, Roles, Sink, put, write_fault};
 use tangle_session::Session;
+use tangle_test_support::files_with;
 
 /// Room for all that a test writes.
 pub(crate) const AMPLE: usize = 10_000_000;
-
-/// A table of these files.
-pub(crate) fn files_with(alloc: Global, files: &[(&[u8], &[u8])]) -> Result<Files, Fail> {
-    let mut table = Files::new(alloc);
-    for (name, bytes) in files {
-        table.add(name, bytes)?;
-    }
-    Ok(table)
-}
 
 /// A session of these files, with the web `a.w`, this change file and the main file `a.c`.
 pub(crate) fn start_with(
@@ -36,35 +28,6 @@ pub(crate) fn start_with(
 /// A session of one file, the web `a.w`.
 pub(crate) fn start(alloc: Global, web: &[u8]) -> Result<Session, Fail> {
     start_with(alloc, &[(b"a.w", web)], None)
-}
-
-/// The kinds of edits.
-#[derive(Clone, Copy)]
-pub(crate) enum Kind {
-    Insert,
-    Remove,
-    Replace,
-    Create,
-    Discard,
-}
-
-/// An edit of this kind, of this file, at this line and with this text where it has one.
-pub(crate) fn edit(
-    alloc: Global,
-    kind: Kind,
-    file: &[u8],
-    at: usize,
-    text: &[u8],
-) -> Result<Edit, AllocError> {
-    let file = Vec::from_slice(alloc, file)?;
-    let text = Vec::from_slice(alloc, text)?;
-    Ok(match kind {
-        Kind::Insert => Edit::Insert { file, at, text },
-        Kind::Remove => Edit::Remove { file, at },
-        Kind::Replace => Edit::Replace { file, at, text },
-        Kind::Create => Edit::Create { file },
-        Kind::Discard => Edit::Discard { file },
-    })
 }
 
 // Tells a line.

@@ -1,6 +1,6 @@
 //! Weights, depths, uses and output files of webs.
-use crate::support::{add_sections, doubling};
 use crate::tangling::tangle;
+use crate::webs::{add_sections, doubling};
 use std::alloc::{AllocError, Global};
 use std::process::Abort;
 use std::test::Fail;

@@ -4,9 +4,8 @@ ghost use Rattle.tangle_names.specs.NameTable.{table_of};
 ghost use Rattle.tangle_expansion.specs.Outputs.{IsReady};
 ghost use Rattle.tangle_expansion.specs.Shapes.{Project};
 ghost use Rattle.tangle_graph.specs.Stores.{IsStoreOf};
-ghost use Rattle.tangle_tests.specs.Keeping.{KeepsWritable};
+ghost use Rattle.tangle_graph_tests.specs.Keeping.{KeepsWritable};
 
-use crate::support::{files_with, read};
 use std::alloc::Global;
 use std::test::Fail;
 use tangle_affected::expand_all;
@@ -17,6 +16,7 @@ use tangle_graph::Store;
 use tangle_lines::{NoMemory, Sink, Source, WriteFault};
 use tangle_names::NameTable;
 use tangle_scan::{Web, scan};
+use tangle_test_support::{files_with, read};
 
 /// What tangling of a web makes: its store, the expansions of its nodes, the numbers that their texts take, and which nodes were expanded.
 #[derive(Drop)]

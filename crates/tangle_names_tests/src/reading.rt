@@ -1,11 +1,10 @@
 //! Sources with inclusions and a change file.
 use crate::fault_lines::assert_faults;
-use crate::files::repeated;
-use crate::support::{files_with, read};
 use std::alloc::Global;
 use std::process::Abort;
 use std::test::Fail;
 use tangle_lines::{Files, Origin, Roles, Source};
+use tangle_test_support::{files_with, read, repeated};
 
 #[test]
 fn reading_stops_at_two_million_lines(rt: HostRuntime) -> Result<(), Fail> {
@@ -54,7 +53,7 @@ fn files_with_a_change(alloc: Global) -> Result<Files, Fail> {
         (b"b.w", b"int a;\n"),
         (b"a.ch", change),
     ];
-    files_with(alloc, &files)
+    Ok(files_with(alloc, &files)?)
 }
 
 #[test]

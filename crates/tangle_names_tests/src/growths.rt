@@ -1,29 +1,14 @@
 //! Each growth of a call refused in turn: the call says so, and leaves its object as it was.
 ghost use Rattle.std.specs.Prelude.{◌≡◌, true};
 ghost use Rattle.tangle_lines.specs.Roles.{fits};
-ghost use Rattle.tangle_names.specs.NameTable.{table_of};
 
-use crate::support::{files_with, read};
-use crate::tangling::tangle_web;
 use std::alloc::Global;
 use std::process::Abort;
 use std::test::Fail;
 use tangle_lines::{Files, NoMemory, Refusal, Roles, Source, read_source};
 use tangle_names::NameTable;
 use tangle_scan::{Web, scan};
-
-// Refuses the nth growth from here on, none at 0, where the harness of `tests/` stands before the allocator, and says
-// whether it does. Without it no memory is so large, and nothing is refused.
-pub(crate) fn refuse_growth(alloc: Global, nth: u32) -> bool {
-    Vec::<u8>::with_capacity(alloc, (1 << 62) + nth as usize).is_ok()
-}
-
-// Ends the refusals, and says whether the last one never came.
-pub(crate) fn end_refusals(alloc: Global, is_harnessed: bool) -> bool {
-    let is_waiting = Vec::<u8>::with_capacity(alloc, 3 << 61).is_ok();
-    refuse_growth(alloc, 0);
-    is_waiting || !is_harnessed
-}
+use tangle_test_support::{end_refusals, files_with, read, refuse_growth};
 
 // Whether the table has the file; else it has none.
 fn has_file(rt: &impl Abort, files: &Files) -> bool {
@@ -103,7 +88,7 @@ fn reading_is_spared(rt: &impl Abort, alloc: Global, files: &Files, roles: &Role
 fn faulty_files(alloc: Global) -> Result<Files, Fail> {
     let web = b"@i\n@i none.w\n@i a.w\nint a;\nint b;\n";
     let change = b"@z\n@x\nint a;\nint c;\n@y\nint z;\n@x\nno\n@y\n";
-    files_with(alloc, &[(b"a.w", web), (b"a.ch", change)])
+    Ok(files_with(alloc, &[(b"a.w", web), (b"a.ch", change)])?)
 }
 
 #[test]
@@ -173,53 +158,4 @@ fn each_growth_of_build_refused(rt: HostRuntime) -> Result<(), Fail> {
         }
     }
     Err(Fail::from("never built"))
-}
-
-fn count_outputs(
-    alloc: Global,
-    web: &Web,
-    table: &NameTable,
-) -> Result<(usize, usize, u64), NoMemory>
-    requires { table.now ≡ table_of web.now }
-{
-    let tangled = tangle_web(alloc, web, table)?;
-    let store = &tangled.store;
-    Ok((
-        store.outputs().len(),
-        store.faults().len(),
-        tangled.work.made(),
-    ))
-}
-
-// Builds the store and the numbers of a web of two outputs and a fault, and keeps the expansions of its three nodes, with this growth
-// refused, and says whether none was.
-fn tangling_is_spared(
-    rt: &impl Abort,
-    alloc: Global,
-    web: &Web,
-    table: &NameTable,
-    nth: u32,
-) -> bool
-    requires { table.now ≡ table_of web.now }
-{
-    let is_harnessed = refuse_growth(alloc, nth);
-    let counts = count_outputs(alloc, web, table);
-    let was_spared = end_refusals(alloc, is_harnessed);
-    assert_eq!(rt; matches!(counts, Ok((2, 1, 3))), was_spared);
-    was_spared
-}
-
-#[test]
-fn each_growth_of_tangling_refused(rt: HostRuntime) -> Result<(), Fail> {
-    let text = b"@ A.\n@d N 10\n@c\nx=@<v@>;\n@<w@>\n@ @<v@>=\n1\n@ @(b.h@>=\n@<v@>\n";
-    let files = files_with(rt.alloc(), &[(b"a.w", text)])?;
-    let source = read(rt.alloc(), &files, None)?;
-    let web = scan(rt.alloc(), &source)?;
-    let table = NameTable::build(rt.alloc(), &web)?;
-    for nth in 1..1000 {
-        if tangling_is_spared(&rt, rt.alloc(), &web, &table, nth) {
-            return Ok(());
-        }
-    }
-    Err(Fail::from("never tangled"))
 }

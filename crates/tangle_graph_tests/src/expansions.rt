@@ -2,7 +2,7 @@
 ghost use Rattle.std.specs.Prelude.{◌≡◌};
 ghost use Rattle.tangle_names.specs.NameTable.{table_of};
 
-use crate::support::{add_sections, files_with, read};
+use crate::webs::add_sections;
 use std::alloc::Global;
 use std::rc::Rc;
 use std::test::Fail;
@@ -12,6 +12,7 @@ use tangle_expansion::{
 use tangle_folders::MemorySink;
 use tangle_names::NameTable;
 use tangle_scan::{Web, scan};
+use tangle_test_support::{files_with, read};
 
 // Expands the name that has the piece of the same number, and keeps the expansion.
 fn expand_name(

@@ -1,4 +1,4 @@
-//! The tests of the crates up to the graph: what no clause of theirs says.
+//! The tests of the crates from the graph to the expansions of all nodes: what no clause of theirs says.
 //!
 //! They stand in a crate of their own, since a crate that has tests is proved once more for them.
 #![tactic(auto)]
@@ -6,13 +6,7 @@
 #[cfg(test)]
 mod digraphs;
 #[cfg(test)]
-mod edits;
-#[cfg(test)]
 mod expansions;
-#[cfg(test)]
-mod fault_lines;
-#[cfg(test)]
-mod files;
 #[cfg(test)]
 mod graph_faults;
 #[cfg(test)]
@@ -20,16 +14,8 @@ mod graphs;
 #[cfg(test)]
 mod growths;
 #[cfg(test)]
-mod messages;
-#[cfg(test)]
 mod outputs;
 #[cfg(test)]
-mod reading;
-#[cfg(test)]
-mod scanning;
-#[cfg(test)]
-mod section_names;
-#[cfg(test)]
-mod support;
-#[cfg(test)]
 mod tangling;
+#[cfg(test)]
+mod webs;

@@ -1,8 +1,10 @@
 //! The faults of the graphs of webs.
-use crate::fault_lines::assert_faults;
-use crate::support::doubling;
 use crate::tangling::tangle;
+use crate::webs::doubling;
+use std::alloc::Global;
+use std::process::Abort;
 use std::test::Fail;
+use tangle_test_support::lines_of;
 
 // Webs, and the lines of the faults of their graphs: a web without faults, an empty one, an abbreviation of two names, a cycle of two names
 // and a name in its place, a name that only reaches a cycle, undefined names, which are told once and at their first use, a file with the
@@ -49,11 +51,17 @@ const WEBS: [(&[u8], &[u8]); 12] = [
     ),
 ];
 
+// The faults of the graph of the web with this text have these lines.
+fn check_faults(rt: &impl Abort, alloc: Global, text: &[u8], lines: &[u8]) -> Result<(), Fail> {
+    let tangled = tangle(alloc, text)?;
+    assert!(rt; lines_of(alloc, tangled.store.faults())?.bytes() == lines);
+    Ok(())
+}
+
 #[test]
 fn faults_of_the_graphs_of_webs(rt: HostRuntime) -> Result<(), Fail> {
     for (text, lines) in &WEBS {
-        let tangled = tangle(rt.alloc(), text)?;
-        assert_faults(&rt, rt.alloc(), tangled.store.faults(), lines)?;
+        check_faults(&rt, rt.alloc(), text, lines)?;
     }
     Ok(())
 }
@@ -64,6 +72,5 @@ const TOO_LARGE: &[u8] =
 #[test]
 fn names_that_are_too_large(rt: HostRuntime) -> Result<(), Fail> {
     let text = doubling(rt.alloc())?;
-    let tangled = tangle(rt.alloc(), text.as_slice())?;
-    assert_faults(&rt, rt.alloc(), tangled.store.faults(), TOO_LARGE)
+    check_faults(&rt, rt.alloc(), text.as_slice(), TOO_LARGE)
 }

@@ -1,5 +1,5 @@
-use Rattle.tangle_tests.proofs.Keeping.{just_writable}
-use Rattle.tangle_tests.proofs.tangling.expand_writable.Goals as goal
+use Rattle.tangle_graph_tests.proofs.Keeping.{just_writable}
+use Rattle.tangle_graph_tests.proofs.tangling.expand_writable.Goals as goal
 
 pub returns : goal.returns
 returns c =

@@ -11,7 +11,7 @@ use Rattle.tangle_expansion.specs.declared.nodes.Node.{Node}
 use Rattle.tangle_expansion.specs.declared.nodes.Node.TheVariants.{Program, Name}
 use Rattle.tangle_graph.specs.Nodes.{IsNodeOf, number_in, entry}
 use Rattle.tangle_graph.specs.Stores.{StoreRead, IsNodeIn, IsStoreOf, is_expandable_at, title_in_store}
-use Rattle.tangle_tests.specs.Keeping.{KeepsWritable}
+use Rattle.tangle_graph_tests.specs.Keeping.{KeepsWritable}
 
 -- a node that has a flag is the store's
 node_in : (names : List (List ℕ)) (flags : List Bool) (node : Node) → entry false flags (number_in (length names) node) ≡ true → IsNodeOf names node

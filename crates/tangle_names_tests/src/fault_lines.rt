@@ -1,11 +1,11 @@
 //! What a fault's line reads like, and what of it stands where the stream takes no more.
-use crate::support::AMPLE;
 use std::alloc::Global;
 use std::io::{self, ErrorKind, Write};
 use std::process::Abort;
 use std::test::Fail;
 use tangle_folders::MemorySink;
 use tangle_lines::{Fault, FaultKind, IoSink, Sink, WriteFault, put, write_fault};
+use tangle_test_support::lines_of;
 
 // The lines of faults of every kind, as a user reads them. A fault in a file stands at line 7 of `a.w`.
 const PLAIN_FAULTS: [(FaultKind, &[u8]); 19] = [
@@ -111,20 +111,11 @@ const FAULTS_WITHOUT_A_PLACE: [(FaultKind, &[u8]); 2] = [
 ];
 
 fn assert_line(rt: &impl Abort, alloc: Global, fault: &Fault, line: &[u8]) {
-    let mut sink = MemorySink::new(alloc, AMPLE);
+    let mut sink = MemorySink::new(alloc, 1_000);
     let written = write_fault(fault, &mut sink);
     assert_eq!(rt; written, Ok(line.len() as u128));
     assert!(rt; sink.bytes() == line);
     assert_eq!(rt; fault.is_error(), !is_warning(line));
-}
-
-/// The lines of these faults, one after the other.
-pub(crate) fn lines_of(alloc: Global, faults: &[Fault]) -> Result<MemorySink, Fail> {
-    let mut sink = MemorySink::new(alloc, AMPLE);
-    for fault in faults {
-        write_fault(fault, &mut sink)?;
-    }
-    Ok(sink)
 }
 
 /// The lines of these faults are these bytes.

@@ -1,14 +1,9 @@
 //! The limits of files, from both sides.
-use crate::support::files_with;
-use std::alloc::{AllocError, Global};
+use std::alloc::Global;
 use std::process::Abort;
 use std::test::Fail;
 use tangle_lines::{Files, Refusal, is_file_name};
-
-// So many of one byte.
-pub(crate) fn repeated(alloc: Global, byte: u8, count: usize) -> Result<Vec<u8>, AllocError> {
-    vec![in alloc; byte; count]
-}
+use tangle_test_support::{files_with, repeated};
 
 fn assert_refused(rt: &impl Abort, files: &mut Files, name: &[u8], bytes: &[u8], refusal: Refusal) {
     let count = files.count();
@@ -24,7 +19,7 @@ fn assert_lines(rt: &impl Abort, files: &Files, name: &[u8], count: usize) -> Re
 // A table of one file, with so many of one byte.
 fn one_file(alloc: Global, byte: u8, count: usize) -> Result<Files, Fail> {
     let bytes = repeated(alloc, byte, count)?;
-    files_with(alloc, &[(b"full", bytes.as_slice())])
+    Ok(files_with(alloc, &[(b"full", bytes.as_slice())])?)
 }
 
 // A file `a.w` with so many line feeds, and so many bytes behind them, is refused.

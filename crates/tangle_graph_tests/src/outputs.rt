@@ -1,8 +1,8 @@
 //! The output files of webs, and how many nodes were expanded for them.
-ghost use Rattle.tangle_tests.specs.Keeping.{KeepsWritable};
+ghost use Rattle.tangle_graph_tests.specs.Keeping.{KeepsWritable};
 
-use crate::support::{AMPLE, doubling};
 use crate::tangling::{Tangled, tangle, write_output};
+use crate::webs::{AMPLE, doubling};
 use std::alloc::Global;
 use std::io::{self, Write};
 use std::process::Abort;

@@ -3,12 +3,12 @@ ghost use Rattle.std.specs.Prelude.{◌≡◌};
 ghost use Rattle.tangle_names.specs.NameTable.{table_of};
 
 use crate::fault_lines::assert_faults;
-use crate::support::{files_with, read};
 use std::alloc::Global;
 use std::process::Abort;
 use std::test::Fail;
 use tangle_names::{NameTable, Resolved};
 use tangle_scan::{Web, scan};
+use tangle_test_support::{files_with, read};
 
 pub(crate) fn assert_names(rt: &impl Abort, table: &NameTable, names: &[&[u8]]) {
     assert_eq!(rt; table.count(), names.len());

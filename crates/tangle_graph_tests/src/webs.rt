@@ -1,33 +1,9 @@
-//! What the tests share: files, sources and webs, all in memory.
+//! Webs of names that are numbered.
 use itoa::Buffer;
 use std::alloc::{AllocError, Global};
-use std::test::Fail;
-use tangle_lines::{Files, Roles, Source, read_source};
 
 /// Room for all that a test writes.
 pub(crate) const AMPLE: usize = 1_000_000;
-
-/// A table of these files.
-pub(crate) fn files_with(alloc: Global, files: &[(&[u8], &[u8])]) -> Result<Files, Fail> {
-    let mut table = Files::new(alloc);
-    for (name, bytes) in files {
-        table.add(name, bytes)?;
-    }
-    Ok(table)
-}
-
-/// The source of the web `a.w` of these files, with this change file.
-pub(crate) fn read<'a>(
-    alloc: Global,
-    files: &'a Files,
-    change: Option<&[u8]>,
-) -> Result<Source<'a>, Fail> {
-    let roles = Roles::new(alloc, b"a.w", change, b"a.c")?;
-    if !roles.fits(files) {
-        return Err(Fail::from("a file of the roles is not there"));
-    }
-    Ok(read_source(alloc, files, &roles)?)
-}
 
 // Adds these bytes and a number behind them.
 fn add_numbered(text: &mut Vec<u8>, front: &[u8], number: usize) -> Result<(), AllocError> {

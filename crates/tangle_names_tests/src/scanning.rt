@@ -2,11 +2,10 @@
 ghost use Rattle.std.specs.List.{All};
 ghost use Rattle.tangle_scan.specs.SourceOrder.{IsInRange};
 
-use crate::fault_lines::lines_of;
-use crate::support::{files_with, read};
 use std::alloc::Global;
 use std::test::Fail;
 use tangle_scan::{Item, Occurrence, OccurrenceRole, Web, scan};
+use tangle_test_support::{files_with, lines_of, read};
 
 // Webs, and what they are: sections, macros, pieces, names and faults. An item is its kind with its text: `w` a word, `s` a sign, `q` quoted, `v` verbatim,
 // `_` a blank, `/` a line end.

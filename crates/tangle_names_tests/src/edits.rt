@@ -1,0 +1,288 @@
+//! Edits of a table of files: that they can be made, their limits from both sides, and each growth refused in turn.
+use crate::files::many_files;
+use std::alloc::Global;
+use std::process::Abort;
+use std::test::Fail;
+use tangle_lines::{Edit, Files, Refusal};
+use tangle_test_support::{Kind, edit, end_refusals, files_with, refuse_growth, repeated};
+
+/// What is asked of a table: a kind of edit, the file, the line, and the text.
+type Request<'a> = (Kind, &'a [u8], usize, &'a [u8]);
+
+/// A file of a table: its name and its lines.
+type Content = (&'static [u8], &'static [&'static [u8]]);
+
+fn edit_of(alloc: Global, request: Request) -> Result<Edit, Fail> {
+    let (kind, file, at, text) = request;
+    Ok(edit(alloc, kind, file, at, text)?)
+}
+
+// Makes the edit.
+fn make(alloc: Global, files: &mut Files, request: Request) -> Result<(), Fail> {
+    files.edit(&edit_of(alloc, request)?)?;
+    Ok(())
+}
+
+// The table refuses the edit so.
+fn refuse(
+    rt: &impl Abort,
+    alloc: Global,
+    files: &mut Files,
+    request: Request,
+    refusal: Refusal,
+) -> Result<(), Fail> {
+    let edit = edit_of(alloc, request)?;
+    assert_eq!(rt; files.edit(&edit), Err(refusal));
+    Ok(())
+}
+
+// The file of this number has this name and these lines.
+fn assert_file(
+    rt: &impl Abort,
+    files: &Files,
+    number: usize,
+    name: &[u8],
+    wanted: &[&[u8]],
+) -> Result<(), Fail> {
+    assert!(rt; files.name(number).ok_or("the name")? == name);
+    let lines = files.lines(name).ok_or("the file")?;
+    assert_eq!(rt; lines.len(), wanted.len());
+    for (line, bytes) in lines.iter().zip(wanted) {
+        assert!(rt; line.bytes() == *bytes);
+    }
+    Ok(())
+}
+
+// These are the files of the table.
+fn assert_files(rt: &impl Abort, files: &Files, wanted: &[Content]) -> Result<(), Fail> {
+    assert_eq!(rt; files.count(), wanted.len());
+    for (number, (name, lines)) in wanted.iter().enumerate() {
+        assert_file(rt, files, number, name, lines)?;
+    }
+    Ok(())
+}
+
+// A web of five lines.
+const WEB: Content = (
+    b"a.w",
+    &[b"@ A.", b"@c", b"int x=@<v@>;", b"@ @<v@>=", b"1"],
+);
+
+// The web and a file of two lines.
+const TWO_FILES: [Content; 2] = [WEB, (b"b.w", &[b"b", b"c"])];
+
+fn two_files(alloc: Global) -> Result<Files, Fail> {
+    let web = b"@ A.\n@c\nint x=@<v@>;\n@ @<v@>=\n1\n";
+    Ok(files_with(alloc, &[(b"a.w", web), (b"b.w", b"b\nc\n")])?)
+}
+
+// The two files refuse the edit so, and stay as they were.
+fn check_refused(
+    rt: &impl Abort,
+    alloc: Global,
+    request: Request,
+    refusal: Refusal,
+) -> Result<(), Fail> {
+    let mut files = two_files(alloc)?;
+    refuse(rt, alloc, &mut files, request, refusal)?;
+    assert_files(rt, &files, &TWO_FILES)
+}
+
+// Edits that the two files refuse: lines that are not there, line feeds, files that are not there or are, and what is no file name.
+const REFUSED: [(Request<'static>, Refusal); 13] = [
+    ((Kind::Insert, b"a.w", 7, b"x"), Refusal::NoSuchLine),
+    ((Kind::Insert, b"a.w", 0, b"x"), Refusal::NoSuchLine),
+    ((Kind::Remove, b"a.w", 6, b""), Refusal::NoSuchLine),
+    ((Kind::Replace, b"a.w", 9, b"x\ny"), Refusal::NoSuchLine),
+    ((Kind::Insert, b"a.w", 1, b"x\ny"), Refusal::BadLine),
+    ((Kind::Replace, b"a.w", 5, b"\n"), Refusal::BadLine),
+    ((Kind::Remove, b"zz", 1, b""), Refusal::UnknownFile),
+    ((Kind::Insert, b"zz", 9, b"\n"), Refusal::UnknownFile),
+    ((Kind::Discard, b"zz", 0, b""), Refusal::UnknownFile),
+    ((Kind::Create, b"a.w", 0, b""), Refusal::FileExists),
+    ((Kind::Create, b"", 0, b""), Refusal::BadName),
+    ((Kind::Discard, b"a\nw", 0, b""), Refusal::BadName),
+    ((Kind::Replace, b"", 9, b"\n"), Refusal::BadName),
+];
+
+#[test]
+fn edits_that_are_refused(rt: HostRuntime) -> Result<(), Fail> {
+    for (request, refusal) in &REFUSED {
+        check_refused(&rt, rt.alloc(), *request, *refusal)?;
+    }
+    Ok(())
+}
+
+// A line feed counts before the length.
+#[test]
+fn a_long_text_with_a_line_feed(rt: HostRuntime) -> Result<(), Fail> {
+    let mut long = repeated(rt.alloc(), b'x', 65_536)?;
+    long.push(b'\n')?;
+    let request = (Kind::Insert, b"a.w".as_slice(), 1, long.as_slice());
+    check_refused(&rt, rt.alloc(), request, Refusal::BadLine)
+}
+
+// Edits that are made of the two files in turn, and all files behind each: insertions behind the last line and before the first, a
+// replacement, a removal, a new file, one that is discarded, and a line that comes and goes.
+const MADE: [(Request<'static>, &[Content]); 8] = [
+    (
+        (Kind::Insert, b"b.w", 3, b"% end  "),
+        &[WEB, (b"b.w", &[b"b", b"c", b"% end"])],
+    ),
+    (
+        (Kind::Insert, b"b.w", 1, b"  "),
+        &[WEB, (b"b.w", &[b"", b"b", b"c", b"% end"])],
+    ),
+    (
+        (Kind::Replace, b"b.w", 3, b" d "),
+        &[WEB, (b"b.w", &[b"", b"b", b" d", b"% end"])],
+    ),
+    (
+        (Kind::Remove, b"b.w", 2, b""),
+        &[WEB, (b"b.w", &[b"", b" d", b"% end"])],
+    ),
+    (
+        (Kind::Create, b"c.w", 0, b""),
+        &[WEB, (b"b.w", &[b"", b" d", b"% end"]), (b"c.w", &[])],
+    ),
+    (
+        (Kind::Discard, b"a.w", 0, b""),
+        &[(b"b.w", &[b"", b" d", b"% end"]), (b"c.w", &[])],
+    ),
+    (
+        (Kind::Insert, b"c.w", 1, b"c"),
+        &[(b"b.w", &[b"", b" d", b"% end"]), (b"c.w", &[b"c"])],
+    ),
+    (
+        (Kind::Remove, b"c.w", 1, b""),
+        &[(b"b.w", &[b"", b" d", b"% end"]), (b"c.w", &[])],
+    ),
+];
+
+#[test]
+fn edits_that_are_made(rt: HostRuntime) -> Result<(), Fail> {
+    let mut files = two_files(rt.alloc())?;
+    for (request, wanted) in &MADE {
+        make(rt.alloc(), &mut files, *request)?;
+        assert_files(&rt, &files, wanted)?;
+    }
+    Ok(())
+}
+
+#[test]
+fn edit_of_a_copy(rt: HostRuntime) -> Result<(), Fail> {
+    let files = two_files(rt.alloc())?;
+    let mut copy = files.copy()?;
+    make(rt.alloc(), &mut copy, (Kind::Replace, b"b.w", 1, b"x"))?;
+    assert_files(&rt, &files, &TWO_FILES)?;
+    assert_files(&rt, &copy, &[WEB, (b"b.w", &[b"x", b"c"])])
+}
+
+#[test]
+fn longest_text(rt: HostRuntime) -> Result<(), Fail> {
+    let line = repeated(rt.alloc(), b'x', 65_535)?;
+    let mut long = line.clone()?;
+    long.extend_from_slice(b"   ")?;
+    let mut files = two_files(rt.alloc())?;
+    make(rt.alloc(), &mut files, (Kind::Insert, b"b.w", 2, &long))?;
+    assert_file(&rt, &files, 1, b"b.w", &[b"b", &line, b"c"])
+}
+
+#[test]
+fn a_text_that_is_too_long(rt: HostRuntime) -> Result<(), Fail> {
+    let mut long = repeated(rt.alloc(), b' ', 65_535)?;
+    long.push(b'x')?;
+    let refusal = Refusal::LineTooLong;
+    check_refused(&rt, rt.alloc(), (Kind::Insert, b"b.w", 2, &long), refusal)?;
+    check_refused(&rt, rt.alloc(), (Kind::Replace, b"b.w", 2, &long), refusal)
+}
+
+// A file of the most lines refuses one more, and first a line that is too long.
+fn refuse_more_lines(rt: &impl Abort, alloc: Global, files: &mut Files) -> Result<(), Fail> {
+    let one_more = (Kind::Insert, b"a.w".as_slice(), 1_000_001, b"x".as_slice());
+    refuse(rt, alloc, files, one_more, Refusal::TooManyLines)?;
+    let long = repeated(alloc, b'x', 65_536)?;
+    let too_long = (Kind::Insert, b"a.w".as_slice(), 1, long.as_slice());
+    refuse(rt, alloc, files, too_long, Refusal::LineTooLong)
+}
+
+// Edits that keep the most lines.
+const AMONG_MOST_LINES: [Request<'static>; 3] = [
+    (Kind::Replace, b"a.w", 1_000_000, b"y"),
+    (Kind::Remove, b"a.w", 1, b""),
+    (Kind::Insert, b"a.w", 1_000_000, b"x"),
+];
+
+#[test]
+fn most_lines(rt: HostRuntime) -> Result<(), Fail> {
+    let text = repeated(rt.alloc(), b'\n', 1_000_000)?;
+    let mut files = files_with(rt.alloc(), &[(b"a.w", text.as_slice())])?;
+    refuse_more_lines(&rt, rt.alloc(), &mut files)?;
+    for request in &AMONG_MOST_LINES {
+        make(rt.alloc(), &mut files, *request)?;
+    }
+    assert_eq!(rt; files.lines(b"a.w").ok_or("the file")?.len(), 1_000_000);
+    Ok(())
+}
+
+// Behind 255 files: the last that goes in, one more, one that is there, and room for one more.
+fn fill(rt: &impl Abort, alloc: Global, files: &mut Files) -> Result<(), Fail> {
+    let one_more = (Kind::Create, b"b.w".as_slice(), 0, b"".as_slice());
+    let again = (Kind::Create, b"a.w".as_slice(), 0, b"".as_slice());
+    make(alloc, files, again)?;
+    refuse(rt, alloc, files, one_more, Refusal::TooManyFiles)?;
+    refuse(rt, alloc, files, again, Refusal::FileExists)?;
+    assert_eq!(rt; files.count(), 256);
+    make(alloc, files, (Kind::Discard, b"f", 0, b""))?;
+    make(alloc, files, one_more)
+}
+
+#[test]
+fn most_files(rt: HostRuntime) -> Result<(), Fail> {
+    let mut files = many_files(rt.alloc())?;
+    fill(&rt, rt.alloc(), &mut files)?;
+    assert_eq!(rt; files.count(), 256);
+    Ok(())
+}
+
+// Makes the edit with this growth refused, and says whether none was.
+fn edit_is_spared(rt: &impl Abort, alloc: Global, edit: &Edit, nth: u32) -> Result<bool, Fail> {
+    let mut files = two_files(alloc)?;
+    let is_harnessed = refuse_growth(alloc, nth);
+    let refusal = files.edit(edit).err();
+    let was_spared = end_refusals(alloc, is_harnessed);
+    if was_spared {
+        assert_eq!(rt; refusal, None);
+    } else {
+        assert_eq!(rt; refusal, Some(Refusal::NoMemory));
+        assert_files(rt, &files, &TWO_FILES)?;
+    }
+    Ok(was_spared)
+}
+
+fn refuse_each_growth(rt: &impl Abort, alloc: Global, request: Request) -> Result<(), Fail> {
+    let edit = edit_of(alloc, request)?;
+    for nth in 1..100 {
+        if edit_is_spared(rt, alloc, &edit, nth)? {
+            return Ok(());
+        }
+    }
+    Err(Fail::from("never made"))
+}
+
+// An edit of each kind.
+const EACH_KIND: [Request<'static>; 5] = [
+    (Kind::Insert, b"a.w", 2, b"% top"),
+    (Kind::Remove, b"a.w", 5, b""),
+    (Kind::Replace, b"a.w", 1, b"@ B."),
+    (Kind::Create, b"c.w", 0, b""),
+    (Kind::Discard, b"a.w", 0, b""),
+];
+
+#[test]
+fn each_growth_of_edits_refused(rt: HostRuntime) -> Result<(), Fail> {
+    for request in &EACH_KIND {
+        refuse_each_growth(&rt, rt.alloc(), *request)?;
+    }
+    Ok(())
+}
