@@ -5,7 +5,7 @@ which says by computing alone what the depths, weights and texts of the web's no
 usage: tests/computed_webs.py FOLDER FIRST COUNT
 
 FOLDER is a new folder beside the other crates, and FIRST the seed to begin with. In crates.txt stands
-    FOLDER: tangle_graph digraph tangle_expansion tangle_names tangle_scan tangle_lexer tangle_lines
+    FOLDER: tangle_graph digraph tangle_expansion tangle_names tangle_scan tangle_lexer tangle_lines tangle_files
 and 'rt check' in the folder says whether all lemmas hold. The gate does not do this.
 
 Of a node that reaches a name that contains itself only the depth is computed. Left out are webs of more than 60 lines, and those

@@ -7,10 +7,10 @@ use Rattle.std.specs.Str.{bytes_eq}
 use Rattle.tangle_lines.specs.declared.faults.FaultKind.TheVariants.{SourceTooLong}
 use Rattle.tangle_lines.specs.Faults.{fault_at}
 use Rattle.tangle_lines.specs.Inclusion.{included_name}
-use Rattle.tangle_lines.specs.Lines.{FileTable, lines_at, lines_of, number_of}
+use Rattle.tangle_files.specs.Lines.{FileTable, lines_at, lines_of, number_of}
 use Rattle.tangle_lines.specs.Reading.{Reads, WaitingLine, after, change_here, line_limit, line_step, named, plain_step, reads, reads_in, waiting_lines}
 use Rattle.tangle_lines.specs.Reading.Step.{Ends}
-use Rattle.tangle_lines.specs.Roles.{RoleNames}
+use Rattle.tangle_files.specs.Roles.{RoleNames}
 use Rattle.ctangle_cli.specs.Loading.{missed_in, missing_of}
 use Rattle.ctangle_cli.proofs.LoadLemmas.{there_as_has}
 

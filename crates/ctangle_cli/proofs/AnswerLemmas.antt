@@ -3,13 +3,13 @@ use Rattle.std.proofs.Common.{◌≡◌, inl, inr, ℕ, true, List, ◌++◌, Op
 use Rattle.std.specs.Prelude.{IfNone, IfSome, IsOkUnless, OnErr, OnOk}
 use Rattle.std.specs.Option.{option_map}
 use Rattle.tangle_streams.specs.Streams.{Stream}
-use Rattle.tangle_lines.specs.declared.edits.Edit.{Edit}
-use Rattle.tangle_lines.specs.declared.edits.Edit.TheVariants.{Insert, Replace, Remove, Create, Discard}
-use Rattle.tangle_lines.specs.declared.refusal.Refusal.{Refusal}
-use Rattle.tangle_lines.specs.declared.refusal.Refusal.TheVariants.{BadName, FileExists, TooManyFiles, LineTooLong, TooManyLines, NoMemory, UnknownFile, NoSuchLine, BadLine, NoWeb, NoChange, RoleFile, NoOutput, WriteFault}
+use Rattle.tangle_files.specs.declared.edits.Edit.{Edit}
+use Rattle.tangle_files.specs.declared.edits.Edit.TheVariants.{Insert, Replace, Remove, Create, Discard}
+use Rattle.tangle_files.specs.declared.refusal.Refusal.{Refusal}
+use Rattle.tangle_files.specs.declared.refusal.Refusal.TheVariants.{BadName, FileExists, TooManyFiles, LineTooLong, TooManyLines, NoMemory, UnknownFile, NoSuchLine, BadLine, NoWeb, NoChange, RoleFile, NoOutput, WriteFault}
 use Rattle.tangle_script.specs.Requests.{is_edit}
 use Rattle.tangle_script.specs.Script.{Replies, WritesText}
-use Rattle.tangle_lines.specs.Edited.{edited}
+use Rattle.tangle_files.specs.Edited.{edited}
 use Rattle.tangle_session.specs.Edits.{session_refusal}
 use Rattle.tangle_session.specs.Files.{web_at}
 use Rattle.tangle_session.specs.Sessions.{ListsAffected, SessionRead}

@@ -13,10 +13,10 @@ use Rattle.std.proofs.lemmas.List.Elements.{All-append, All-cons, All-nil, All-w
 use Rattle.std.proofs.lemmas.Map.Keys.{IsDistinct-push}
 use Rattle.std.proofs.lemmas.Map.Views.{Contains-from_any}
 use Rattle.std.proofs.lemmas.Slice.Eq.{bytes_eq-Decides}
-use Rattle.tangle_lines.specs.declared.refusal.Refusal.{Refusal}
-use Rattle.tangle_lines.specs.Lines.{FileTable, cut}
-use Rattle.tangle_lines.specs.Adding.{add_refusal, has_file, with_file}
-use Rattle.tangle_lines.specs.Roles.{RoleNames}
+use Rattle.tangle_files.specs.declared.refusal.Refusal.{Refusal}
+use Rattle.tangle_files.specs.Lines.{FileTable, cut}
+use Rattle.tangle_files.specs.Adding.{add_refusal, has_file, with_file}
+use Rattle.tangle_files.specs.Roles.{RoleNames}
 use Rattle.tangle_folders.specs.Folder.{File, file_limit, with_asked}
 use Rattle.ctangle_cli.specs.Asking.{AsksForAll, AsksOnce, IsWanted}
 use Rattle.ctangle_cli.specs.Tries.{AsksOn, IsTriedIn, RoundsOnce, StopsAsking, Tries, TriesAll, TriesOnce, TriesSince, TriesStay, is_tried, named_in}

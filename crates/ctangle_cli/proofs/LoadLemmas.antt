@@ -10,11 +10,11 @@ use borrow.Author.Tests.{ltb-true, ltb-false, leb-false}
 use Rattle.std.proofs.lemmas.Bool.{ne_eqb, eq-eqb, eqb-false, lt-ltb}
 use Rattle.std.specs.declared.vec.Vec.{Vec}
 use Rattle.std.specs.Global.{Global}
-use Rattle.tangle_lines.specs.declared.refusal.Refusal.{Refusal}
-use Rattle.tangle_lines.specs.declared.refusal.Refusal.TheVariants.{NoMemory as NoRoom}
-use Rattle.tangle_lines.specs.Lines.{FileTable, cut, lines_of}
-use Rattle.tangle_lines.specs.Adding.{add_refusal, with_file, has_file, is_name}
-use Rattle.tangle_lines.specs.Roles.{RoleNames, is_there, is_there_if_any, fits}
+use Rattle.tangle_files.specs.declared.refusal.Refusal.{Refusal}
+use Rattle.tangle_files.specs.declared.refusal.Refusal.TheVariants.{NoMemory as NoRoom}
+use Rattle.tangle_files.specs.Lines.{FileTable, cut, lines_of}
+use Rattle.tangle_files.specs.Adding.{add_refusal, with_file, has_file, is_name}
+use Rattle.tangle_files.specs.Roles.{RoleNames, is_there, is_there_if_any, fits}
 use Rattle.tangle_streams.specs.Streams.{Failed}
 use Rattle.tangle_folders.specs.Folder.{File, Reads, bytes_of, file_limit, with_asked}
 use Rattle.ctangle_cli.specs.Loading.{AreAbsent, missing_of, Ending, Grows, IsEnding, Loaded, LoadsTo, StopsFor, TellsLastAsked, add_bytes, add_present, after_round, and_then, refused_as, rounds_from, rounds_in, bad_name, load_of, load_unless, unless_refused, with_inclusion, with_inclusions, with_round, with_wanted}

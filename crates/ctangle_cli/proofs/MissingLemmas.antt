@@ -3,10 +3,10 @@ use Rattle.std.proofs.Common.{◌≡◌, ◌∙◌, ◌⊎◌, inl, inr, ℕ, ze
 use Rattle.std.specs.Prelude.{◌==◌, nat_lt}
 use Rattle.std.proofs.lemmas.List.Elements.{All-cons, All-nil, Contains-append_cases, All-contains}
 use Rattle.std.proofs.lemmas.Bool.{eqb-true, eqb-false}
-use Rattle.tangle_lines.specs.declared.refusal.Refusal.{Refusal}
-use Rattle.tangle_lines.specs.Lines.{FileTable, cut}
-use Rattle.tangle_lines.specs.Adding.{add_refusal, with_file, has_file, is_name}
-use Rattle.tangle_lines.specs.Roles.{RoleNames}
+use Rattle.tangle_files.specs.declared.refusal.Refusal.{Refusal}
+use Rattle.tangle_files.specs.Lines.{FileTable, cut}
+use Rattle.tangle_files.specs.Adding.{add_refusal, with_file, has_file, is_name}
+use Rattle.tangle_files.specs.Roles.{RoleNames}
 use Rattle.tangle_folders.specs.Folder.{File, bytes_of, file_limit}
 use Rattle.ctangle_cli.specs.Loading.{Grows, Loaded, add_bytes, add_present, after_round, and_then, bad_name, load_of, load_unless, missing_of, rounds_from, rounds_in, unless_refused, with_change, with_inclusion, with_inclusions, with_round, with_wanted}
 use Rattle.ctangle_cli.specs.Loading.Ending.{Unreadable}

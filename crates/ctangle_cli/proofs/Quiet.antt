@@ -4,7 +4,7 @@ use Rattle.std.specs.Prelude.{codes}
 use Rattle.std.specs.Io.KnownBytes.{Appends}
 use Rattle.tangle_streams.specs.Streams.{Stream, Failed}
 use Rattle.tangle_lines.specs.Faults.{Finding, is_error}
-use Rattle.tangle_lines.specs.Roles.{RoleNames}
+use Rattle.tangle_files.specs.Roles.{RoleNames}
 use Rattle.tangle_folders.specs.declared.folder.FolderFault.{FolderFault}
 use Rattle.tangle_folders.specs.declared.folder.FolderFault.TheVariants.{Missing, TooBig, Failed as IsFailed, NoMemory as NoRoom}
 use Rattle.ctangle_cli.specs.Loading.{Ending}

@@ -8,8 +8,8 @@ use Rattle.std.proofs.Common.{zero, ◌≢◌, slice_index_or, drop}
 use Rattle.std.proofs.lemmas.List.{take-append-drop}
 use Rattle.tangle_lines.specs.Faults.{Finding}
 use Rattle.tangle_lines.specs.FaultText.{fault_line}
-use Rattle.tangle_lines.specs.Lines.{FileTable}
-use Rattle.tangle_lines.specs.Roles.{RoleNames}
+use Rattle.tangle_files.specs.Lines.{FileTable}
+use Rattle.tangle_files.specs.Roles.{RoleNames}
 use Rattle.tangle_folders.specs.Folder.{File}
 use Rattle.tangle_folders.specs.declared.folder.FolderFault.{FolderFault}
 use Rattle.tangle_folders.specs.declared.folder.FolderFault.TheVariants.{NoMemory}

@@ -6,11 +6,11 @@ use Rattle.std.specs.Fmt.{digits}
 use Rattle.tangle_lines.specs.declared.faults.FaultKind.{FaultKind}
 use Rattle.tangle_lines.specs.declared.faults.FaultKind.TheVariants.{ChangeMismatch, ChangeUnused, EmptyOld, StrayMark, MissingY, MissingZ, IncludeNoName, IncludeMissing, IncludeTooDeep}
 use Rattle.tangle_lines.specs.declared.faults.FaultKind.TheVariants.{CodeInC, MisplacedH, MacroName, ControlText, StringAt, StringEnd, VerbatimEnd, AsciiBad, CommentEnd, NameEnd, NameEquals, NoFullName, PrefixName, Undefined, Unused, NoProgram}
-use Rattle.tangle_lines.specs.Lines.{FileTable, cut}
+use Rattle.tangle_files.specs.Lines.{FileTable, cut}
 use Rattle.tangle_lines.specs.Faults.{Finding, Spot, fault_at, fault_about, fault_counting, fault_unplaced}
 use Rattle.tangle_lines.specs.Reading.{reads_in}
 use Rattle.tangle_lexer.specs.Steps.{tokens_from, lexeme, names_from}
-use Rattle.tangle_lines.specs.Roles.{RoleNames}
+use Rattle.tangle_files.specs.Roles.{RoleNames}
 use Rattle.tangle_names.specs.NameTable.{table_of}
 use Rattle.tangle_expansion.specs.Limits.{levels, heaviest}
 use Rattle.tangle_graph.specs.Faults.{graph_faults}

@@ -11,8 +11,8 @@ use Rattle.std.proofs.Common.{◌≢◌, sym, inl}
 use Rattle.std.proofs.lemmas.Slice.Eq.{bytes_eq-Decides}
 use Rattle.std.proofs.lemmas.Map.Keys.{IsDistinct-head, IsDistinct-tail}
 use Rattle.tangle_streams.specs.Streams.{Stream}
-use Rattle.tangle_lines.specs.declared.refusal.Refusal.{Refusal}
-use Rattle.tangle_lines.specs.declared.refusal.Refusal.TheVariants as refusal
+use Rattle.tangle_files.specs.declared.refusal.Refusal.{Refusal}
+use Rattle.tangle_files.specs.declared.refusal.Refusal.TheVariants as refusal
 use Rattle.tangle_session.specs.Writes.{WritesOutput}
 use Rattle.tangle_folders.specs.declared.folder.FolderFault.TheVariants.{Missing, NoMemory, TooBig, Failed as IsFailed}
 use Rattle.ctangle_cli.specs.Writing.{AddsPart}

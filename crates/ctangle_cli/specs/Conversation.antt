@@ -2,12 +2,12 @@
 use Rattle.std.specs.Prelude.{◌≡◌, ℕ, Bool, List, ◌++◌, codes, decimal, length, Option, None, Some, Result, Ok, Err}
 use Rattle.std.specs.List.{list_any}
 use Rattle.tangle_lines.specs.Faults.{Finding, is_error}
-use Rattle.tangle_lines.specs.declared.edits.Edit.{Edit}
-use Rattle.tangle_lines.specs.declared.edits.Edit.TheVariants as edit
-use Rattle.tangle_lines.specs.declared.refusal.Refusal.{Refusal}
+use Rattle.tangle_files.specs.declared.edits.Edit.{Edit}
+use Rattle.tangle_files.specs.declared.edits.Edit.TheVariants as edit
+use Rattle.tangle_files.specs.declared.refusal.Refusal.{Refusal}
 use Rattle.tangle_script.specs.Requests.{Request}
 use Rattle.tangle_script.specs.Requests.Request.{Insert, Replace, Remove, Create, Discard, Show, Faults, Work, Quit, BadCommand}
-use Rattle.tangle_lines.specs.Edited.{edited}
+use Rattle.tangle_files.specs.Edited.{edited}
 use Rattle.tangle_session.specs.Edits.{session_refusal}
 use Rattle.tangle_session.specs.Files.{web_at}
 use Rattle.tangle_session.specs.Sessions.{ListsAffected, SessionRead}

@@ -1,8 +1,8 @@
 -- The lines that the programs write on the error stream.
 use Rattle.std.specs.Prelude.{◌≡◌, ◌<◌, length, take, ℕ, List, [], ◌∷◌, ◌++◌, codes, if◌then◌else◌}
 use Rattle.std.specs.Io.KnownBytes.{Appends}
-use Rattle.tangle_lines.specs.declared.refusal.Refusal.{Refusal}
-use Rattle.tangle_lines.specs.declared.refusal.Refusal.TheVariants.{BadName, FileExists, TooManyFiles, LineTooLong, TooManyLines, NoMemory, UnknownFile, NoSuchLine, BadLine, NoWeb, NoChange, RoleFile, NoOutput, WriteFault}
+use Rattle.tangle_files.specs.declared.refusal.Refusal.{Refusal}
+use Rattle.tangle_files.specs.declared.refusal.Refusal.TheVariants.{BadName, FileExists, TooManyFiles, LineTooLong, TooManyLines, NoMemory, UnknownFile, NoSuchLine, BadLine, NoWeb, NoChange, RoleFile, NoOutput, WriteFault}
 use Rattle.tangle_lines.specs.Faults.{Finding, is_error}
 use Rattle.tangle_lines.specs.FaultText.{fault_line}
 use Rattle.tangle_streams.specs.Streams.{Stream, Failed}

@@ -2,9 +2,9 @@
 use Rattle.std.specs.Prelude.{◌≡◌, ◌||◌, ℕ, Bool, true, List, [], ◌∷◌, ◌++◌, Option, None, Some, IfSome, All, Contains}
 use Rattle.std.specs.List.{IsDistinct, list_any}
 use Rattle.std.specs.Str.{bytes_eq}
-use Rattle.tangle_lines.specs.Adding.{has_file, is_name}
-use Rattle.tangle_lines.specs.Lines.{FileTable}
-use Rattle.tangle_lines.specs.Roles.{RoleNames}
+use Rattle.tangle_files.specs.Adding.{has_file, is_name}
+use Rattle.tangle_files.specs.Lines.{FileTable}
+use Rattle.tangle_files.specs.Roles.{RoleNames}
 use Rattle.ctangle_cli.specs.Asking.{AsksOnce, IsWanted}
 
 -- the change file, if there is one

@@ -2,7 +2,7 @@
 use Rattle.std.specs.Prelude.{ℕ, Bool, false, ◌==◌, ◌||◌, ◌&&◌, not, nat_lt, length, filter, List, [], ◌∷◌, ◌++◌, codes, Option, None, Some, if◌then◌else◌}
 use Rattle.std.specs.List.{list_any, after_last, before_last}
 use Rattle.std.specs.Str.{bytes_eq}
-use Rattle.tangle_lines.specs.Roles.{RoleNames}
+use Rattle.tangle_files.specs.Roles.{RoleNames}
 
 -- a word of two bytes or more that begins with a hyphen (45) or a plus sign (43)
 abbrev pub is_flag : List ℕ → Bool

@@ -1,7 +1,7 @@
 -- The files of a session in the folder, and what of one was created.
 use Rattle.std.specs.Prelude.{◌≡◌, ◌⊎◌, ℕ, List, [], ◌∷◌, Option, take, unwrap_or}
-use Rattle.tangle_lines.specs.Lines.{FileTable}
-use Rattle.tangle_lines.specs.Roles.{RoleNames}
+use Rattle.tangle_files.specs.Lines.{FileTable}
+use Rattle.tangle_files.specs.Roles.{RoleNames}
 use Rattle.tangle_session.specs.Tangle.{output_at}
 use Rattle.tangle_folders.specs.Folder.{File, with_created}
 

@@ -1,9 +1,9 @@
 //! Laws of loading, which hold of each folder that tells its files, and of the names of outputs.
 ghost use Rattle.std.specs.Prelude.{◌≡◌, ◌≢◌, ◌⊎◌, ℕ, List, None, Ok, Err, Contains, length, map, false};
 ghost use Rattle.tangle_folders.specs.Folder.{File, bytes_of};
-ghost use Rattle.tangle_lines.specs.Adding.{has_file, is_name};
-ghost use Rattle.tangle_lines.specs.Lines.{FileTable};
-ghost use Rattle.tangle_lines.specs.Roles.{RoleNames};
+ghost use Rattle.tangle_files.specs.Adding.{has_file, is_name};
+ghost use Rattle.tangle_files.specs.Lines.{FileTable};
+ghost use Rattle.tangle_files.specs.Roles.{RoleNames};
 ghost use Rattle.std.specs.List.{IsDistinct};
 ghost use Rattle.std.specs.Str.{bytes_eq};
 ghost use Rattle.tangle_session.specs.Tangle.{outputs_of};

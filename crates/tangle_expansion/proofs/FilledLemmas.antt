@@ -2,7 +2,7 @@
 use Rattle.std.proofs.Common.{◌<◌, ◌≡◌, ◌∙◌, ℕ, ◌+◌, Bool, true, false, List, [], ◌∷◌, ◌++◌, map, length, refl, ap, sym, append-nil, inl, inr}
 use Rattle.std.specs.Prelude.{if◌then◌else◌, slice_index_or, decimal}
 use Rattle.std.proofs.lemmas.Grind.{flat_map-append}
-use Rattle.tangle_lines.specs.Bytes.{space}
+use Rattle.tangle_files.specs.Bytes.{space}
 use Rattle.tangle_scan.specs.declared.items.Item.{Item}
 use Rattle.tangle_scan.specs.declared.items.Item.TheVariants as item
 use Rattle.tangle_scan.specs.Rules.{span_text}

@@ -3,7 +3,7 @@ use Rattle.std.proofs.Common.{◌≡◌, ◌∙◌, ℕ, ◌+◌, ◌<◌, ◌�
 use Rattle.std.specs.Prelude.{if◌then◌else◌}
 use Rattle.std.proofs.lemmas.List.{at_drop_all}
 use Rattle.tangle_expansion.specs.Shapes.{Title}
-use Rattle.tangle_lines.specs.Bytes.{space}
+use Rattle.tangle_files.specs.Bytes.{space}
 use Rattle.tangle_expansion.specs.Flat.{Part, Byte, Opening, MarkOf, Closing, AllMacros}
 use Rattle.tangle_expansion.specs.Numbers.{NumbersRead, text}
 use Rattle.tangle_expansion.specs.Meaning.{bytes_between, plan_flat, is_use, pieces_passed, marks_passed, bytes_passed, own_parts, before_use, Rest, behind_use}

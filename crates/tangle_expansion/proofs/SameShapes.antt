@@ -1,6 +1,6 @@
 -- What a node expands to follows from the shapes that it reaches.
 use Rattle.std.proofs.Common.{◌≡◌, ◌∙◌, ℕ, ◌+◌, ◌<◌, ◌≤◌, zero, suc, min, List, [], ◌∷◌, ◌++◌, refl, ap, sym, inl, inr, arith}
-use Rattle.tangle_lines.specs.Bytes.{space}
+use Rattle.tangle_files.specs.Bytes.{space}
 use Rattle.tangle_expansion.specs.Shapes.{Title, Named, ShapeItem, Written, Mark, Macros, Use, NoUse, Shape, Project, IsUseOf, UsesInPiece, UsesInShape, Uses, Reaches, here, on, ContainsItself}
 use Rattle.tangle_expansion.specs.Flat.{Part, Byte, Opening, MarkOf, marks_behind, item_flat, items_flat, pieces_flat, flat, item_weight, items_weight, pieces_weight, weight, item_depth, items_depth, pieces_depth, depth}
 

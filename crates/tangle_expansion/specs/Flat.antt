@@ -1,6 +1,6 @@
 -- What a node expands to, how much that is, and how deep its uses go.
 use Rattle.std.specs.Prelude.{ℕ, ◌+◌, zero, suc, max, List, [], ◌∷◌, ◌++◌, length, map}
-use Rattle.tangle_lines.specs.Bytes.{space}
+use Rattle.tangle_files.specs.Bytes.{space}
 use Rattle.tangle_expansion.specs.Shapes.{Title, Named, ShapeItem, Written, Mark, Macros, Use, NoUse, Shape, Project}
 
 -- A part of an expansion: one byte, or an opening, a mark or a closing, which the node, the number of its piece and that of the mark

@@ -1,6 +1,6 @@
 -- What the pieces of a web put into a plan.
 use Rattle.std.specs.Prelude.{ℕ, ◌+◌, Bool, if◌then◌else◌, List, [], ◌∷◌, ◌++◌, decimal, map, slice_index_or, None}
-use Rattle.tangle_lines.specs.Bytes.{space, line_feed}
+use Rattle.tangle_files.specs.Bytes.{space, line_feed}
 use Rattle.tangle_scan.specs.declared.items.Item.{Item}
 use Rattle.tangle_scan.specs.declared.items.Item.TheVariants as item
 use Rattle.tangle_scan.specs.Rules.{span_text}

@@ -1,7 +1,7 @@
 -- What an expansion means: the parts of its plan over its text, with the parts of the expansions that it shares where it uses them.
 use Rattle.std.specs.Prelude.{ℕ, ◌+◌, ◌-◌, Bool, true, false, if◌then◌else◌, List, [], ◌∷◌, ◌++◌, map, take, drop, Option, None, Some, Vec}
 use Rattle.std.specs.Global.{Global}
-use Rattle.tangle_lines.specs.Bytes.{space}
+use Rattle.tangle_files.specs.Bytes.{space}
 use Rattle.tangle_expansion.specs.Shapes.{Title, Program, Named}
 use Rattle.tangle_expansion.specs.Flat.{Part, Byte, Opening, MarkOf, Closing, AllMacros}
 use Rattle.tangle_expansion.specs.declared.expansion.Step.{Step}

@@ -1,6 +1,6 @@
 -- The text of an output file, and that it is true to the lines of the source.
 use Rattle.std.specs.Prelude.{◌≡◌, ◌≤◌, length, true, unwrap_or, IsSome, ℕ, Bool, List, [], ◌∷◌, ◌++◌, map, if◌then◌else◌, None}
-use Rattle.tangle_lines.specs.Bytes.{line_feed}
+use Rattle.tangle_files.specs.Bytes.{line_feed}
 use Rattle.tangle_lines.specs.Reading.{SourceRead}
 use Rattle.tangle_scan.specs.Web.{WebRead}
 use Rattle.tangle_names.specs.NameTable.{table_of}

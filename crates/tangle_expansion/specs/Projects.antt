@@ -1,6 +1,6 @@
 -- The project that a web and its table of names are.
 use Rattle.std.specs.Prelude.{ℕ, ◌<◌, length, Bool, false, List, [], ◌∷◌, map, filter, slice_index_or, decimal, Option, Some, None}
-use Rattle.tangle_lines.specs.Bytes.{space, line_feed}
+use Rattle.tangle_files.specs.Bytes.{space, line_feed}
 use Rattle.tangle_scan.specs.declared.items.Item.{Item}
 use Rattle.tangle_scan.specs.declared.items.Item.TheVariants as item
 use Rattle.tangle_scan.specs.Rules.{span_text}

@@ -1,6 +1,6 @@
 -- Line truth over a whole output: each byte of a text stands at the compiler's place that is its own line's.
 use Rattle.std.specs.Prelude.{◌≡◌, ℕ, ◌+◌, zero, suc, Bool, false, List, [], ◌∷◌, ◌++◌, map, drop, if◌then◌else◌, Option, Some, None}
-use Rattle.tangle_lines.specs.Bytes.{space}
+use Rattle.tangle_files.specs.Bytes.{space}
 use Rattle.tangle_lines.specs.declared.faults.Origin.{Origin}
 use Rattle.tangle_lines.specs.Reading.{Line, SourceRead, place_at}
 use Rattle.tangle_scan.specs.declared.items.Item.{Item}

@@ -7,7 +7,7 @@ use std::alloc::Global;
 use std::io::{BufWriter, ErrorKind, Read};
 use std::rt::Files;
 use std::{fs, io, str};
-use tangle_lines::{IoSink, Sink};
+use tangle_streams::{IoSink, Sink};
 
 /// The folder that the program runs in. It tells nothing of its files.
 ///

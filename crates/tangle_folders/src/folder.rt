@@ -4,7 +4,7 @@ ghost use Rattle.tangle_folders.specs.Folder.{Asks, Begins, Closes, ClosesWithin
 ghost use Rattle.tangle_folders.specs.declared.folder.FolderFault.TheVariants.{NoMemory};
 
 use std::alloc::Global;
-use tangle_lines::Sink;
+use tangle_streams::Sink;
 
 /// The most bytes of a file that a program reads.
 pub const FILE_LIMIT: usize = 67_108_864;

@@ -9,7 +9,7 @@ ghost use Rattle.tangle_folders.specs.declared.folder.FolderFault.TheVariants.{F
 use crate::folder::{FILE_LIMIT, Folder, FolderFault};
 use indexmap::IndexMap;
 use std::alloc::{AllocError, Global};
-use tangle_lines::Sink;
+use tangle_streams::Sink;
 
 /// A file that was created.
 #[derive(Debug, Drop)]

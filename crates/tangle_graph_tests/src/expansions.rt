@@ -2,7 +2,6 @@
 ghost use Rattle.std.specs.Prelude.{◌≡◌};
 ghost use Rattle.tangle_names.specs.NameTable.{table_of};
 
-use crate::webs::add_sections;
 use std::alloc::Global;
 use std::rc::Rc;
 use std::test::Fail;
@@ -12,7 +11,7 @@ use tangle_expansion::{
 use tangle_folders::MemorySink;
 use tangle_names::NameTable;
 use tangle_scan::{Web, scan};
-use tangle_test_support::{files_with, read};
+use tangle_test_support::{add_sections, files_with, read};
 
 // Expands the name that has the piece of the same number, and keeps the expansion.
 fn expand_name(
@@ -43,7 +42,8 @@ fn expand_name(
 // The expansion of the first name of the nest; the expansions of the others are let go.
 fn nest(alloc: Global, count: usize) -> Result<Expansion, Fail> {
     let mut text = Vec::new(alloc);
-    add_sections(&mut text, 0, count.saturating_sub(1), 1)?;
+    let last = count.saturating_add(9_999);
+    add_sections(&mut text, b'n', 10_000, last, 1)?;
     let files = files_with(alloc, &[(b"a.w", &text)])?;
     let source = read(alloc, &files, None)?;
     let web = scan(alloc, &source)?;

@@ -1,10 +1,9 @@
 //! The faults of the graphs of webs.
 use crate::tangling::tangle;
-use crate::webs::doubling;
 use std::alloc::Global;
 use std::process::Abort;
 use std::test::Fail;
-use tangle_test_support::lines_of;
+use tangle_test_support::{doubling, lines_of};
 
 // Webs, and the lines of the faults of their graphs: a web without faults, an empty one, an abbreviation of two names, a cycle of two names
 // and a name in its place, a name that only reaches a cycle, undefined names, which are told once and at their first use, a file with the
@@ -67,7 +66,7 @@ fn faults_of_the_graphs_of_webs(rt: HostRuntime) -> Result<(), Fail> {
 }
 
 const TOO_LARGE: &[u8] =
-    b"a.w:3: error: too large: <n10>\na.w:5: error: too large: <n11>\na.w:7: error: too large: <n12>\na.w:9: error: too large: <n13>\na.w:11: error: too large: <n14>\na.w:13: error: too large: <n15>\na.w:15: error: too large: <n16>\na.w:17: error: too large: <n17>\na.w:19: error: too large: <n18>\nerror: too large: the unnamed program\n";
+    b"a.w:3: error: too large: <n00>\na.w:5: error: too large: <n01>\na.w:7: error: too large: <n02>\na.w:9: error: too large: <n03>\na.w:11: error: too large: <n04>\na.w:13: error: too large: <n05>\na.w:15: error: too large: <n06>\na.w:17: error: too large: <n07>\na.w:19: error: too large: <n08>\nerror: too large: the unnamed program\n";
 
 #[test]
 fn names_that_are_too_large(rt: HostRuntime) -> Result<(), Fail> {

@@ -17,5 +17,3 @@ mod growths;
 mod outputs;
 #[cfg(test)]
 mod tangling;
-#[cfg(test)]
-mod webs;

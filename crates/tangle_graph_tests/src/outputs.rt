@@ -2,7 +2,6 @@
 ghost use Rattle.tangle_graph_tests.specs.Keeping.{KeepsWritable};
 
 use crate::tangling::{Tangled, tangle, write_output};
-use crate::webs::{AMPLE, doubling};
 use std::alloc::Global;
 use std::io::{self, Write};
 use std::process::Abort;
@@ -10,6 +9,10 @@ use std::test::Fail;
 use tangle_expansion::Output;
 use tangle_folders::MemorySink;
 use tangle_lines::{IoSink, WriteFault, put};
+use tangle_test_support::{DOUBLING_FILE, doubling};
+
+// Room for all that a test writes.
+const AMPLE: usize = 1_000_000;
 
 // Webs, with their output files, of which each is its name on a line and its bytes, and the number of the nodes that are expanded: a piece
 // alone, a name and the program that uses it, the same below a line and below a section more, an abbreviation of one name and of two, macros
@@ -120,8 +123,6 @@ fn outputs_of_webs(rt: HostRuntime) -> Result<(), Fail> {
     Ok(())
 }
 
-const NAMED_FILE: &[u8] = b"/*32:*/\n#line 64 \"a.w\"\n\n1\n/*:32*/\n";
-
 // A writer that takes the bytes of the named file, one a call, and no other byte.
 #[derive(Drop)]
 struct Single {
@@ -130,7 +131,7 @@ struct Single {
 
 impl Write for Single {
     fn write(&mut self, bytes: &[u8]) -> io::Result<usize> {
-        if self.taken < NAMED_FILE.len() && bytes.first() == NAMED_FILE.get(self.taken) {
+        if self.taken < DOUBLING_FILE.len() && bytes.first() == DOUBLING_FILE.get(self.taken) {
             self.taken += 1;
             Ok(1)
         } else {
@@ -167,7 +168,7 @@ fn check_cut_off(
     let mut sink = MemorySink::new(alloc, room);
     let (_, written) = write_output(tangled, output, &mut sink)?;
     assert_eq!(rt; written, Err(WriteFault(room as u128)));
-    assert!(rt; sink.bytes().len() == room && NAMED_FILE.starts_with(sink.bytes()));
+    assert!(rt; sink.bytes().len() == room && DOUBLING_FILE.starts_with(sink.bytes()));
     Ok(())
 }
 
@@ -175,7 +176,7 @@ fn check_cut_off(
 fn a_writer_that_fails_after_each_byte(rt: HostRuntime) -> Result<(), Fail> {
     let tangled = tangle(rt.alloc(), doubling(rt.alloc())?.as_slice())?;
     let output = tangled.store.outputs().first().ok_or("an output")?;
-    for room in 0..NAMED_FILE.len() {
+    for room in 0..DOUBLING_FILE.len() {
         check_cut_off(&rt, rt.alloc(), &tangled, output, room)?;
     }
     Ok(())

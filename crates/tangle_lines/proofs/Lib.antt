@@ -1,8 +1,3 @@
-pub mod CuttingLemmas
-pub mod SharingLemmas
-pub mod TableLemmas
-pub mod EditLemmas
-pub mod EditLimits
 pub mod WaitingLemmas
 pub mod ReadingLemmas
 mod WorkedSources

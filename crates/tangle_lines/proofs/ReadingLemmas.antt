@@ -4,7 +4,7 @@ use Rattle.tangle_lines.specs.declared.faults.FaultKind.TheVariants.{SourceTooLo
 use Rattle.tangle_lines.specs.Faults.{fault_at, Finding}
 use Rattle.std.proofs.lemmas.Bool.{ltb-true, lt-ltb, false_from_ne_true}
 use Rattle.std.specs.Prelude.{nat_lt}
-use Rattle.tangle_lines.specs.Lines.{FileTable}
+use Rattle.tangle_files.specs.Lines.{FileTable}
 use Rattle.tangle_lines.specs.Change.{Change}
 use Rattle.tangle_lines.specs.Waiting.{IsPlain, IsUsed, Makes}
 use Rattle.tangle_lines.specs.Reading.{WaitingLine, Line, Reads, named, State, Step, step_of, line_step, plain_step, change_here, unused_faults, begins, after, reads_in, reads_from, line_limit, before_reads}

@@ -2,7 +2,7 @@
 use Rattle.std.proofs.Common.{◌≡◌, ℕ, zero, suc, List, [], ◌∷◌, None, Some, true, false, refl}
 use Rattle.std.specs.Prelude.{codes}
 use Rattle.tangle_lines.specs.declared.faults.FaultKind.TheVariants.{ChangeMismatch, EmptyOld, ChangeUnused, StrayMark, MissingY, MissingZ, IncludeNoName, IncludeMissing, IncludeTooDeep}
-use Rattle.tangle_lines.specs.Lines.{cut}
+use Rattle.tangle_files.specs.Lines.{cut}
 use Rattle.tangle_lines.specs.Faults.{fault_at, fault_about, fault_counting}
 use Rattle.tangle_lines.specs.Reading.{Line, Reads, reads, reads_in}
 

@@ -1,11 +1,6 @@
 -- The bytes that the rules of reading name.
 use Rattle.std.specs.Prelude.{ℕ, ◌+◌, Bool, ◌==◌, ◌||◌}
-
-abbrev pub line_feed : ℕ
-line_feed = 10
-
-abbrev pub space : ℕ
-space = 32
+use Rattle.tangle_files.specs.Bytes.{space}
 
 abbrev pub double_quote : ℕ
 double_quote = 34

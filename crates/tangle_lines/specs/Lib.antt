@@ -1,10 +1,4 @@
 pub mod Bytes
-pub mod Lines
-pub mod Sharing
-pub mod Adding
-pub mod Edits
-pub mod Edited
-pub mod Roles
 pub mod Faults
 pub mod FaultText
 pub mod Change
@@ -13,4 +7,3 @@ pub mod Inclusion
 pub mod Reading
 pub mod ReadingLaw
 pub mod Waiting
-pub mod Table

@@ -1,6 +1,6 @@
 -- The bound on the count of steps is no part of the meaning of reading.
 use Rattle.std.specs.Prelude.{◌≡◌, ℕ}
-use Rattle.tangle_lines.specs.Lines.{FileTable}
+use Rattle.tangle_files.specs.Lines.{FileTable}
 use Rattle.tangle_lines.specs.Reading.{State, step_of, after, reads_from}
 
 -- reading is its first step, and then the reading of what that leaves

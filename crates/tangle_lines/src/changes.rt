@@ -1,16 +1,16 @@
 //! The changes of a change file.
 ghost use Rattle.std.specs.Prelude.{◌≡◌, ◌+◌, ◌≤◌, [], ◌∷◌, ◌++◌, length, map, IfOk, OnOk, IsTrue, ◌↔◌};
 ghost use Rattle.std.specs.List.{list_all};
-ghost use Rattle.tangle_lines.specs.Adding.{most_lines};
+ghost use Rattle.tangle_files.specs.Adding.{most_lines};
 ghost use Rattle.tangle_lines.specs.Bytes.{is_white};
 ghost use Rattle.tangle_lines.specs.Changes.{kind_of, next_phase, closed, at_end, changes_of as changes_found};
 ghost use Rattle.tangle_lines.specs.declared.changes.ChangePhase.TheVariants.{Outside, InOld, InNew};
 
 use crate::faults::{Fault, FaultKind, note};
 use crate::inclusion::is_white_byte;
-use crate::line::Line;
 use std::alloc::Global;
 use std::marker::Model;
+use tangle_files::Line;
 use tangle_streams::NoMemory;
 
 /// What a line of a change file is, by its first two bytes.

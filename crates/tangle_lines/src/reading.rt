@@ -1,21 +1,19 @@
 //! Reading of a web over open files.
 ghost use Rattle.std.specs.Prelude.{◌≡◌, ℕ, ◌+◌, ◌^◌, ◌<◌, ◌≤◌, [], ◌∷◌, ◌++◌, length, min, drop, map, true, IfOk, OnOk};
 ghost use Rattle.std.specs.Option.{option_copied};
-ghost use Rattle.tangle_lines.specs.Lines.{FileTable};
-ghost use Rattle.tangle_lines.specs.Roles.{fits};
+ghost use Rattle.tangle_files.specs.Lines.{FileTable, number_of};
+ghost use Rattle.tangle_files.specs.Roles.{fits};
 ghost use Rattle.tangle_lines.specs.ReadingLaw.{ReadsByStep};
 ghost use Rattle.tangle_lines.specs.Reading.{State, line_limit, inclusion, reads_from, before_reads, change_number, changes_in, source_of, begins, change_here, unequal_front, unequal_lines, mismatch_faults, unused_faults};
 ghost use Rattle.tangle_lines.specs.Waiting.{IsPlain, IsUsed};
 
 use crate::changes::{Change, changes_of};
 use crate::faults::{Fault, FaultKind, note};
-use crate::files::Files;
 use crate::inclusion::included_name;
-use crate::line::Line;
-use crate::roles::Roles;
 use crate::source::{Source, SourceLine};
 use crate::waiting::{OpenFile, RawLine, Waiting};
 use std::alloc::Global;
+use tangle_files::{Files, Line, Roles};
 use tangle_streams::NoMemory;
 
 /// The most files that may be open at once, the web counted.
@@ -23,6 +21,16 @@ const DEPTH_LIMIT: u8 = 10;
 
 /// The most lines that are taken.
 const LINE_LIMIT: usize = 2_000_000;
+
+/// The number of the file of this name, or the count of files, which is no file's number.
+fn number_of(files: &Files, name: &[u8]) -> u16
+    ensures { result ≡ number_of files.now name.now }
+{
+    match files.find(name) {
+        Some(number) => number,
+        None => files.count() as u16,
+    }
+}
 
 /// Reads the web of these roles with its change file: each inclusion is replaced by the lines of its file, and the
 /// lines that a change takes by its new lines. A change is used where a line equals its first old line, in the order of
@@ -42,7 +50,7 @@ pub fn read_source<'a>(
 {
     let mut faults = Vec::new(alloc);
     let (change_file, changes) = changes_of_file(alloc, files, roles.change(), &mut faults)?;
-    let web = files.find_or_count(roles.web());
+    let web = number_of(files, roles.web());
     let mut waiting = Waiting::new(alloc);
     waiting.open(OpenFile::new(web, files.lines_at(web), false, 1))?;
     let lines = read_on(
@@ -282,14 +290,9 @@ fn read_on<'a, 'c>(
     let mut taken = 0usize;
     while let Some(line) = waiting.take() {
         if taken >= LINE_LIMIT {
-            let file = files.name_at(line.place.file);
-            note(
-                alloc,
-                FaultKind::SourceTooLong,
-                file,
-                line.place.line,
-                faults,
-            )?;
+            let place = line.place;
+            let file = files.name_at(place.file);
+            note(alloc, FaultKind::SourceTooLong, file, place.line, faults)?;
             return Ok(lines);
         }
         match change_at(changes, &line) {
@@ -321,7 +324,7 @@ fn changes_of_file<'a>(
     match name {
         None => Ok((0, Vec::new(alloc))),
         Some(name) => {
-            let number = files.find_or_count(name);
+            let number = number_of(files, name);
             let lines = files.lines_at(number);
             let changes = changes_of(alloc, files.name_at(number), lines, faults)?;
             Ok((number, changes))

@@ -1,14 +1,13 @@
 //! The source: what reading gives.
 ghost use Rattle.std.specs.Prelude.{◌≡◌, ◌<◌, ◌≤◌, length, slice_get, IfOk};
-ghost use Rattle.tangle_lines.specs.Lines.{name_at};
-ghost use Rattle.tangle_lines.specs.Adding.{longest_line, most_files};
+ghost use Rattle.tangle_files.specs.Lines.{name_at};
+ghost use Rattle.tangle_files.specs.Adding.{longest_line, most_files};
 ghost use Rattle.tangle_lines.specs.Reading.{fault_at_line, line_at, line_limit, place_at};
 
 use crate::faults::{Fault, FaultKind, Origin};
-use crate::files::Files;
-use crate::line::Line;
 use std::alloc::Global;
 use std::marker::Model;
+use tangle_files::{Files, Line};
 use tangle_streams::NoMemory;
 
 /// A source line, with its place, and whether it is from the change file. The place stands as its two numbers, so

@@ -1,12 +1,12 @@
 //! The open files, seen as the one list of the lines that wait to be read.
 ghost use Rattle.std.specs.Prelude.{◌≡◌, ◌+◌, ◌≤◌, [], ◌∷◌, ◌++◌, length, drop, map, true, IfSome, IfNone, OnOk};
-ghost use Rattle.tangle_lines.specs.Adding.{most_lines};
+ghost use Rattle.tangle_files.specs.Adding.{most_lines};
 ghost use Rattle.tangle_lines.specs.Reading.{waiting_lines, change_lines};
 
 use crate::faults::Origin;
-use crate::line::Line;
 use std::alloc::Global;
 use std::marker::Model;
+use tangle_files::Line;
 use tangle_streams::NoMemory;
 
 /// A line that waits to be read. It is changed if it is from the change file, or from a file that such a line includes;

@@ -1,6 +1,6 @@
 //! Each growth of a call refused in turn: the call says so, and leaves its object as it was.
 ghost use Rattle.std.specs.Prelude.{◌≡◌, true};
-ghost use Rattle.tangle_lines.specs.Roles.{fits};
+ghost use Rattle.tangle_files.specs.Roles.{fits};
 
 use std::alloc::Global;
 use std::process::Abort;

@@ -2,7 +2,7 @@
 use Rattle.std.specs.Prelude.{ℕ, Bool, false, ◌||◌, List, [], ◌∷◌, ◌++◌, flat_map, map}
 use Rattle.std.specs.List.{list_any}
 use Rattle.tangle_lines.specs.Faults.{Finding}
-use Rattle.tangle_lines.specs.Lines.{FileTable}
+use Rattle.tangle_files.specs.Lines.{FileTable}
 use Rattle.tangle_lines.specs.Reading.{Line, SourceRead}
 use Rattle.tangle_scan.specs.declared.items.Item.{Item}
 use Rattle.tangle_lexer.specs.declared.tokens.Token.{Token}

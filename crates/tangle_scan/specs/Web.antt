@@ -6,7 +6,7 @@ use Rattle.tangle_lines.specs.declared.faults.FaultKind.{FaultKind}
 use Rattle.tangle_lines.specs.declared.faults.FaultKind.TheVariants as fault
 use Rattle.tangle_lines.specs.Faults.{Finding, fault_at}
 use Rattle.tangle_lines.specs.Reading.{Line, SourceRead, named, place_at}
-use Rattle.tangle_lines.specs.Lines.{FileTable}
+use Rattle.tangle_files.specs.Lines.{FileTable}
 use Rattle.tangle_scan.specs.declared.items.Item.{Item}
 use Rattle.tangle_lexer.specs.declared.tokens.Token.{Token}
 use Rattle.tangle_lexer.specs.declared.tokens.Token.TheVariants as token

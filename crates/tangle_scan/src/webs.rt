@@ -1,6 +1,6 @@
 //! The scanned web.
 ghost use Rattle.std.specs.Prelude.{◌≡◌, ◌≤◌, ◌<◌, ℕ, List, [], get_or, length};
-ghost use Rattle.tangle_lines.specs.Adding.{most_files};
+ghost use Rattle.tangle_files.specs.Adding.{most_files};
 ghost use Rattle.tangle_scan.specs.Rules.{span_text, text_behind};
 ghost use Rattle.tangle_scan.specs.SourceOrder.{IsSpan};
 ghost use Rattle.tangle_scan.specs.WellFormed.{IsWellFormed};

@@ -6,14 +6,14 @@ use Rattle.std.specs.Option.{option_map_or}
 use Rattle.std.specs.Str.{bytes_eq}
 use Rattle.std.proofs.lemmas.Bool.{and_parts, and_from}
 use Rattle.std.proofs.lemmas.Slice.Eq.{bytes_eq-Decides}
-use Rattle.tangle_lines.specs.Edited.{edited, with_lines_changed}
-use Rattle.tangle_lines.specs.Edits.{edit_refusal, or_else, refusal_if}
-use Rattle.tangle_lines.specs.Lines.{FileTable, lines_of}
-use Rattle.tangle_lines.specs.Roles.{RoleNames, fits, is_there, is_there_if_any}
-use Rattle.tangle_lines.specs.declared.edits.Edit.{Edit}
-use Rattle.tangle_lines.specs.declared.edits.Edit.TheVariants.{Insert, Remove, Replace, Create, Discard}
-use Rattle.tangle_lines.specs.declared.refusal.Refusal.{Refusal}
-use Rattle.tangle_lines.specs.declared.refusal.Refusal.TheVariants.{RoleFile}
+use Rattle.tangle_files.specs.Edited.{edited, with_lines_changed}
+use Rattle.tangle_files.specs.Edits.{edit_refusal, or_else, refusal_if}
+use Rattle.tangle_files.specs.Lines.{FileTable, lines_of}
+use Rattle.tangle_files.specs.Roles.{RoleNames, fits, is_there, is_there_if_any}
+use Rattle.tangle_files.specs.declared.edits.Edit.{Edit}
+use Rattle.tangle_files.specs.declared.edits.Edit.TheVariants.{Insert, Remove, Replace, Create, Discard}
+use Rattle.tangle_files.specs.declared.refusal.Refusal.{Refusal}
+use Rattle.tangle_files.specs.declared.refusal.Refusal.TheVariants.{RoleFile}
 use Rattle.tangle_session.specs.Edits.{has_role, role_refusal, session_refusal}
 use Rattle.tangle_session.proofs.TangleLemmas.{there_is}
 

@@ -1,9 +1,9 @@
 -- The ground of a web is what the files make.
 use Rattle.std.proofs.Common.{◌≡◌, ◌∙◌, ◌++◌, ℕ, List, [], ap, sym, subst, append_assoc}
 use Rattle.tangle_lines.specs.Faults.{Finding}
-use Rattle.tangle_lines.specs.Lines.{FileTable}
+use Rattle.tangle_files.specs.Lines.{FileTable}
 use Rattle.tangle_lines.specs.Reading.{SourceRead, source_of}
-use Rattle.tangle_lines.specs.Roles.{RoleNames}
+use Rattle.tangle_files.specs.Roles.{RoleNames}
 use Rattle.tangle_scan.specs.LineTruth.{PiecesStandAtTheirLines}
 use Rattle.tangle_scan.specs.Web.{WebRead, web_of}
 use Rattle.tangle_names.specs.NameTable.{table_of}

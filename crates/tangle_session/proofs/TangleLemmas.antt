@@ -6,11 +6,11 @@ use Rattle.std.specs.Str.{bytes_eq}
 use Rattle.std.proofs.lemmas.Bool.Decides.{nat_tests}
 use Rattle.std.specs.Prelude.{if◌then◌else◌, nat_lt, Option, Some, None, is_some, Ok, Err, find}
 use Rattle.tangle_streams.specs.Streams.{Stream, PutsOut}
-use Rattle.tangle_lines.specs.Lines.{FileTable, lines_of}
+use Rattle.tangle_files.specs.Lines.{FileTable, lines_of}
 use Rattle.tangle_lines.specs.Reading.{SourceRead}
-use Rattle.tangle_lines.specs.Roles.{RoleNames, is_there, is_there_if_any, fits}
-use Rattle.tangle_lines.specs.declared.refusal.Refusal.TheVariants.{NoWeb, NoChange}
-use Rattle.tangle_lines.specs.declared.refusal.Refusal.TheVariants as refusal
+use Rattle.tangle_files.specs.Roles.{RoleNames, is_there, is_there_if_any, fits}
+use Rattle.tangle_files.specs.declared.refusal.Refusal.TheVariants.{NoWeb, NoChange}
+use Rattle.tangle_files.specs.declared.refusal.Refusal.TheVariants as refusal
 use Rattle.tangle_scan.specs.LineTruth.{PiecesStandAtTheirLines}
 use Rattle.tangle_scan.specs.Web.{WebRead}
 use Rattle.tangle_names.specs.NameTable.{table_of}

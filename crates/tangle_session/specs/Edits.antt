@@ -2,13 +2,13 @@
 use Rattle.std.specs.Prelude.{ℕ, List, Bool, false, ◌||◌, Option, None}
 use Rattle.std.specs.Option.{option_map_or}
 use Rattle.std.specs.Str.{bytes_eq}
-use Rattle.tangle_lines.specs.Edits.{edit_refusal, or_else, refusal_if}
-use Rattle.tangle_lines.specs.Lines.{FileTable}
-use Rattle.tangle_lines.specs.Roles.{RoleNames}
-use Rattle.tangle_lines.specs.declared.edits.Edit.{Edit}
-use Rattle.tangle_lines.specs.declared.edits.Edit.TheVariants.{Insert, Remove, Replace, Create, Discard}
-use Rattle.tangle_lines.specs.declared.refusal.Refusal.{Refusal}
-use Rattle.tangle_lines.specs.declared.refusal.Refusal.TheVariants.{RoleFile}
+use Rattle.tangle_files.specs.Edits.{edit_refusal, or_else, refusal_if}
+use Rattle.tangle_files.specs.Lines.{FileTable}
+use Rattle.tangle_files.specs.Roles.{RoleNames}
+use Rattle.tangle_files.specs.declared.edits.Edit.{Edit}
+use Rattle.tangle_files.specs.declared.edits.Edit.TheVariants.{Insert, Remove, Replace, Create, Discard}
+use Rattle.tangle_files.specs.declared.refusal.Refusal.{Refusal}
+use Rattle.tangle_files.specs.declared.refusal.Refusal.TheVariants.{RoleFile}
 
 -- the file of this name is the web or the change file
 abbrev pub has_role : RoleNames → List ℕ → Bool

@@ -1,7 +1,7 @@
 -- The web of files with roles, and the output files that a web has.
 use Rattle.std.specs.Prelude.{ℕ, List, map}
-use Rattle.tangle_lines.specs.Lines.{FileTable}
-use Rattle.tangle_lines.specs.Roles.{RoleNames}
+use Rattle.tangle_files.specs.Lines.{FileTable}
+use Rattle.tangle_files.specs.Roles.{RoleNames}
 use Rattle.tangle_lines.specs.Reading.{SourceRead, source_of}
 use Rattle.tangle_scan.specs.Web.{WebRead, web_of}
 use Rattle.tangle_names.specs.NameTable.{table_of}

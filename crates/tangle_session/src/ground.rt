@@ -1,6 +1,6 @@
 //! The ground of tangling: what is known of a web before a node of it is expanded.
 ghost use Rattle.std.specs.Prelude.{◌≡◌, ◌++◌, [], true, IfOk, OnOk};
-ghost use Rattle.tangle_lines.specs.Roles.{fits};
+ghost use Rattle.tangle_files.specs.Roles.{fits};
 ghost use Rattle.tangle_names.specs.NameTable.{table_of};
 ghost use Rattle.tangle_expansion.specs.Numbers.{numbers_of};
 ghost use Rattle.tangle_graph.specs.Faults.{AreGraphFaults};

@@ -1,9 +1,9 @@
 //! A started session.
 ghost use Rattle.std.specs.Prelude.{◌≡◌, length, map, IfOk, OnOk, OnErr, IfSome, IfNone, IsOkUnless, Err};
 ghost use Rattle.std.specs.Option.{option_map};
-ghost use Rattle.tangle_lines.specs.declared.refusal.Refusal.TheVariants.{NoMemory as no_memory};
+ghost use Rattle.tangle_files.specs.declared.refusal.Refusal.TheVariants.{NoMemory as no_memory};
 ghost use Rattle.tangle_session.specs.Files.{web_at};
-ghost use Rattle.tangle_lines.specs.Edited.{edited};
+ghost use Rattle.tangle_files.specs.Edited.{edited};
 ghost use Rattle.tangle_session.specs.Edits.{has_role, role_refusal, session_refusal};
 ghost use Rattle.tangle_session.specs.Sessions.{ListsAffected, ListsExpandable, start_refusal};
 ghost use Rattle.tangle_session.specs.Tangle.{AreFaultsOf, output_at, outputs_of};

@@ -2,8 +2,8 @@
 ghost use Rattle.std.specs.Prelude.{◌≡◌, [], true, None, find, IfOk};
 ghost use Rattle.std.specs.Option.{option_copied};
 ghost use Rattle.std.specs.Str.{bytes_eq};
-ghost use Rattle.tangle_lines.specs.Edited.{edited};
-ghost use Rattle.tangle_lines.specs.Roles.{RoleNames, fits};
+ghost use Rattle.tangle_files.specs.Edited.{edited};
+ghost use Rattle.tangle_files.specs.Roles.{RoleNames, fits};
 ghost use Rattle.tangle_session.specs.Edits.{session_refusal};
 ghost use Rattle.tangle_session.specs.Files.{web_at};
 ghost use Rattle.tangle_session.specs.Sessions.{Holds, IsGroundAt, ListsAffected};

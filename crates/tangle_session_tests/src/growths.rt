@@ -1,12 +1,12 @@
 //! Each growth of a start and of an edit refused in turn: the call says so, and all is as it was.
 use crate::support::{check_handed_back, start, tell_all, told_project};
-use crate::webs::{ABBREVIATION, CYCLE, TWO_BRANCHES, chain};
+use crate::webs::{ABBREVIATION, CYCLE, TWO_BRANCHES};
 use std::alloc::{AllocError, Global};
 use std::process::Abort;
 use std::test::Fail;
 use tangle_lines::{Edit, Files, Refusal, Roles};
 use tangle_session::Session;
-use tangle_test_support::{Kind, edit, end_refusals, files_with, refuse_growth};
+use tangle_test_support::{Kind, chain, edit, end_refusals, files_with, refuse_growth};
 
 // More growths than any call makes here.
 const MOST: u32 = 10_000;

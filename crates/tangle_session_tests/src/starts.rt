@@ -1,12 +1,11 @@
 //! Sessions that are started: their outputs, faults and work, and why a start is refused.
 use crate::support::{check_faults, check_handed_back, check_outputs, start, told_project};
-use crate::webs::{chain, doubling};
 use std::alloc::Global;
 use std::process::Abort;
 use std::test::Fail;
 use tangle_lines::{Refusal, Roles};
 use tangle_session::Session;
-use tangle_test_support::files_with;
+use tangle_test_support::{chain, doubling, files_with};
 
 // Webs, with their output files, each its name on a line and its bytes, and the lines of the faults: a piece alone, no line at all, macros
 // that no piece asks for where the program is, a name used twice that is not defined, a file with the main file's name, and names that do

@@ -1,6 +1,5 @@
 //! Writers that take little at a time, or fail: what went out is the front of the output file.
 use crate::support::{start, tell_all, write_output};
-use crate::webs::{DOUBLING_FILE, doubling};
 use std::alloc::Global;
 use std::io::{self, Write};
 use std::process::Abort;
@@ -8,6 +7,7 @@ use std::test::Fail;
 use tangle_folders::MemorySink;
 use tangle_lines::{IoSink, Refusal};
 use tangle_session::Session;
+use tangle_test_support::{DOUBLING_FILE, doubling};
 
 // A writer with room for seven bytes has taken the front of the main file.
 fn check_seven(rt: &impl Abort, alloc: Global, session: &Session) {

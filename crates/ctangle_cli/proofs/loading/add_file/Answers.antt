@@ -1,5 +1,5 @@
 use Rattle.std.proofs.Common.{refl, ◌≡◌, subst, sym, true}
-use Rattle.tangle_lines.specs.Roles.{is_there}
+use Rattle.tangle_files.specs.Roles.{is_there}
 use Rattle.ctangle_cli.proofs.LoadLemmas.{stops_given, refused_bytes, there_added}
 use Rattle.ctangle_cli.proofs.loading.add_file.Goals as goal
 

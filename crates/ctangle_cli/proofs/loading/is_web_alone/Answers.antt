@@ -1,7 +1,7 @@
 use Rattle.std.proofs.Common.{◌∙◌, sym, ap}
 use Rattle.std.specs.Prelude.{not}
 use Rattle.std.specs.Option.{option_copied}
-use Rattle.tangle_lines.specs.Lines.{lines_of}
+use Rattle.tangle_files.specs.Lines.{lines_of}
 use Rattle.ctangle_cli.proofs.AloneLemmas.{alone_misses_none}
 use Rattle.ctangle_cli.proofs.loading.is_web_alone.Goals as goal
 

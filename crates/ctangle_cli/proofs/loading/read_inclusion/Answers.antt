@@ -1,6 +1,6 @@
 use Rattle.std.proofs.Common.{◌≡◌, false, true, refl, sym, ◌∙◌}
 use Rattle.std.proofs.lemmas.Result.{IfErr-weaker, on_ok_weaker}
-use Rattle.tangle_lines.specs.Adding.{has_file, is_name}
+use Rattle.tangle_files.specs.Adding.{has_file, is_name}
 use Rattle.ctangle_cli.specs.Tries.{tried}
 use Rattle.ctangle_cli.specs.Loading.{ending_of}
 use Rattle.ctangle_cli.proofs.AskLemmas.{always_err, asks_this, stops_at, stops_short, tries_absent, tries_added, tries_this, untried}

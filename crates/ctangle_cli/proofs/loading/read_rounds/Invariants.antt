@@ -2,7 +2,7 @@ use Rattle.std.proofs.Common.{◌≡◌, ◌-◌, ℕ, List, [], Option, length,
 use Rattle.std.specs.Prelude.{IfSome}
 use Rattle.ctangle_cli.specs.Loading.{AreAbsent, rounds_from}
 use Rattle.ctangle_cli.specs.Tries.{RoundsOnce, tried}
-use Rattle.tangle_lines.specs.Roles.{fits}
+use Rattle.tangle_files.specs.Roles.{fits}
 use Rattle.ctangle_cli.proofs.loading.read_rounds.Given as goal
 
 abbrev pub invariant-loop-absent : goal.invariant-loop-absent

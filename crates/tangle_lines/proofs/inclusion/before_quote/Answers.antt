@@ -1,6 +1,6 @@
 use Rattle.std.proofs.Common.{ℕ, take, ap, sym}
 use Rattle.std.specs.Prelude.{◌==◌}
-use Rattle.tangle_lines.proofs.CuttingLemmas.{position-some, before_first-none}
+use Rattle.tangle_files.proofs.CuttingLemmas.{position-some, before_first-none}
 use Rattle.tangle_lines.proofs.inclusion.before_quote.Goals as goal
 
 pub returns-in-Some : goal.returns-in-Some

@@ -1,6 +1,6 @@
 use Rattle.std.proofs.Common.{◌∙◌, ap, sym}
 use Rattle.std.specs.Prelude.{is_some}
-use Rattle.tangle_lines.specs.Lines.{lines_of}
+use Rattle.tangle_files.specs.Lines.{lines_of}
 use Rattle.tangle_session.proofs.TangleLemmas.{no_change, no_web, some_copied}
 use Rattle.tangle_session.proofs.session.refusal_to_start.Goals as goal
 

@@ -1,6 +1,6 @@
 use Rattle.std.proofs.Common.{◌≡◌, ◌∙◌, true, subst, sym}
 use Rattle.std.proofs.lemmas.Result.{IfOk-weaker}
-use Rattle.tangle_lines.specs.Roles.{fits}
+use Rattle.tangle_files.specs.Roles.{fits}
 use Rattle.tangle_session.proofs.EditLemmas.{fits_edited}
 use Rattle.tangle_session.proofs.tangling.tangle_again.Goals as goal
 

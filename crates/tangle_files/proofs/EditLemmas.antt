@@ -1,0 +1,65 @@
+-- The table of files after an edit.
+use Rattle.std.proofs.Common.{◌≡◌, ℕ, Bool, true, false, cond, List, [], ◌∷◌, map, refl, sym, ap, ◌∙◌, None, Some, IfSome, subst}
+use Rattle.std.specs.Map.{lookup, set_value, remove_entry}
+use Rattle.std.specs.Str.{bytes_eq}
+use Rattle.std.specs.declared.vec.Vec.{Vec}
+use Rattle.std.specs.Global.{Global}
+use Rattle.std.proofs.lemmas.Map.Steps.{set_value_same}
+use Rattle.tangle_files.specs.Lines.{lines_of}
+use Rattle.tangle_files.specs.Table.{SharedLines, Table, file_of, files_of}
+use Rattle.tangle_files.specs.Edited.{with_lines_changed}
+use Rattle.tangle_files.proofs.TableLemmas.{lines_of-entries}
+
+map-set_value : (name : List ℕ) (es : List (Vec ℕ Global × SharedLines)) (w : SharedLines)
+    → map file_of (set_value (λ k. bytes_eq name k.items) es w) ≡ set_value (bytes_eq name) (map file_of es) w.value.items
+map-set_value name [] w = refl
+map-set_value name (e ∷ es) w = by (bytes_eq name e.0.items) (map-set_value name es w)
+  where
+    by : (b : Bool) → map file_of (set_value (λ k. bytes_eq name k.items) es w) ≡ set_value (bytes_eq name) (map file_of es) w.value.items
+        → map file_of (cond b ((e.0, w) ∷ es) (e ∷ set_value (λ k. bytes_eq name k.items) es w))
+        ≡ cond b ((e.0.items, w.value.items) ∷ map file_of es) (file_of e ∷ set_value (bytes_eq name) (map file_of es) w.value.items)
+    by true h = refl
+    by false h = ap (λ l. file_of e ∷ l) h
+
+-- a look-up in the table that finds lines finds them among the files
+pub lines_of-found : (t : Table) (name : List ℕ) (v : SharedLines)
+    → Some v ≡ lookup (λ k. bytes_eq name k.items) t.entries → lines_of (files_of t) name ≡ Some v.value.items
+lines_of-found t name v found = rw (lines_of-entries, ← found) refl
+
+-- and one that finds none finds none there
+pub lines_of-absent : (t : Table) (name : List ℕ) → None ≡ lookup (λ k. bytes_eq name k.items) t.entries → lines_of (files_of t) name ≡ None
+lines_of-absent t name found = rw (lines_of-entries, ← found) refl
+
+-- lines that are written to the place of others are the lines of their file
+pub files_of-written : (old new : Table) (name : List ℕ) (v w : SharedLines) (change : List (List ℕ) → List (List ℕ))
+    → Some v ≡ lookup (λ k. bytes_eq name k.items) old.entries → w.value.items ≡ change v.value.items
+    → new.entries ≡ set_value (λ k. bytes_eq name k.items) old.entries w → files_of new ≡ with_lines_changed (files_of old) name change
+files_of-written old new name v w change found is written =
+    rw (lines_of-found old name v found)
+    (ap (map file_of) written ∙ map-set_value name old.entries w ∙ ap (set_value (bytes_eq name) (files_of old)) is)
+
+-- lines that are written to their own place change nothing
+pub files_of-same : (old new : Table) (name : List ℕ) (v : SharedLines)
+    → Some v ≡ lookup (λ k. bytes_eq name k.items) old.entries
+    → new.entries ≡ set_value (λ k. bytes_eq name k.items) old.entries v → files_of new ≡ files_of old
+files_of-same old new name v found written = ap (map file_of) (written ∙ set_value_same (λ k. bytes_eq name k.items) old.entries v (sym found))
+
+-- what holds of the lines of a file holds of those that were found
+pub of-found : (t : Table) (name : List ℕ) (v : SharedLines) (P : List (List ℕ) → Type 0)
+    → Some v ≡ lookup (λ k. bytes_eq name k.items) t.entries → IfSome (lines_of (files_of t) name) P → P v.value.items
+of-found t name v P found h = subst (λ o. IfSome o P) (lines_of-found t name v found) h
+
+-- a file that is taken out of the table is taken out of the files
+map-remove_entry : (name : List ℕ) (es : List (Vec ℕ Global × SharedLines))
+    → map file_of (remove_entry (λ k. bytes_eq name k.items) es) ≡ remove_entry (bytes_eq name) (map file_of es)
+map-remove_entry name [] = refl
+map-remove_entry name (e ∷ es) = by (bytes_eq name e.0.items) (map-remove_entry name es)
+  where
+    by : (b : Bool) → map file_of (remove_entry (λ k. bytes_eq name k.items) es) ≡ remove_entry (bytes_eq name) (map file_of es)
+        → map file_of (cond b es (e ∷ remove_entry (λ k. bytes_eq name k.items) es)) ≡ cond b (map file_of es) (file_of e ∷ remove_entry (bytes_eq name) (map file_of es))
+    by true h = refl
+    by false h = ap (λ l. file_of e ∷ l) h
+
+pub files_of-discarded : (old new : Table) (name : List ℕ)
+    → new.entries ≡ remove_entry (λ k. bytes_eq name k.items) old.entries → files_of new ≡ remove_entry (bytes_eq name) (files_of old)
+files_of-discarded old new name removed = ap (map file_of) removed ∙ map-remove_entry name old.entries

@@ -1,0 +1,5 @@
+pub mod CuttingLemmas
+pub mod SharingLemmas
+pub mod TableLemmas
+pub mod EditLemmas
+pub mod EditLimits

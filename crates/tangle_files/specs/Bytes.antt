@@ -1,0 +1,8 @@
+-- The bytes that the rules of files name.
+use Rattle.std.specs.Prelude.{ℕ}
+
+abbrev pub line_feed : ℕ
+line_feed = 10
+
+abbrev pub space : ℕ
+space = 32

@@ -1,0 +1,25 @@
+-- The files after an edit that is not refused.
+use Rattle.std.specs.Prelude.{ℕ, ◌-◌, List, [], ◌∷◌, ◌++◌, take, drop}
+use Rattle.std.specs.Option.{option_map_or}
+use Rattle.std.specs.Map.{set_value, remove_entry}
+use Rattle.std.specs.Str.{bytes_eq}
+use Rattle.tangle_files.specs.declared.edits.Edit.{Edit}
+use Rattle.tangle_files.specs.declared.edits.Edit.TheVariants.{Insert, Remove, Replace, Create, Discard}
+use Rattle.tangle_files.specs.Lines.{FileTable, lines_of, trimmed}
+
+-- the lines with new ones in place of those between two places
+abbrev pub spliced : List (List ℕ) → ℕ → List (List ℕ) → ℕ → List (List ℕ)
+spliced lines start new_lines end = take start lines ++ new_lines ++ drop end lines
+
+-- the files, of which the one of this name has its lines changed
+abbrev pub with_lines_changed : FileTable → List ℕ → (List (List ℕ) → List (List ℕ)) → FileTable
+with_lines_changed files name change = option_map_or (λ lines. set_value (bytes_eq name) files (change lines)) (lines_of files name) files
+
+-- the files after an edit: a text becomes the line of its number, or goes, or stands in place of it; a new file has no
+-- lines and is the last; one that is discarded closes up
+abbrev pub edited : FileTable → Edit → FileTable
+edited files (Insert file at text) = with_lines_changed files file.items (λ lines. spliced lines (at - 1) (trimmed text.items ∷ []) (at - 1))
+edited files (Remove file at) = with_lines_changed files file.items (λ lines. spliced lines (at - 1) [] at)
+edited files (Replace file at text) = with_lines_changed files file.items (λ lines. spliced lines (at - 1) (trimmed text.items ∷ []) at)
+edited files (Create file) = files ++ (file.items, []) ∷ []
+edited files (Discard file) = remove_entry (bytes_eq file.items) files

@@ -1,0 +1,210 @@
+//! The table of files.
+ghost use Rattle.std.specs.Prelude.{◌≡◌, ◌≤◌, [], length, slice_get, OnOk, OnErr, IsOkUnless, IfOk, IfSome, IfNone, Err};
+ghost use Rattle.std.specs.Option.{option_copied, option_map};
+ghost use Rattle.tangle_files.specs.Lines.{file_number, name_at as name_in_table, lines_at as lines_in_table, lines_of};
+ghost use Rattle.tangle_files.specs.Adding.{HasDistinctNames, with_file, add_refusal, has_file, is_name, most_files, most_lines};
+ghost use Rattle.tangle_files.specs.Edits.{edit_refusal};
+ghost use Rattle.tangle_files.specs.Edited.{edited};
+
+use crate::cutting::{cut_lines, measure_lines};
+use crate::edits::Edit;
+use crate::line::Line;
+use crate::refusal::Refusal;
+use crate::splicing::make_edit;
+use indexmap::IndexMap;
+use std::alloc::Global;
+use std::marker::Model;
+use std::rc::Rc;
+use tangle_streams::NoMemory;
+
+/// The most bytes of a file's name.
+const LONGEST_NAME: usize = 255;
+
+/// The most files of a table.
+pub(crate) const MOST_FILES: usize = 256;
+
+/// The most lines of a file.
+pub(crate) const MOST_LINES: usize = 1_000_000;
+
+/// Files with distinct names and their lines, in the order in which they were added: at most 256 files, each of
+/// at most 1,000,000 lines. A file's number is its place in that order, from 0.
+#[derive(Drop)]
+pub struct Files {
+    table: IndexMap<Vec<u8>, Rc<Vec<Line>>>,
+}
+
+impl Model for Files {
+    ghost use Rattle.tangle_files.specs.Lines.{FileTable};
+
+    ghost Value = { FileTable };
+
+    ghost use Rattle.tangle_files.specs.Adding.{IsWithinLimits};
+    ghost use Rattle.tangle_files.specs.Table.{files_of};
+
+    ghost view = { λ f. files_of f.table };
+
+    ghost invariant = { λ f. IsWithinLimits (files_of f.table) };
+}
+
+impl Files {
+    /// A table without files. It takes no memory yet.
+    pub fn new(alloc: Global) -> Self
+        ensures { result ≡ [] }
+    {
+        Files {
+            table: IndexMap::new(alloc),
+        }
+    }
+
+    /// Adds a file as the last one. Its bytes are cut at line feeds: a last line without one is a line, and no bytes
+    /// give no lines. CWEB drops trailing blanks of a line, and so does this.
+    ///
+    /// # Errors
+    ///
+    /// The first of these that applies, and then the table stays as it was: `BadName` for a name that is empty, longer
+    /// than 255 bytes or has a line feed; `FileExists`; `TooManyFiles` at 256 files; `LineTooLong` for a line of more
+    /// than 65,535 bytes; `TooManyLines` for more than 1,000,000 lines; `NoMemory`.
+    pub fn add(&mut self, name: &[u8], bytes: &[u8]) -> Result<(), Refusal>
+        ensures ok { OnOk result (self.new ≡ with_file self.old name.now bytes.now) }
+        ensures refused { IfSome (add_refusal self.old name.now bytes.now) (λ e. result ≡ Err e) }
+        ensures only { IfNone (add_refusal self.old name.now bytes.now) (IsOkUnless result Refusal.NoMemory) }
+        ensures err { OnErr result (self.new ≡ self.old) }
+    {
+        if let Some(refusal) = self.refusal_to_add(name, bytes) {
+            return Err(refusal);
+        }
+        let alloc = *self.table.allocator();
+        let lines = Rc::new(alloc, cut_lines(alloc, bytes)?)?;
+        let name = Vec::from_slice(alloc, name)?;
+        self.table.insert(name, lines)?;
+        Ok(())
+    }
+
+    /// The same names with the same lines in the same order. The lines are shared and not copied.
+    ///
+    /// # Errors
+    ///
+    /// `NoMemory`.
+    pub fn copy(&self) -> Result<Files, NoMemory>
+        ensures { IfOk result (λ copy. copy ≡ self.now) }
+    {
+        let table = self.table.clone()?;
+        Ok(Files { table })
+    }
+
+    /// Makes an edit. The files keep their order, and one that is discarded closes up. An edit of lines makes anew the
+    /// list of the lines of its file alone.
+    ///
+    /// # Errors
+    ///
+    /// That of [`Files::refusal_to_edit`] if there is one, else `NoMemory`; and then the table stays as it was.
+    pub fn edit(&mut self, edit: &Edit) -> Result<(), Refusal>
+        ensures ok { OnOk result (self.new ≡ edited self.old edit.now) }
+        ensures refused { IfSome (edit_refusal self.old edit.now) (λ e. result ≡ Err e) }
+        ensures only { IfNone (edit_refusal self.old edit.now) (IsOkUnless result Refusal.NoMemory) }
+        ensures err { OnErr result (self.new ≡ self.old) }
+    {
+        if let Some(refusal) = self.refusal_to_edit(edit) {
+            return Err(refusal);
+        }
+        make_edit(&mut self.table, edit)?;
+        Ok(())
+    }
+
+    /// Why a file is not to be added, but for want of memory.
+    fn refusal_to_add(&self, name: &[u8], bytes: &[u8]) -> Option<Refusal>
+        ensures { result ≡ add_refusal self.now name.now bytes.now }
+    {
+        if !is_file_name(name) {
+            return Some(Refusal::BadName);
+        }
+        if self.has(name) {
+            return Some(Refusal::FileExists);
+        }
+        if self.count() >= MOST_FILES {
+            return Some(Refusal::TooManyFiles);
+        }
+        let lines = measure_lines(bytes);
+        if lines.is_too_long {
+            return Some(Refusal::LineTooLong);
+        }
+        if lines.count > MOST_LINES {
+            return Some(Refusal::TooManyLines);
+        }
+        None
+    }
+
+    /// How many files there are: at most 256, no two of which have one name.
+    pub fn count(&self) -> usize
+        ensures count { result ≡ length self.now }
+        ensures limit { result ≤ most_files }
+        ensures distinct { HasDistinctNames self.now }
+    {
+        self.table.len()
+    }
+
+    /// The name of the file of this number, from 0 on: `None` if there are not so many files.
+    pub fn name(&self, number: usize) -> Option<&[u8]>
+        ensures { option_copied result ≡ option_map (λ f. f.0) (slice_get self.now number) }
+    {
+        match self.table.get_index(number) {
+            Some((name, _)) => Some(name.as_slice()),
+            None => None,
+        }
+    }
+
+    /// The lines of the file of this name: `None` if there is no such file.
+    pub fn lines(&self, name: &[u8]) -> Option<&[Line]>
+        ensures { option_copied result ≡ lines_of self.now name.now }
+    {
+        match self.table.get(name) {
+            Some(lines) => Some(lines.as_slice()),
+            None => None,
+        }
+    }
+
+    /// Whether there is a file of this name.
+    pub(crate) fn has(&self, name: &[u8]) -> bool
+        ensures { result ≡ has_file self.now name.now }
+    {
+        self.lines(name).is_some()
+    }
+
+    /// The number of the file of this name, from 0 on: `None` if there is no such file.
+    pub fn find(&self, name: &[u8]) -> Option<u16>
+        ensures { result ≡ file_number self.now name.now }
+    {
+        match self.table.get_index_of(name) {
+            Some(number) => Some(number as u16),
+            None => None,
+        }
+    }
+
+    /// The name of the file of this number: no bytes if there is none.
+    pub fn name_at(&self, number: u16) -> &[u8]
+        ensures { result.now ≡ name_in_table self.now number }
+    {
+        match self.table.get_index(number as usize) {
+            Some((name, _)) => name.as_slice(),
+            None => &[],
+        }
+    }
+
+    /// The lines of the file of this number: none if there is none.
+    pub fn lines_at(&self, number: u16) -> &[Line]
+        ensures lines { result.now ≡ lines_in_table self.now number }
+        ensures limit { length result.now ≤ most_lines }
+    {
+        match self.table.get_index(number as usize) {
+            Some((_, lines)) => lines.as_slice(),
+            None => &[],
+        }
+    }
+}
+
+/// Whether the bytes are a file's name: not empty, at most 255 bytes, and without a line feed.
+pub fn is_file_name(name: &[u8]) -> bool
+    ensures { result ≡ is_name name.now }
+{
+    0 < name.len() && name.len() <= LONGEST_NAME && !name.contains(&b'\n')
+}

@@ -1,0 +1,20 @@
+//! Files cut into lines, edits of them, and the names of those that have roles.
+//!
+//! [`Files`] is the table of files, an [`Edit`] changes it, and [`Roles`] names the web, the change file and the main file.
+#![tactic(auto)]
+
+mod cutting;
+mod edits;
+mod files;
+mod line;
+mod refusal;
+mod role_names;
+mod roles;
+mod splicing;
+
+pub use edits::Edit;
+pub use files::{Files, is_file_name};
+pub use line::Line;
+pub use refusal::Refusal;
+pub use role_names::RoleNames;
+pub use roles::Roles;

@@ -1,0 +1,69 @@
+//! A line, which shares the text of its file.
+ghost use Rattle.std.specs.Prelude.{◌≡◌, ◌+◌, ◌^◌, ◌<◌, ◌≤◌, length, IfOk};
+ghost use Rattle.tangle_files.specs.Adding.{longest_line};
+ghost use Rattle.tangle_files.specs.Sharing.{part_of};
+
+use std::alloc::AllocError;
+use std::marker::Model;
+use std::rc::Rc;
+
+/// How many places the low number of a place tells apart.
+const LOW_PLACES: usize = 4_294_967_296;
+
+/// A line without its trailing spaces and its line feed: at most 65,535 bytes. It stands in a text that the lines of
+/// its file share. Its place there is two numbers, so that a line takes 16 bytes though a text may pass 4 GiB.
+#[derive(Drop)]
+pub struct Line {
+    text: Rc<Vec<u8>>,
+    low: u32,
+    high: u16,
+    size: u16,
+}
+
+impl Model for Line {
+    ghost use Rattle.std.specs.Prelude.{List, ℕ, ◌+◌, ◌≤◌, length};
+    ghost use Rattle.tangle_files.specs.Sharing.{part_of, place_of};
+
+    ghost Value = { List ℕ };
+
+    ghost view = { λ l. part_of l.text.value.items (place_of l.low l.high) l.size };
+
+    ghost invariant = { λ l. place_of l.low l.high + l.size ≤ length l.text.value.items };
+}
+
+impl Line {
+    /// The line of so many bytes from this place of the text on.
+    pub(crate) fn new(text: Rc<Vec<u8>>, place: usize, size: u16) -> Self
+        requires near { place < 2 ^ 48 }
+        requires within { place + size ≤ length text.value.items }
+        ensures { result ≡ part_of text.value.items place size }
+    {
+        Line {
+            text,
+            low: (place % LOW_PLACES) as u32,
+            high: (place / LOW_PLACES) as u16,
+            size,
+        }
+    }
+
+    /// The same line, which shares its text with this one.
+    pub(crate) fn share(&self) -> Result<Line, AllocError>
+        ensures { IfOk result (λ line. line ≡ self.now) }
+    {
+        Ok(Line {
+            text: self.text.clone()?,
+            low: self.low,
+            high: self.high,
+            size: self.size,
+        })
+    }
+
+    /// The bytes of the line.
+    pub fn bytes(&self) -> &[u8]
+        ensures value { result.now ≡ self.now }
+        ensures short { length result.now ≤ longest_line }
+    {
+        let place = self.low as usize + self.high as usize * LOW_PLACES;
+        &self.text.as_slice()[place..place + self.size as usize]
+    }
+}

@@ -1,0 +1,56 @@
+//! The names of files that have roles, as they were given.
+ghost use Rattle.std.specs.Prelude.{◌≡◌};
+ghost use Rattle.std.specs.Option.{option_copied, option_map};
+
+use std::marker::Model;
+
+/// The names of the web, of the change file if there is one, and of the main file, as they were given: nothing is known
+/// of them. [`Roles`](crate::Roles) has such names that are files' names.
+#[derive(Drop)]
+pub struct RoleNames {
+    web: Vec<u8>,
+    change: Option<Vec<u8>>,
+    out: Vec<u8>,
+}
+
+impl Model for RoleNames {
+    ghost use Rattle.std.specs.Option.{option_map};
+    ghost use Rattle.tangle_files.specs.Roles.{RoleNames as NamesGiven};
+
+    ghost Value = { NamesGiven };
+
+    ghost view = { λ r. record { web = r.web.items; change = option_map (λ c. c.items) r.change; out = r.out.items } };
+}
+
+impl RoleNames {
+    /// These names.
+    pub fn new(web: Vec<u8>, change: Option<Vec<u8>>, out: Vec<u8>) -> Self
+        ensures { result ≡ record { web = web.items; change = option_map (λ c. c.items) change; out = out.items } }
+    {
+        RoleNames { web, change, out }
+    }
+
+    /// The name of the web.
+    pub fn web(&self) -> &[u8]
+        ensures { result.now ≡ self.now.web }
+    {
+        self.web.as_slice()
+    }
+
+    /// The name of the change file: `None` if there is none.
+    pub fn change(&self) -> Option<&[u8]>
+        ensures { option_copied result ≡ self.now.change }
+    {
+        match &self.change {
+            Some(name) => Some(name.as_slice()),
+            None => None,
+        }
+    }
+
+    /// The name of the main file.
+    pub fn out(&self) -> &[u8]
+        ensures { result.now ≡ self.now.out }
+    {
+        self.out.as_slice()
+    }
+}

@@ -1,0 +1,121 @@
+//! The roles of files.
+ghost use Rattle.std.specs.Prelude.{◌≡◌, IfOk, IfSome, IfNone, IsOkUnless, Err};
+ghost use Rattle.std.specs.Option.{option_copied, option_map};
+ghost use Rattle.tangle_files.specs.Roles.{RoleNames as NamesGiven, is_name_if_any, roles_refusal, fits as roles_fit, is_there, is_there_if_any};
+
+use crate::files::{Files, is_file_name};
+use crate::refusal::Refusal;
+use crate::role_names::RoleNames;
+use std::alloc::Global;
+use std::marker::Model;
+use tangle_streams::NoMemory;
+
+/// The names of the web, of the change file if there is one, and of the main file that is written. CWEB's programs take
+/// the same three from the command line.
+#[derive(Drop)]
+pub struct Roles {
+    names: RoleNames,
+}
+
+impl Model for Roles {
+    ghost use Rattle.tangle_files.specs.Roles.{RoleNames as NamesGiven};
+
+    ghost Value = { NamesGiven };
+
+    ghost view = { λ r. r.names };
+}
+
+impl Roles {
+    /// The roles of these names.
+    ///
+    /// # Errors
+    ///
+    /// `BadName` where one of the names is empty, longer than 255 bytes or has a line feed; else `NoMemory`.
+    pub fn new(
+        alloc: Global,
+        web: &[u8],
+        change: Option<&[u8]>,
+        out: &[u8],
+    ) -> Result<Self, Refusal>
+        ensures roles { IfOk result (λ r. r ≡ record { web = web.now; change = option_copied change.entry; out = out.now }) }
+        ensures refused { let names : NamesGiven = record { web = web.now; change = option_copied change.entry; out = out.now } in
+            IfSome (roles_refusal names) (λ e. result ≡ Err e) }
+        ensures only { let names : NamesGiven = record { web = web.now; change = option_copied change.entry; out = out.now } in
+            IfNone (roles_refusal names) (IsOkUnless result Refusal.NoMemory) }
+    {
+        if !(is_file_name(web) && is_file_name_if_any(change) && is_file_name(out)) {
+            return Err(Refusal::BadName);
+        }
+        let web = Vec::from_slice(alloc, web)?;
+        let change = copy_if_any(alloc, change)?;
+        let out = Vec::from_slice(alloc, out)?;
+        Ok(Roles {
+            names: RoleNames::new(web, change, out),
+        })
+    }
+
+    /// The name of the web.
+    pub fn web(&self) -> &[u8]
+        ensures { result.now ≡ self.now.web }
+    {
+        self.names.web()
+    }
+
+    /// The name of the change file: `None` if there is none.
+    pub fn change(&self) -> Option<&[u8]>
+        ensures { option_copied result ≡ self.now.change }
+    {
+        self.names.change()
+    }
+
+    /// The name of the main file.
+    pub fn out(&self) -> &[u8]
+        ensures { result.now ≡ self.now.out }
+    {
+        self.names.out()
+    }
+
+    /// Whether the web, and the change file that is named, are in the table.
+    pub fn fits(&self, files: &Files) -> bool
+        ensures { result ≡ roles_fit files.now self.now }
+    {
+        is_in(files, self.web()) && is_in_if_any(files, self.change())
+    }
+}
+
+/// Whether the bytes are a file's name, if there are any.
+fn is_file_name_if_any(name: Option<&[u8]>) -> bool
+    ensures { result ≡ is_name_if_any (option_copied name.entry) }
+{
+    match name {
+        Some(name) => is_file_name(name),
+        None => true,
+    }
+}
+
+/// A copy of the name, if there is one.
+fn copy_if_any(alloc: Global, name: Option<&[u8]>) -> Result<Option<Vec<u8>>, NoMemory>
+    ensures { IfOk result (λ copy. option_map (λ c. c.items) copy ≡ option_copied name.entry) }
+{
+    match name {
+        Some(name) => Ok(Some(Vec::from_slice(alloc, name)?)),
+        None => Ok(None),
+    }
+}
+
+/// Whether the file is in the table.
+fn is_in(files: &Files, name: &[u8]) -> bool
+    ensures { result ≡ is_there files.now name.now }
+{
+    files.find(name).is_some()
+}
+
+/// Whether the file is in the table, if one is named.
+fn is_in_if_any(files: &Files, name: Option<&[u8]>) -> bool
+    ensures { result ≡ is_there_if_any files.now (option_copied name.entry) }
+{
+    match name {
+        Some(name) => is_in(files, name),
+        None => true,
+    }
+}

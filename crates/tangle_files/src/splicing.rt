@@ -1,0 +1,130 @@
+//! The table of files after an edit.
+ghost use Rattle.std.specs.Prelude.{◌≡◌, ◌≤◌, ◌++◌, [], ◌∷◌, None, false, length, IfOk, IfSome, OnErr, OnOk};
+ghost use Rattle.std.specs.Option.{option_to_list};
+ghost use Rattle.std.specs.Map.{remove_entry};
+ghost use Rattle.std.specs.Str.{bytes_eq};
+ghost use Rattle.tangle_files.specs.Lines.{lines_of, trimmed};
+ghost use Rattle.tangle_files.specs.Adding.{is_too_long};
+ghost use Rattle.tangle_files.specs.Edits.{edit_refusal};
+ghost use Rattle.tangle_files.specs.Edited.{edited, spliced, with_lines_changed};
+ghost use Rattle.tangle_files.specs.Table.{files_of};
+
+use crate::cutting::without_trailing_spaces;
+use crate::edits::Edit;
+use crate::line::Line;
+use indexmap::IndexMap;
+use std::alloc::{AllocError, Global};
+use std::rc::Rc;
+
+/// Makes an edit that is not refused. Of a file that is edited a new list of lines is made; the lines of all others
+/// stay where they are.
+pub(crate) fn make_edit(
+    table: &mut IndexMap<Vec<u8>, Rc<Vec<Line>>>,
+    edit: &Edit,
+) -> Result<(), AllocError>
+    requires { edit_refusal (files_of table.old) edit.now ≡ None }
+    ensures ok { OnOk result (files_of table.new ≡ edited (files_of table.old) edit.now) }
+    ensures err { OnErr result (files_of table.new ≡ files_of table.old) }
+{
+    let alloc = *table.allocator();
+    match edit {
+        Edit::Insert { file, at, text } => {
+            let line = line_of_text(alloc, text)?;
+            change_lines(table, file, *at - 1, Some(line), *at - 1)
+        }
+        Edit::Remove { file, at } => change_lines(table, file, *at - 1, None, *at),
+        Edit::Replace { file, at, text } => {
+            let line = line_of_text(alloc, text)?;
+            change_lines(table, file, *at - 1, Some(line), *at)
+        }
+        Edit::Create { file } => create_file(table, file),
+        Edit::Discard { file } => {
+            discard_file(table, file);
+            Ok(())
+        }
+    }
+}
+
+/// The line of a text that is not too long.
+fn line_of_text(alloc: Global, text: &[u8]) -> Result<Line, AllocError>
+    requires { is_too_long (trimmed text.now) ≡ false }
+    ensures { IfOk result (λ line. line ≡ trimmed text.now) }
+{
+    let bytes = without_trailing_spaces(text);
+    let shared = Rc::new(alloc, Vec::from_slice(alloc, bytes)?)?;
+    Ok(Line::new(shared, 0, bytes.len() as u16))
+}
+
+/// Puts a line, or none, in place of those between two places, in the file of this name.
+fn change_lines(
+    table: &mut IndexMap<Vec<u8>, Rc<Vec<Line>>>,
+    file: &[u8],
+    start: usize,
+    line: Option<Line>,
+    end: usize,
+) -> Result<(), AllocError>
+    requires { IfSome (lines_of (files_of table.old) file.now) (λ lines. (start ≤ length lines) × (end ≤ length lines)) }
+    ensures ok { OnOk result (files_of table.new ≡ with_lines_changed (files_of table.old) file.now (λ lines. spliced lines start (option_to_list line) end)) }
+    ensures err { OnErr result (files_of table.new ≡ files_of table.old) }
+{
+    let alloc = *table.allocator();
+    match table.get_mut(file) {
+        Some(shared) => {
+            let lines = splice(alloc, shared.as_slice(), start, line, end)?;
+            *shared = Rc::new(alloc, lines)?;
+        }
+        None => {}
+    }
+    Ok(())
+}
+
+/// The lines with one, or none, in place of those between two places.
+fn splice(
+    alloc: Global,
+    lines: &[Line],
+    start: usize,
+    line: Option<Line>,
+    end: usize,
+) -> Result<Vec<Line>, AllocError>
+    requires start { start ≤ length lines.now }
+    requires end { end ≤ length lines.now }
+    ensures { IfOk result (λ made. made.items ≡ spliced lines.now start (option_to_list line) end) }
+{
+    let mut made = Vec::with_capacity(alloc, start + 1 + (lines.len() - end))?;
+    share_lines(&mut made, &lines[..start])?;
+    if let Some(line) = line {
+        made.push(line)?;
+    }
+    share_lines(&mut made, &lines[end..])?;
+    Ok(made)
+}
+
+/// Puts more lines behind those that are there. They share the texts of these.
+fn share_lines(made: &mut Vec<Line>, lines: &[Line]) -> Result<(), AllocError>
+    ensures { OnOk result (made.new.items ≡ made.old.items ++ lines.now) }
+{
+    for line in lines {
+        made.push(line.share()?)?;
+    }
+    Ok(())
+}
+
+/// Puts a file without lines behind the others.
+fn create_file(table: &mut IndexMap<Vec<u8>, Rc<Vec<Line>>>, file: &[u8]) -> Result<(), AllocError>
+    requires { lines_of (files_of table.old) file.now ≡ None }
+    ensures ok { OnOk result (files_of table.new ≡ files_of table.old ++ (file.now, []) ∷ []) }
+    ensures err { OnErr result (files_of table.new ≡ files_of table.old) }
+{
+    let alloc = *table.allocator();
+    let name = Vec::from_slice(alloc, file)?;
+    let lines = Rc::new(alloc, Vec::new(alloc))?;
+    table.insert(name, lines)?;
+    Ok(())
+}
+
+/// Takes the file of this name out, and the others close up.
+fn discard_file(table: &mut IndexMap<Vec<u8>, Rc<Vec<Line>>>, file: &[u8])
+    ensures { files_of table.new ≡ remove_entry (bytes_eq file.now) (files_of table.old) }
+{
+    let _ = table.shift_remove(file);
+}
