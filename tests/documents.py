@@ -6,9 +6,9 @@ usage: documents.py [FOLDER]      the folder of the repository
   is a function of the crate with that clause; each file of specs/ and each crate with one is in the map.
 - docs/promises.md: each public call of a crate that has a table there is in it.
 - docs/sessions.md, where it is: the reference answers its conversation so. README.md names each page of docs/.
-- crates/*/must-fail: each public function that is no law has an edit of its own, or of a private function that it calls,
-  unless docs/wrong-bodies.md has it in a row '| `CRATE` | without an edit: `TYPE::NAME`, `NAME` | why |'. Each text that
-  an edit replaces stands once in its file, also of those in tests/wrong-bodies.
+- crates/*/must-fail and tests/wrong-bodies: each public function that is no law has an edit of its own, or of a private
+  function that it calls, unless docs/wrong-bodies.md has it in a row '| `CRATE` | without an edit: `TYPE::NAME`, `NAME` |
+  why |'. Each text that an edit replaces stands once in its file.
 - crates/tangle_session: work is begun once in a start and once in an edit, and output files are written in one place (ONLY_IN).
 The last line is 'N passed, M failed'.
 """
@@ -164,7 +164,8 @@ def check_edits(crate, here, excused):
     if not here.edits:
         return
     functions = functions_of(here)
-    edited = set().union(*(edited_functions(here, text) for text in here.edits.values()))
+    edits = [*here.edits.values(), *here.further_edits.values()]
+    edited = set().union(*(edited_functions(here, text) for text in edits))
     surface = surface_of(here, functions)
     private = {one[3]: one for one in functions if one not in surface}
     for one in surface:
