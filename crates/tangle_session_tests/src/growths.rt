@@ -1,5 +1,5 @@
 //! Each growth of a start and of an edit refused in turn: the call says so, and all is as it was.
-use crate::support::{check_handed_back, start, tell_all, told_project};
+use crate::support::{check_handed_back, handed_back, start, tell_all, told_project};
 use crate::webs::{ABBREVIATION, CYCLE, TWO_BRANCHES};
 use std::alloc::{AllocError, Global};
 use std::process::Abort;
@@ -73,7 +73,10 @@ fn refuse_in_step(
     step: &Step,
 ) -> Result<(), Fail> {
     let edit = edit_of(alloc, step)?;
-    refuse_each_growth(rt, alloc, session, &edit, step.3)?;
+    let refused = refuse_each_growth(rt, alloc, session, &edit, step.3);
+    // it is let go once, in front of the ways out
+    drop(edit);
+    refused?;
     Ok(())
 }
 
@@ -168,7 +171,7 @@ fn start_without(
     nth: u32,
 ) -> (Option<(Files, Roles, Refusal)>, bool) {
     let is_harnessed = refuse_growth(alloc, nth);
-    let handed_back = Session::start(alloc, files, roles).err();
+    let handed_back = handed_back(alloc, files, roles);
     (handed_back, end_refusals(alloc, is_harnessed))
 }
 

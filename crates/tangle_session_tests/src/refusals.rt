@@ -64,12 +64,19 @@ fn check_none(rt: &impl Abort, alloc: Global, session: &Session, name: &[u8]) {
     assert_eq!(rt; session.output_size(name), None);
 }
 
+// Names that no output file has.
+const NO_OUTPUTS: [&[u8]; 5] = [b"", b"a.w", b"a.c ", b"b.c", b"v"];
+
+fn check_each_none(rt: &impl Abort, alloc: Global, session: &Session) {
+    for name in &NO_OUTPUTS {
+        check_none(rt, alloc, session, name);
+    }
+    assert_eq!(rt; session.output_size(b"a.c"), Some(83));
+}
+
 #[test]
 fn outputs_that_are_none(rt: HostRuntime) -> Result<(), Fail> {
     let session = start(rt.alloc(), ONE_NAME)?;
-    for name in [b"".as_slice(), b"a.w", b"a.c ", b"b.c", b"v"] {
-        check_none(&rt, rt.alloc(), &session, name);
-    }
-    assert_eq!(rt; session.output_size(b"a.c"), Some(83));
+    check_each_none(&rt, rt.alloc(), &session);
     Ok(())
 }

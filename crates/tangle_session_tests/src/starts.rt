@@ -1,5 +1,7 @@
 //! Sessions that are started: their outputs, faults and work, and why a start is refused.
-use crate::support::{check_faults, check_handed_back, check_outputs, start, told_project};
+use crate::support::{
+    check_faults, check_handed_back, check_outputs, handed_back, start, told_project,
+};
 use std::alloc::Global;
 use std::process::Abort;
 use std::test::Fail;
@@ -114,9 +116,9 @@ fn check_refused(
     let files = files_with(alloc, &[(b"b.w", b"@ A.\n@c\nx\n"), (b"a.ch", b"@x\n")])?;
     let roles = Roles::new(alloc, web, change, b"b.c")?;
     let before = told_project(alloc, &files, &roles)?;
-    match Session::start(alloc, files, roles) {
-        Ok(_) => Err(Fail::from("started")),
-        Err(handed_back) => check_handed_back(rt, alloc, &before, &handed_back, refusal),
+    match handed_back(alloc, files, roles) {
+        Some(handed_back) => check_handed_back(rt, alloc, &before, &handed_back, refusal),
+        None => Err(Fail::from("started")),
     }
 }
 

@@ -4,7 +4,7 @@ use std::alloc::Global;
 use std::process::Abort;
 use std::test::Fail;
 use tangle_folders::MemorySink;
-use tangle_lines::{Files, Refusal, Roles, Sink, put, write_fault};
+use tangle_lines::{Files, Line, Refusal, Roles, Sink, put, write_fault};
 use tangle_session::Session;
 use tangle_test_support::files_with;
 
@@ -19,10 +19,21 @@ pub(crate) fn start_with(
 ) -> Result<Session, Fail> {
     let files = files_with(alloc, files)?;
     let roles = Roles::new(alloc, b"a.w", change, b"a.c")?;
-    match Session::start(alloc, files, roles) {
-        Ok(session) => Ok(session),
-        Err((_, _, refusal)) => Err(Fail::from(refusal)),
-    }
+    Ok(started(alloc, files, roles).ok_or("not started")?)
+}
+
+// It stands apart, so that what a start promises is looked at once.
+fn started(alloc: Global, files: Files, roles: Roles) -> Option<Session> {
+    Session::start(alloc, files, roles).ok()
+}
+
+/// What a start that is refused hands back.
+pub(crate) fn handed_back(
+    alloc: Global,
+    files: Files,
+    roles: Roles,
+) -> Option<(Files, Roles, Refusal)> {
+    Session::start(alloc, files, roles).err()
 }
 
 /// A session of one file, the web `a.w`.
@@ -76,15 +87,26 @@ pub(crate) fn tell_faults(session: &Session, sink: &mut MemorySink) -> Result<()
     Ok(())
 }
 
-// The files: the name and each line of every one.
+fn tell_lines(lines: &[Line], sink: &mut MemorySink) -> Result<(), Fail> {
+    for line in lines {
+        tell(sink, b"|")?;
+        tell(sink, line.bytes())?;
+    }
+    Ok(())
+}
+
+// A file: its name and each of its lines.
+fn tell_file(files: &Files, name: &[u8], sink: &mut MemorySink) -> Result<(), Fail> {
+    tell(sink, name)?;
+    match files.lines(name) {
+        Some(lines) => tell_lines(lines, sink),
+        None => Err(Fail::from("the file")),
+    }
+}
+
 fn tell_files(files: &Files, sink: &mut MemorySink) -> Result<(), Fail> {
     for number in 0..files.count() {
-        let name = files.name(number).ok_or("the name")?;
-        tell(sink, name)?;
-        for line in files.lines(name).ok_or("the file")? {
-            tell(sink, b"|")?;
-            tell(sink, line.bytes())?;
-        }
+        tell_file(files, files.name(number).unwrap_or(b""), sink)?;
     }
     Ok(())
 }
