@@ -197,13 +197,20 @@ fn a_text_that_is_too_long(rt: HostRuntime) -> Result<(), Fail> {
     check_refused(&rt, rt.alloc(), (Kind::Replace, b"b.w", 2, &long), refusal)
 }
 
+// Behind the most lines.
+const ONE_MORE: Request<'static> = (Kind::Insert, b"a.w", 1_000_001, b"x");
+
+// The file refuses a line that is too long.
+fn refuse_long_line(rt: &impl Abort, alloc: Global, files: &mut Files) -> Result<(), Fail> {
+    let long = repeated(alloc, b'x', 65_536)?;
+    let request = (Kind::Insert, b"a.w".as_slice(), 1, long.as_slice());
+    refuse(rt, alloc, files, request, Refusal::LineTooLong)
+}
+
 // A file of the most lines refuses one more, and first a line that is too long.
 fn refuse_more_lines(rt: &impl Abort, alloc: Global, files: &mut Files) -> Result<(), Fail> {
-    let one_more = (Kind::Insert, b"a.w".as_slice(), 1_000_001, b"x".as_slice());
-    refuse(rt, alloc, files, one_more, Refusal::TooManyLines)?;
-    let long = repeated(alloc, b'x', 65_536)?;
-    let too_long = (Kind::Insert, b"a.w".as_slice(), 1, long.as_slice());
-    refuse(rt, alloc, files, too_long, Refusal::LineTooLong)
+    refuse(rt, alloc, files, ONE_MORE, Refusal::TooManyLines)?;
+    refuse_long_line(rt, alloc, files)
 }
 
 // Edits that keep the most lines.

@@ -84,11 +84,14 @@ fn reading_is_spared(rt: &impl Abort, alloc: Global, files: &Files, roles: &Role
     was_spared
 }
 
-// A web that includes itself, and a change file with faults.
+// A web that includes itself.
+const FAULTY_WEB: &[u8] = b"@i\n@i none.w\n@i a.w\nint a;\nint b;\n";
+
+// A change file with faults.
+const FAULTY_CHANGES: &[u8] = b"@z\n@x\nint a;\nint c;\n@y\nint z;\n@x\nno\n@y\n";
+
 fn faulty_files(alloc: Global) -> Result<Files, Fail> {
-    let web = b"@i\n@i none.w\n@i a.w\nint a;\nint b;\n";
-    let change = b"@z\n@x\nint a;\nint c;\n@y\nint z;\n@x\nno\n@y\n";
-    Ok(files_with(alloc, &[(b"a.w", web), (b"a.ch", change)])?)
+    Ok(files_with(alloc, &[(b"a.w", FAULTY_WEB), (b"a.ch", FAULTY_CHANGES)])?)
 }
 
 #[test]
@@ -146,16 +149,21 @@ fn building_is_spared(rt: &impl Abort, alloc: Global, web: &Web, nth: u32) -> bo
     was_spared
 }
 
+// Refuses each growth of building the table of that web, until none is left.
+fn refuse_each_building(rt: &impl Abort, alloc: Global, web: &Web) -> Result<(), Fail> {
+    for nth in 1..1000 {
+        if building_is_spared(rt, alloc, web, nth) {
+            return Ok(());
+        }
+    }
+    Err(Fail::from("never built"))
+}
+
 #[test]
 fn each_growth_of_build_refused(rt: HostRuntime) -> Result<(), Fail> {
     let text = b"@ A.\n@c\n@<a...@>@<a@>@<ab@>@<c...@>@<b@>@(d@>\n";
     let files = files_with(rt.alloc(), &[(b"a.w", text)])?;
     let source = read(rt.alloc(), &files, None)?;
     let web = scan(rt.alloc(), &source)?;
-    for nth in 1..1000 {
-        if building_is_spared(&rt, rt.alloc(), &web, nth) {
-            return Ok(());
-        }
-    }
-    Err(Fail::from("never built"))
+    refuse_each_building(&rt, rt.alloc(), &web)
 }

@@ -6,6 +6,7 @@ use crate::fault_lines::assert_faults;
 use std::alloc::Global;
 use std::process::Abort;
 use std::test::Fail;
+use tangle_lines::Source;
 use tangle_names::{NameTable, Resolved};
 use tangle_scan::{Web, scan};
 use tangle_test_support::{files_with, read};
@@ -27,11 +28,16 @@ fn assert_resolved(rt: &impl Abort, web: &Web, table: &NameTable, wanted: &[Reso
     }
 }
 
+// The table of the names in this source.
+fn table_of_source(alloc: Global, source: &Source) -> Result<NameTable, Fail> {
+    let web = scan(alloc, source)?;
+    Ok(NameTable::build(alloc, &web)?)
+}
+
 fn table_for(alloc: Global, text: &[u8]) -> Result<NameTable, Fail> {
     let files = files_with(alloc, &[(b"a.w", text)])?;
     let source = read(alloc, &files, None)?;
-    let web = scan(alloc, &source)?;
-    Ok(NameTable::build(alloc, &web)?)
+    table_of_source(alloc, &source)
 }
 
 // The web with this text has these names, its occurrences resolve so, and the lines of its faults are these.

@@ -41,6 +41,18 @@ const WEBS: [(&[u8], &[u8], &[u8]); 6] = [
     ),
 ];
 
+// The session has these outputs and faults.
+fn check_session(
+    rt: &impl Abort,
+    alloc: Global,
+    session: &Session,
+    outputs: &[u8],
+    faults: &[u8],
+) -> Result<(), Fail> {
+    check_outputs(rt, alloc, session, outputs)?;
+    check_faults(rt, alloc, session, faults)
+}
+
 // A session of this web has these outputs and faults.
 fn check_web(
     rt: &impl Abort,
@@ -50,8 +62,7 @@ fn check_web(
     faults: &[u8],
 ) -> Result<(), Fail> {
     let session = start(alloc, web)?;
-    check_outputs(rt, alloc, &session, outputs)?;
-    check_faults(rt, alloc, &session, faults)
+    check_session(rt, alloc, &session, outputs, faults)
 }
 
 #[test]
@@ -66,17 +77,25 @@ fn outputs_and_faults_of_webs(rt: HostRuntime) -> Result<(), Fail> {
 const TOO_LARGE: &[u8] =
     b"a.w:3: error: too large: <n00>\na.w:5: error: too large: <n01>\na.w:7: error: too large: <n02>\na.w:9: error: too large: <n03>\na.w:11: error: too large: <n04>\na.w:13: error: too large: <n05>\na.w:15: error: too large: <n06>\na.w:17: error: too large: <n07>\na.w:19: error: too large: <n08>\nerror: too large: the unnamed program\n";
 
+fn check_too_large(rt: &impl Abort, alloc: Global, session: &Session) -> Result<(), Fail> {
+    assert_eq!(rt; session.last_work(), 22);
+    check_faults(rt, alloc, session, TOO_LARGE)
+}
+
 #[test]
 fn names_too_large_to_be_written(rt: HostRuntime) -> Result<(), Fail> {
-    let alloc = rt.alloc();
-    let session = start(alloc, &doubling(alloc)?)?;
-    assert_eq!(rt; session.last_work(), 22);
-    check_faults(&rt, alloc, &session, TOO_LARGE)
+    let web = doubling(rt.alloc())?;
+    let session = start(rt.alloc(), &web)?;
+    check_too_large(&rt, rt.alloc(), &session)
+}
+
+fn count_outputs(session: &Session) -> usize {
+    session.output_names().count()
 }
 
 // The session has so many output files, and its start expanded so many nodes.
 fn check_counts(rt: &impl Abort, session: &Session, outputs: usize, work: u64) {
-    assert_eq!(rt; session.output_names().count(), outputs);
+    assert_eq!(rt; count_outputs(session), outputs);
     assert_eq!(rt; session.last_work(), work);
 }
 
