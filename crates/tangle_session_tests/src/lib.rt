@@ -1,14 +1,10 @@
-//! The tests of sessions: what no clause of theirs says.
+//! The tests of sessions: what no clause of theirs says, and no conversation shows: refused growths, writers, and starts that are refused.
 //!
 //! They ask through the public calls alone, as a program does that keeps a project open.
 #![tactic(auto)]
 
 #[cfg(test)]
-mod edits;
-#[cfg(test)]
 mod growths;
-#[cfg(test)]
-mod refusals;
 #[cfg(test)]
 mod starts;
 #[cfg(test)]

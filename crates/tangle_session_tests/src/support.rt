@@ -4,23 +4,12 @@ use std::alloc::Global;
 use std::process::Abort;
 use std::test::Fail;
 use tangle_folders::MemorySink;
-use tangle_lines::{Files, Line, Refusal, Roles, Sink, put, write_fault};
+use tangle_lines::{Files, Line, Refusal, Roles, put, write_fault};
 use tangle_session::Session;
 use tangle_test_support::files_with;
 
-/// Room for all that a test writes.
-pub(crate) const AMPLE: usize = 10_000_000;
-
-/// A session of these files, with the web `a.w`, this change file and the main file `a.c`.
-pub(crate) fn start_with(
-    alloc: Global,
-    files: &[(&[u8], &[u8])],
-    change: Option<&[u8]>,
-) -> Result<Session, Fail> {
-    let files = files_with(alloc, files)?;
-    let roles = Roles::new(alloc, b"a.w", change, b"a.c")?;
-    Ok(started(alloc, files, roles).ok_or("not started")?)
-}
+// Room for all that a test writes.
+const AMPLE: usize = 10_000_000;
 
 // It stands apart, so that what a start promises is looked at once.
 fn started(alloc: Global, files: Files, roles: Roles) -> Option<Session> {
@@ -36,9 +25,11 @@ pub(crate) fn handed_back(
     Session::start(alloc, files, roles).err()
 }
 
-/// A session of one file, the web `a.w`.
+/// A session of one file, the web `a.w`, with the main file `a.c`.
 pub(crate) fn start(alloc: Global, web: &[u8]) -> Result<Session, Fail> {
-    start_with(alloc, &[(b"a.w", web)], None)
+    let files = files_with(alloc, &[(b"a.w", web)])?;
+    let roles = Roles::new(alloc, b"a.w", None, b"a.c")?;
+    Ok(started(alloc, files, roles).ok_or("not started")?)
 }
 
 // Tells a line.
@@ -49,10 +40,10 @@ fn tell(sink: &mut MemorySink, line: &[u8]) -> Result<(), Fail> {
 }
 
 /// Writes an output file. It stands apart, so that what a session promises of it is looked at once.
-pub(crate) fn write_output<S: Sink>(
+pub(crate) fn write_output(
     session: &Session,
     name: &[u8],
-    sink: &mut S,
+    sink: &mut MemorySink,
 ) -> Result<u128, Refusal> {
     session.write_output(name, sink)
 }
@@ -71,16 +62,16 @@ fn tell_output(session: &Session, name: &[u8], sink: &mut MemorySink) -> Result<
     Ok(())
 }
 
-/// The output files, one after another: the name of each on a line, and its bytes.
-pub(crate) fn tell_outputs(session: &Session, sink: &mut MemorySink) -> Result<(), Fail> {
+// The output files, one after another: the name of each on a line, and its bytes.
+fn tell_outputs(session: &Session, sink: &mut MemorySink) -> Result<(), Fail> {
     for name in session.output_names() {
         tell_output(session, name, sink)?;
     }
     Ok(())
 }
 
-/// The lines of the faults.
-pub(crate) fn tell_faults(session: &Session, sink: &mut MemorySink) -> Result<(), Fail> {
+// The lines of the faults.
+fn tell_faults(session: &Session, sink: &mut MemorySink) -> Result<(), Fail> {
     for fault in session.faults() {
         write_fault(fault, sink)?;
     }
@@ -153,30 +144,4 @@ pub(crate) fn tell_all(alloc: Global, session: &Session) -> Result<MemorySink, F
     let mut digits = Buffer::new();
     tell(&mut sink, digits.format(session.last_work()).as_bytes())?;
     Ok(sink)
-}
-
-/// The session has these output files, each its name on a line and its bytes.
-pub(crate) fn check_outputs(
-    rt: &impl Abort,
-    alloc: Global,
-    session: &Session,
-    wanted: &[u8],
-) -> Result<(), Fail> {
-    let mut sink = MemorySink::new(alloc, AMPLE);
-    tell_outputs(session, &mut sink)?;
-    assert!(rt; sink.bytes() == wanted);
-    Ok(())
-}
-
-/// The faults of the session have these lines.
-pub(crate) fn check_faults(
-    rt: &impl Abort,
-    alloc: Global,
-    session: &Session,
-    wanted: &[u8],
-) -> Result<(), Fail> {
-    let mut sink = MemorySink::new(alloc, AMPLE);
-    tell_faults(session, &mut sink)?;
-    assert!(rt; sink.bytes() == wanted);
-    Ok(())
 }

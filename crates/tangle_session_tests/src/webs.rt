@@ -1,8 +1,5 @@
 //! Webs that several tests tangle.
 
-/// A program that uses one name.
-pub(crate) const ONE_NAME: &[u8] = b"@ A.\n@c\nint x=@<v@>;\n@ @<v@>=\n1\n";
-
 /// An abbreviation of one name.
 pub(crate) const ABBREVIATION: &[u8] = b"@ A.\n@c\n@<Ini...@>\n@ @<Initialize@>=\nx=0;\n";
 
@@ -13,9 +10,3 @@ pub(crate) const CYCLE: &[u8] =
 /// The program uses two names, of which the first uses others below.
 pub(crate) const TWO_BRANCHES: &[u8] =
     b"@ P.\n@c\n@<A@>@<S@>\n@ @<A@>=\n@<B@>\n@ @<B@>=\n@<C@>\n@ @<C@>=\n1\n@ @<S@>=\n2\n";
-
-/// A macro that the program asks for.
-pub(crate) const MACRO: &[u8] = b"@ A.\n@d N 10\n@c\n@h\nint x=N;\n";
-
-/// Two lines of C.
-pub(crate) const TWO_LINES: &[u8] = b"@ A.\n@c\nint x;\nint y;\n";
