@@ -1,4 +1,5 @@
-//! The tests of sessions: what no clause of theirs says, and no conversation shows: refused growths, writers, and starts that are refused.
+//! The tests of sessions, of what no clause of theirs says and no conversation shows: refused growths, a writer that fails, and starts that
+//! are refused.
 //!
 //! They ask through the public calls alone, as a program does that keeps a project open.
 #![tactic(auto)]
