@@ -6,6 +6,8 @@
 #[cfg(test)]
 mod digraphs;
 #[cfg(test)]
+mod edits;
+#[cfg(test)]
 mod expansions;
 #[cfg(test)]
 mod graph_faults;
