@@ -10,3 +10,4 @@ mod RetangleLemmas
 mod WorkedWords
 mod AnswerLemmas
 mod AloneLemmas
+mod HistoryLemmas

@@ -7,3 +7,4 @@ pub mod Run
 pub mod Asking
 pub mod Tries
 pub mod Conversation
+pub mod Histories

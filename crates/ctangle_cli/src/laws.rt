@@ -1,12 +1,18 @@
-//! Laws of loading, which hold of each folder that tells its files, and of the names of outputs.
-ghost use Rattle.std.specs.Prelude.{◌≡◌, ◌≢◌, ◌⊎◌, ℕ, List, None, Ok, Err, Contains, length, map, false};
+//! Laws of loading, which hold of each folder that tells its files, of the names of outputs, and of scripts.
+ghost use Rattle.std.specs.Prelude.{◌≡◌, ◌≢◌, ◌⊎◌, ◌++◌, ℕ, List, None, Ok, Err, Contains, length, map, false};
 ghost use Rattle.tangle_folders.specs.Folder.{File, bytes_of};
 ghost use Rattle.tangle_files.specs.Adding.{has_file, is_name};
 ghost use Rattle.tangle_files.specs.Lines.{FileTable};
 ghost use Rattle.tangle_files.specs.Roles.{RoleNames};
 ghost use Rattle.std.specs.List.{IsDistinct};
 ghost use Rattle.std.specs.Str.{bytes_eq};
+ghost use Rattle.tangle_script.specs.Requests.{Command};
+ghost use Rattle.tangle_script.specs.Script.{Dialogue};
+ghost use Rattle.tangle_session.specs.Headline.{Call, History};
+ghost use Rattle.tangle_session.specs.Sessions.{SessionRead};
 ghost use Rattle.tangle_session.specs.Tangle.{outputs_of};
+ghost use Rattle.ctangle_cli.specs.Conversation.{answers};
+ghost use Rattle.ctangle_cli.specs.Histories.{AreCallsOf};
 ghost use Rattle.ctangle_cli.specs.Loading.{Ending, load_of, missing_of, rounds_from, with_round};
 
 use tangle_expansion::names_resolve_inside;
@@ -38,3 +44,13 @@ pub fn output_names_differ()
     names_resolve_inside();
     names_are_the_full_names();
 }
+
+/// Where commands of a script are answered, one after another, the history of the session goes on:
+/// each edit is one call more, with the answer that was written, unless there was no memory for its
+/// texts; nothing else changes the session. So the headline holds at each line of a script.
+pub fn the_answers_of_a_script_are_a_history()
+    ensures { (files : FileTable) (roles : RoleNames) (calls : List Call) (old new : SessionRead)
+        (commands : List Command) (text : List ℕ)
+        → History files roles calls old → Dialogue answers old commands text new
+        → (more : List Call) × AreCallsOf commands text more × History files roles (calls ++ more) new }
+{}

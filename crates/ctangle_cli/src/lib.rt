@@ -14,7 +14,10 @@ mod words;
 mod writing;
 
 pub use conversation::run_retangle;
-pub use laws::{loading_goes_round_by_round, missing_names_are_not_there, output_names_differ};
+pub use laws::{
+    loading_goes_round_by_round, missing_names_are_not_there, output_names_differ,
+    the_answers_of_a_script_are_a_history,
+};
 pub use loading::{LoadFault, load};
 pub use messages::write_load;
 pub use retangle_words::{RetangleFault, read_retangle};

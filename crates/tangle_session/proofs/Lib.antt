@@ -4,3 +4,5 @@ mod GroundLemmas
 mod EditLemmas
 mod LawLemmas
 mod NameLemmas
+mod HeadlineLemmas
+mod MoveLemmas

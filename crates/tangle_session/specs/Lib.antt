@@ -5,3 +5,5 @@ pub mod Edits
 pub mod Sessions
 pub mod Writes
 pub mod Laws
+pub mod Headline
+pub mod Moves

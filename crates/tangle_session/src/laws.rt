@@ -1,11 +1,13 @@
 //! Laws of tangling, which hold of all files.
-ghost use Rattle.std.specs.Prelude.{◌≡◌, ℕ, List, Contains, Some, map};
+ghost use Rattle.std.specs.Prelude.{◌≡◌, ℕ, List, [], Contains, Some, map};
 ghost use Rattle.std.specs.List.{IsDistinct};
 ghost use Rattle.std.specs.Str.{bytes_eq};
 ghost use Rattle.tangle_lines.specs.Faults.{Finding};
 ghost use Rattle.tangle_files.specs.Lines.{FileTable};
 ghost use Rattle.tangle_files.specs.Roles.{RoleNames};
+ghost use Rattle.tangle_scan.specs.Web.{WebRead};
 ghost use Rattle.tangle_names.specs.NameTable.{table_of};
+ghost use Rattle.tangle_expansion.specs.declared.nodes.Node.{Node};
 ghost use Rattle.tangle_expansion.specs.Outputs.{OutputRead};
 ghost use Rattle.tangle_expansion.specs.Shapes.{Title, Named, Reaches, ContainsItself};
 ghost use Rattle.tangle_graph.specs.Nodes.{title_of_node};
@@ -13,6 +15,8 @@ ghost use Rattle.tangle_graph.specs.Outputs.{outputs};
 ghost use Rattle.tangle_session.specs.Tangle.{Tangling, AreFaultsOf, IsTanglingOf, output_at, outputs_of};
 ghost use Rattle.tangle_session.specs.Files.{project_of, web_at};
 ghost use Rattle.tangle_session.specs.Laws.{IsToldSelfContaining};
+ghost use Rattle.tangle_session.specs.Moves.{HaveSameShapes, IsMoved};
+ghost use Rattle.tangle_session.specs.Sessions.{ListsAffected};
 
 use tangle_expansion::{expandable_nodes_reach_no_cycle, names_resolve_inside};
 use tangle_graph::graph_faults_are_one_list;
@@ -56,3 +60,10 @@ pub fn self_containing_names_are_told()
     names_resolve_inside();
     names_are_the_full_names();
 }
+
+/// An edit that leaves each shape as it was expands nothing. So it is where text only moves: where lines, files, section numbers and macros
+/// change, and names and pieces say what they said.
+pub fn moved_text_expands_nothing()
+    ensures nothing { (old new : WebRead) (nodes : List Node) → HaveSameShapes old new → ListsAffected old new nodes → nodes ≡ [] }
+    ensures moved { (old new : WebRead) → IsMoved old new → HaveSameShapes old new }
+{}

@@ -5,14 +5,16 @@
 #![tactic(auto)]
 
 mod ground;
+mod headline;
 mod laws;
 mod outputs;
 mod session;
 mod tangling;
 
+pub use headline::{Shown, ask_all, start_and_edit};
 pub use laws::{
-    no_output_reaches_a_cycle, outputs_are_found_by_their_names, self_containing_names_are_told,
-    tangling_is_one,
+    moved_text_expands_nothing, no_output_reaches_a_cycle, outputs_are_found_by_their_names,
+    self_containing_names_are_told, tangling_is_one,
 };
 pub use outputs::OutputNames;
 pub use session::Session;

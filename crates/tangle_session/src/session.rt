@@ -41,7 +41,7 @@ impl Model for Session {
 }
 
 /// Why a session is not to be started with these files and roles, but for want of memory.
-fn refusal_to_start(files: &Files, roles: &Roles) -> Option<Refusal>
+pub(crate) fn refusal_to_start(files: &Files, roles: &Roles) -> Option<Refusal>
     ensures { result ≡ start_refusal files.now roles.now }
 {
     if roles.fits(files) {

@@ -7,6 +7,8 @@
 #[cfg(test)]
 mod growths;
 #[cfg(test)]
+mod headline;
+#[cfg(test)]
 mod starts;
 #[cfg(test)]
 mod support;

@@ -8,8 +8,8 @@ use tangle_lines::{Files, Line, Refusal, Roles, put, write_fault};
 use tangle_session::Session;
 use tangle_test_support::files_with;
 
-// Room for all that a test writes.
-const AMPLE: usize = 10_000_000;
+/// Room for all that a test writes.
+pub(crate) const AMPLE: usize = 10_000_000;
 
 // It stands apart, so that what a start promises is looked at once.
 fn started(alloc: Global, files: Files, roles: Roles) -> Option<Session> {

@@ -1,0 +1,130 @@
+-- What says the same in other places has the same shapes, and expands nothing.
+use Rattle.std.proofs.Common.{◌≡◌, ◌∙◌, ℕ, Bool, true, false, not, cond, List, [], ◌∷◌, map, filter, refl, ap, sym, arith}
+use Rattle.std.specs.Prelude.{Option, None, Some, if◌then◌else◌}
+use Rattle.tangle_lexer.specs.Occurrences.{OccurrenceRead}
+use Rattle.tangle_scan.specs.Web.{WebRead, PieceRead}
+use Rattle.tangle_scan.specs.declared.items.Item.{Item}
+use Rattle.tangle_scan.specs.declared.items.Item.TheVariants as item
+use Rattle.tangle_names.specs.declared.Resolved.{Resolved}
+use Rattle.tangle_names.specs.Names.{Text, Meaning, One, full_names, meaning, only_with, prefix}
+use Rattle.tangle_names.specs.NameTable.{TableRead, table_of}
+use Rattle.tangle_names.specs.Resolving.{names_in_order, names_of, resolution, resolve}
+use Rattle.tangle_expansion.specs.Projects.{is_node, is_piece_of, node_of_name, resolved_at, shape_item, use_of}
+use Rattle.tangle_expansion.specs.Shapes.{Shape, ShapeItem, Title}
+use Rattle.tangle_expansion.specs.declared.nodes.Node.{Node}
+use Rattle.tangle_session.specs.Files.{project_of}
+use Rattle.tangle_session.specs.Moves.{HaveSameShapes, IsMoved, said_item, said_name, said_piece}
+use Rattle.tangle_session.specs.Sessions.{ListsAffected}
+
+pub nothing_affected : (old new : WebRead) (nodes : List Node) → HaveSameShapes old new → ListsAffected old new nodes → nodes ≡ []
+nothing_affected old new [] same lists = refl
+nothing_affected old new (node ∷ nodes) same lists =
+    let affected = ((lists.just node).0 (0, omega arith, refl)).1 in
+    absurd (affected.changed (same affected.cause))
+
+map_of_map : {A B C : Type 0} (f : B → C) (g : A → B) (xs : List A) → map f (map g xs) ≡ map (λ x. f (g x)) xs
+map_of_map f g [] = refl
+map_of_map f g (x ∷ xs) = ap (λ l. f (g x) ∷ l) (map_of_map f g xs)
+
+-- the names, by what their occurrences say
+
+abbrev SaidName : Type 0
+SaidName = Text × Bool
+
+abbrev full_said : List SaidName → List Text
+full_said ss = map (λ s. s.0) (filter (λ s. not s.1) ss)
+
+full_same : (os : List OccurrenceRead) → full_names os ≡ full_said (map said_name os)
+full_same [] = refl
+full_same (o ∷ os) = by (not o.is_abbreviation) (full_same os)
+  where
+    by : (b : Bool) → full_names os ≡ full_said (map said_name os)
+        → map (λ (x : OccurrenceRead). x.text) (cond b (o ∷ filter (λ x. not x.is_abbreviation) os) (filter (λ x. not x.is_abbreviation) os))
+        ≡ map (λ (s : SaidName). s.0) (cond b (said_name o ∷ filter (λ s. not s.1) (map said_name os)) (filter (λ s. not s.1) (map said_name os)))
+    by true h = ap (λ l. o.text ∷ l) h
+    by false h = h
+
+abbrev meaning_said : List Text → SaidName → Meaning
+meaning_said full s = if s.1 then only_with full (prefix s.0) else One s.0
+
+abbrev names_said : List SaidName → List Text
+names_said ss = names_of (map (meaning_said (full_said ss)) ss)
+
+abbrev resolved_said : List SaidName → List Resolved
+resolved_said ss = map (λ s. resolution (names_said ss) (meaning_said (full_said ss) s)) ss
+
+names_same : (os : List OccurrenceRead) → names_in_order os ≡ names_said (map said_name os)
+names_same os =
+    ap (λ full. names_of (map (meaning full) os)) (full_same os)
+    ∙ ap names_of (sym (map_of_map (meaning_said (full_said (map said_name os))) said_name os))
+
+resolved_same : (os : List OccurrenceRead) → map (resolve os) os ≡ resolved_said (map said_name os)
+resolved_same os =
+    ap (λ names. map (λ o. resolution names (meaning (full_names os) o)) os) (names_same os)
+    ∙ ap (λ full. map (λ o. resolution (names_said (map said_name os)) (meaning full o)) os) (full_same os)
+    ∙ sym (map_of_map (λ s. resolution (names_said (map said_name os)) (meaning_said (full_said (map said_name os)) s)) said_name os)
+
+-- the shapes, by what the pieces say
+
+abbrev SaidItem : Type 0
+SaidItem = ShapeItem × Option ℕ
+
+abbrev SaidPiece : Type 0
+SaidPiece = Option ℕ × List SaidItem
+
+abbrev bare : List Text → List Resolved → TableRead
+bare names resolved = record { names = names; resolved = resolved; first_occurrences = []; first_file_occurrences = []; faults = [] }
+
+module _ (table : TableRead) where
+  abbrev item_said : SaidItem → ShapeItem
+  item_said s = elim s.1 [ None ↦ s.0 | Some occurrence ↦ use_of table (resolved_at table occurrence) ]
+
+  item_same : (texts : List (List ℕ)) (i : Item) → shape_item texts table i ≡ item_said (said_item texts i)
+  item_same texts (item.Word span) = refl
+  item_same texts (item.Sign span) = refl
+  item_same texts (item.Quoted span) = refl
+  item_same texts item.QuoteBreak = refl
+  item_same texts (item.Verbatim span) = refl
+  item_same texts (item.Code value) = refl
+  item_same texts item.Blank = refl
+  item_same texts item.LineEnd = refl
+  item_same texts (item.LineMark place) = refl
+  item_same texts (item.UseOf occurrence) = refl
+  item_same texts item.Defs = refl
+
+  items_same : (texts : List (List ℕ)) (items : List Item) → map (shape_item texts table) items ≡ map item_said (map (said_item texts) items)
+  items_same texts [] = refl
+  items_same texts (i ∷ items) = ap (λ x. x ∷ map (shape_item texts table) items) (item_same texts i) ∙ ap (λ l. item_said (said_item texts i) ∷ l) (items_same texts items)
+
+  abbrev project_said : List SaidPiece → Title → Shape
+  project_said pieces node = map (λ p. map item_said p.1) (filter (λ p. is_node table node (node_of_name table p.0)) pieces)
+
+  one_shape : (texts : List (List ℕ)) (piece : PieceRead) (rest : List PieceRead) (rest_said : List SaidPiece) (b : Bool)
+      → map (λ (x : PieceRead). map (shape_item texts table) x.items) rest ≡ map (λ (s : SaidPiece). map item_said s.1) rest_said
+      → map (λ (x : PieceRead). map (shape_item texts table) x.items) (cond b (piece ∷ rest) rest) ≡ map (λ (s : SaidPiece). map item_said s.1) (cond b (said_piece texts piece ∷ rest_said) rest_said)
+  one_shape texts piece rest rest_said true h =
+      ap (λ x. x ∷ map (λ (y : PieceRead). map (shape_item texts table) y.items) rest) (items_same texts piece.items)
+      ∙ ap (λ l. map item_said (map (said_item texts) piece.items) ∷ l) h
+  one_shape texts piece rest rest_said false h = h
+
+  shape_same : (texts : List (List ℕ)) (node : Title) (pieces : List PieceRead)
+      → map (λ (p : PieceRead). map (shape_item texts table) p.items) (filter (is_piece_of table node) pieces) ≡ project_said (map (said_piece texts) pieces) node
+  shape_same texts node [] = refl
+  shape_same texts node (p ∷ pieces) =
+      one_shape texts p (filter (is_piece_of table node) pieces) (filter (λ s. is_node table node (node_of_name table s.0)) (map (said_piece texts) pieces))
+      (is_piece_of table node p) (shape_same texts node pieces)
+
+-- the shapes of a web are a function of what it says
+project_same : (web : WebRead) (node : Title)
+    → project_of web node ≡ project_said (bare (names_said (map said_name web.occurrences)) (resolved_said (map said_name web.occurrences))) (map (said_piece web.texts) web.pieces) node
+project_same web node =
+    shape_same (table_of web) web.texts node web.pieces
+    ∙ ap (λ names. project_said (bare names (table_of web).resolved) (map (said_piece web.texts) web.pieces) node) (names_same web.occurrences)
+    ∙ ap (λ resolved. project_said (bare (names_said (map said_name web.occurrences)) resolved) (map (said_piece web.texts) web.pieces) node) (resolved_same web.occurrences)
+
+pub moved_same : (old new : WebRead) → IsMoved old new → HaveSameShapes old new
+moved_same old new moved node =
+    project_same new node
+    ∙ ap (λ ss. project_said (bare (names_said ss) (resolved_said ss)) (map (said_piece new.texts) new.pieces) node) moved.names
+    ∙ ap (λ ps. project_said (bare (names_said (map said_name old.occurrences)) (resolved_said (map said_name old.occurrences))) ps node) moved.pieces
+    ∙ sym (project_same old node)

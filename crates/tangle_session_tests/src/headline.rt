@@ -1,0 +1,179 @@
+//! A session that is started and edited in one call, and asked everything in another.
+use crate::support::{AMPLE, check_handed_back, start, tell_all, told_project};
+use crate::webs::CYCLE;
+use std::alloc::{AllocError, Global};
+use std::process::Abort;
+use std::test::Fail;
+use tangle_folders::MemorySink;
+use tangle_lines::{Edit, Files, Refusal, Roles};
+use tangle_session::{Session, Shown, ask_all, start_and_edit};
+use tangle_test_support::{Kind, edit, end_refusals, files_with, refuse_growth};
+
+// More growths than any call makes here.
+const MOST: u32 = 10_000;
+
+// The main file where the cycle is broken.
+const BROKEN_CYCLE: &[u8] =
+    b"/*1:*/\n#line 2 \"a.w\"\n\n /*2:*/\n#line 4 \"a.w\"\n\n /*3:*/\n#line 6 \"a.w\"\n\nb;\n/*:3*/\n#line 5 \"a.w\"\n\n/*:2*/\n#line 3 \"a.w\"\n\n/*:1*/\n";
+
+type Answers = Vec<Result<(), Refusal>>;
+
+type Edited = Result<(Session, Answers), (Files, Roles, Refusal)>;
+
+// An edit of a line that isn't there, and one that breaks the cycle.
+fn two_edits(alloc: Global) -> Result<Vec<Edit>, AllocError> {
+    let mut edits = Vec::new(alloc);
+    edits.push(edit(alloc, Kind::Insert, b"a.w", 99, b"x")?)?;
+    edits.push(edit(alloc, Kind::Replace, b"a.w", 7, b"b;")?)?;
+    Ok(edits)
+}
+
+// The cycle as a project.
+fn cycle(alloc: Global) -> Result<(Files, Roles), Fail> {
+    let files = files_with(alloc, &[(b"a.w", CYCLE)])?;
+    let roles = Roles::new(alloc, b"a.w", None, b"a.c")?;
+    Ok((files, roles))
+}
+
+// Starts and edits with this growth refused: what comes of it, and whether none was refused.
+fn edited_without(
+    alloc: Global,
+    files: Files,
+    roles: Roles,
+    edits: &[Edit],
+    nth: u32,
+) -> (Edited, bool) {
+    let is_harnessed = refuse_growth(alloc, nth);
+    let edited = start_and_edit(alloc, files, roles, edits);
+    (edited, end_refusals(alloc, is_harnessed))
+}
+
+// Asks for everything, and for the main file. It is a function of its own, so that its promise is looked
+// at once.
+fn ask<'a>(session: &'a Session, sink: &mut MemorySink) -> Shown<'a> {
+    ask_all(session, b"a.c", sink)
+}
+
+// What is shown of the files: the broken cycle, which is the web.
+fn check_files(rt: &impl Abort, shown: &Shown) -> Result<(), Fail> {
+    assert_eq!(rt; shown.files.count(), 1);
+    let lines = shown.files.lines(shown.roles.web()).ok_or("the web")?;
+    assert_eq!(rt; lines.len(), 9);
+    assert!(rt; lines.get(6).ok_or("the line")?.bytes() == b"b;".as_slice());
+    Ok(())
+}
+
+// The names of the output files, each on a line.
+fn names_of(alloc: Global, shown: Shown) -> Result<Vec<u8>, AllocError> {
+    let mut names = Vec::new(alloc);
+    for name in shown.names {
+        names.extend_from_slice(name)?;
+        names.push(b'\n')?;
+    }
+    Ok(names)
+}
+
+// Both output files are there, the main file is written, and no fault; three nodes were expanded.
+fn check_whole(rt: &impl Abort, alloc: Global, session: &Session) -> Result<(), Fail> {
+    let mut sink = MemorySink::new(alloc, AMPLE);
+    let shown = ask(session, &mut sink);
+    assert!(rt; sink.bytes() == BROKEN_CYCLE);
+    assert_eq!(rt; shown.size, Some(BROKEN_CYCLE.len() as u128));
+    assert_eq!(rt; shown.written, Ok(BROKEN_CYCLE.len() as u128));
+    assert!(rt; shown.faults.is_empty());
+    assert_eq!(rt; shown.work, 3);
+    check_files(rt, &shown)?;
+    assert!(rt; names_of(alloc, shown)?.as_slice() == b"a.c\nh.h\n".as_slice());
+    Ok(())
+}
+
+// The first edit is refused; so is the second where a growth of it was, and else it is made.
+fn check_answers(
+    rt: &impl Abort,
+    alloc: Global,
+    session: &Session,
+    answers: &[Result<(), Refusal>],
+    was_spared: bool,
+) -> Result<(), Fail> {
+    assert_eq!(rt; answers.len(), 2);
+    assert_eq!(rt; answers.first(), Some(&Err(Refusal::NoSuchLine)));
+    if was_spared {
+        assert_eq!(rt; answers.last(), Some(&Ok(())));
+        return check_whole(rt, alloc, session);
+    }
+    assert_eq!(rt; answers.last(), Some(&Err(Refusal::NoMemory)));
+    let unedited = start(alloc, CYCLE)?;
+    assert!(rt; tell_all(alloc, session)?.bytes() == tell_all(alloc, &unedited)?.bytes());
+    Ok(())
+}
+
+// Starts and edits with this growth refused, and says whether none was.
+fn edits_are_spared(
+    rt: &impl Abort,
+    alloc: Global,
+    edits: &[Edit],
+    nth: u32,
+) -> Result<bool, Fail> {
+    let (files, roles) = cycle(alloc)?;
+    let before = told_project(alloc, &files, &roles)?;
+    let (edited, was_spared) = edited_without(alloc, files, roles, edits, nth);
+    match &edited {
+        Ok((session, answers)) => check_answers(rt, alloc, session, answers, was_spared)?,
+        Err(handed_back) => check_handed_back(rt, alloc, &before, handed_back, Refusal::NoMemory)?,
+    }
+    Ok(was_spared)
+}
+
+#[test]
+fn started_and_edited_with_each_growth_refused(rt: HostRuntime) -> Result<(), Fail> {
+    let edits = two_edits(rt.alloc())?;
+    for nth in 1..MOST {
+        if edits_are_spared(&rt, rt.alloc(), &edits, nth)? {
+            return Ok(());
+        }
+    }
+    Err(Fail::from("never made"))
+}
+
+// Asks with this growth of the writer refused, and says whether none was; else the writer has failed,
+// and has the front of the main file that is counted.
+fn answers_are_spared(
+    rt: &impl Abort,
+    alloc: Global,
+    session: &Session,
+    nth: u32,
+) -> Result<bool, Fail> {
+    let mut sink = MemorySink::new(alloc, AMPLE);
+    let is_harnessed = refuse_growth(alloc, nth);
+    let written = ask(session, &mut sink).written;
+    let was_spared = end_refusals(alloc, is_harnessed);
+    let taken = sink.bytes().len();
+    assert_eq!(rt; was_spared, written == Ok(taken as u128));
+    assert_eq!(rt;
+        !was_spared,
+        written == Err(Refusal::WriteFault(taken as u128))
+    );
+    assert!(rt; Some(sink.bytes()) == BROKEN_CYCLE.get(..taken));
+    Ok(was_spared)
+}
+
+// The session of the broken cycle.
+fn broken_cycle(alloc: Global) -> Result<Session, Fail> {
+    let (files, roles) = cycle(alloc)?;
+    let edits = two_edits(alloc)?;
+    match start_and_edit(alloc, files, roles, &edits) {
+        Ok((session, _)) => Ok(session),
+        Err(_) => Err(Fail::from("not started")),
+    }
+}
+
+#[test]
+fn asked_with_each_growth_of_the_writer_refused(rt: HostRuntime) -> Result<(), Fail> {
+    let session = broken_cycle(rt.alloc())?;
+    for nth in 1..MOST {
+        if answers_are_spared(&rt, rt.alloc(), &session, nth)? {
+            return Ok(());
+        }
+    }
+    Err(Fail::from("never written"))
+}
