@@ -16,16 +16,27 @@ const MOST: u32 = 10_000;
 const BROKEN_CYCLE: &[u8] =
     b"/*1:*/\n#line 2 \"a.w\"\n\n /*2:*/\n#line 4 \"a.w\"\n\n /*3:*/\n#line 6 \"a.w\"\n\nb;\n/*:3*/\n#line 5 \"a.w\"\n\n/*:2*/\n#line 3 \"a.w\"\n\n/*:1*/\n";
 
+// The main file of a web with one piece.
+const ONE_PIECE: &[u8] = b"/*1:*/\n#line 2 \"a.w\"\n\nint x;\n/*:1*/\n";
+
 type Answers = Vec<Result<(), Refusal>>;
 
 type Edited = Result<(Session, Answers), (Files, Roles, Refusal)>;
 
+fn push_edit(
+    alloc: Global,
+    edits: &mut Vec<Edit>,
+    kind: Kind,
+    at: usize,
+    text: &[u8],
+) -> Result<(), AllocError> {
+    Ok(edits.push(edit(alloc, kind, b"a.w", at, text)?)?)
+}
+
 // An edit of a line that isn't there, and one that breaks the cycle.
-fn two_edits(alloc: Global) -> Result<Vec<Edit>, AllocError> {
-    let mut edits = Vec::new(alloc);
-    edits.push(edit(alloc, Kind::Insert, b"a.w", 99, b"x")?)?;
-    edits.push(edit(alloc, Kind::Replace, b"a.w", 7, b"b;")?)?;
-    Ok(edits)
+fn push_edits(alloc: Global, edits: &mut Vec<Edit>) -> Result<(), AllocError> {
+    push_edit(alloc, edits, Kind::Insert, 99, b"x")?;
+    push_edit(alloc, edits, Kind::Replace, 7, b"b;")
 }
 
 // The cycle as a project.
@@ -87,6 +98,12 @@ fn check_whole(rt: &impl Abort, alloc: Global, session: &Session) -> Result<(), 
     Ok(())
 }
 
+// All that a session of the cycle answers before an edit.
+fn told_cycle(alloc: Global) -> Result<MemorySink, Fail> {
+    let session = start(alloc, CYCLE)?;
+    tell_all(alloc, &session)
+}
+
 // The first edit is refused; so is the second where a growth of it was, and else it is made.
 fn check_answers(
     rt: &impl Abort,
@@ -102,9 +119,22 @@ fn check_answers(
         return check_whole(rt, alloc, session);
     }
     assert_eq!(rt; answers.last(), Some(&Err(Refusal::NoMemory)));
-    let unedited = start(alloc, CYCLE)?;
-    assert!(rt; tell_all(alloc, session)?.bytes() == tell_all(alloc, &unedited)?.bytes());
+    assert!(rt; tell_all(alloc, session)?.bytes() == told_cycle(alloc)?.bytes());
     Ok(())
+}
+
+// What came of it is right, whether the start was refused or edits were.
+fn check_edited(
+    rt: &impl Abort,
+    alloc: Global,
+    before: &MemorySink,
+    edited: &Edited,
+    was_spared: bool,
+) -> Result<(), Fail> {
+    match edited {
+        Ok((session, answers)) => check_answers(rt, alloc, session, answers, was_spared),
+        Err(handed_back) => check_handed_back(rt, alloc, before, handed_back, Refusal::NoMemory),
+    }
 }
 
 // Starts and edits with this growth refused, and says whether none was.
@@ -117,22 +147,28 @@ fn edits_are_spared(
     let (files, roles) = cycle(alloc)?;
     let before = told_project(alloc, &files, &roles)?;
     let (edited, was_spared) = edited_without(alloc, files, roles, edits, nth);
-    match &edited {
-        Ok((session, answers)) => check_answers(rt, alloc, session, answers, was_spared)?,
-        Err(handed_back) => check_handed_back(rt, alloc, &before, handed_back, Refusal::NoMemory)?,
-    }
+    let checked = check_edited(rt, alloc, &before, &edited, was_spared);
+    // what owns a session is let go once, in front of the ways out
+    drop(edited);
+    checked?;
     Ok(was_spared)
 }
 
-#[test]
-fn started_and_edited_with_each_growth_refused(rt: HostRuntime) -> Result<(), Fail> {
-    let edits = two_edits(rt.alloc())?;
+// Refuses the first growth, the second and so on, until none is refused.
+fn refuse_each(rt: &impl Abort, alloc: Global, edits: &[Edit]) -> Result<(), Fail> {
     for nth in 1..MOST {
-        if edits_are_spared(&rt, rt.alloc(), &edits, nth)? {
+        if edits_are_spared(rt, alloc, edits, nth)? {
             return Ok(());
         }
     }
     Err(Fail::from("never made"))
+}
+
+#[test]
+fn started_and_edited_with_each_growth_refused(rt: HostRuntime) -> Result<(), Fail> {
+    let mut edits = Vec::new(rt.alloc());
+    push_edits(rt.alloc(), &mut edits)?;
+    refuse_each(&rt, rt.alloc(), &edits)
 }
 
 // Asks with this growth of the writer refused, and says whether none was; else the writer has failed,
@@ -148,32 +184,31 @@ fn answers_are_spared(
     let written = ask(session, &mut sink).written;
     let was_spared = end_refusals(alloc, is_harnessed);
     let taken = sink.bytes().len();
-    assert_eq!(rt; was_spared, written == Ok(taken as u128));
-    assert_eq!(rt;
-        !was_spared,
-        written == Err(Refusal::WriteFault(taken as u128))
-    );
-    assert!(rt; Some(sink.bytes()) == BROKEN_CYCLE.get(..taken));
+    let wanted = if was_spared {
+        Ok(taken as u128)
+    } else {
+        Err(Refusal::WriteFault(taken as u128))
+    };
+    assert_eq!(rt; written, wanted);
+    assert!(rt; Some(sink.bytes()) == ONE_PIECE.get(..taken));
     Ok(was_spared)
 }
 
-// The session of the broken cycle.
-fn broken_cycle(alloc: Global) -> Result<Session, Fail> {
-    let (files, roles) = cycle(alloc)?;
-    let edits = two_edits(alloc)?;
-    match start_and_edit(alloc, files, roles, &edits) {
-        Ok((session, _)) => Ok(session),
-        Err(_) => Err(Fail::from("not started")),
-    }
-}
-
-#[test]
-fn asked_with_each_growth_of_the_writer_refused(rt: HostRuntime) -> Result<(), Fail> {
-    let session = broken_cycle(rt.alloc())?;
+fn refuse_each_of_the_writer(
+    rt: &impl Abort,
+    alloc: Global,
+    session: &Session,
+) -> Result<(), Fail> {
     for nth in 1..MOST {
-        if answers_are_spared(&rt, rt.alloc(), &session, nth)? {
+        if answers_are_spared(rt, alloc, session, nth)? {
             return Ok(());
         }
     }
     Err(Fail::from("never written"))
+}
+
+#[test]
+fn asked_with_each_growth_of_the_writer_refused(rt: HostRuntime) -> Result<(), Fail> {
+    let session = start(rt.alloc(), b"@ A.\n@c\nint x;\n")?;
+    refuse_each_of_the_writer(&rt, rt.alloc(), &session)
 }
