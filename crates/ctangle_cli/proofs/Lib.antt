@@ -9,5 +9,5 @@ mod WorkedWebs
 mod RetangleLemmas
 mod WorkedWords
 mod AnswerLemmas
-mod AloneLemmas
+mod SettledLemmas
 mod HistoryLemmas

@@ -5,7 +5,9 @@ use Rattle.tangle_files.specs.declared.refusal.Refusal.TheVariants.{BadName, NoM
 use Rattle.tangle_lines.specs.declared.faults.FaultKind.{FaultKind}
 use Rattle.tangle_lines.specs.declared.faults.FaultKind.TheVariants.{IncludeMissing}
 use Rattle.tangle_lines.specs.Faults.{Finding}
-use Rattle.tangle_files.specs.Lines.{FileTable}
+use Rattle.std.specs.List.{list_any}
+use Rattle.tangle_files.specs.Lines.{FileTable, lines_at}
+use Rattle.tangle_lines.specs.Inclusion.{included_name}
 use Rattle.tangle_files.specs.Adding.{add_refusal, with_file, has_file, is_name}
 use Rattle.tangle_lines.specs.Reading.{source_of}
 use Rattle.tangle_files.specs.Roles.{RoleNames}
@@ -57,6 +59,18 @@ missed_in faults = map (λ f. f.subject) (filter (λ f. is_missing_kind f.kind) 
 
 unfoldable pub missing_of : FileTable → RoleNames → List (List ℕ)
 missing_of files names = missed_in (source_of files names).faults
+
+-- a line that includes a file that isn't in the table
+abbrev pub misses_name : FileTable → Option (List ℕ) → Bool
+misses_name files None = false
+misses_name files (Some name) = not (has_file files name)
+
+abbrev pub misses_file : FileTable → List ℕ → Bool
+misses_file files line = misses_name files (included_name line)
+
+-- no line of a file is one
+abbrev pub IsSettled : FileTable → Type 0
+IsSettled files = (n : ℕ) → list_any (misses_file files) (lines_at files n) ≡ false
 
 -- A round that adds no file is the last. Each name that it misses was tried, and the folder doesn't change.
 abbrev pub after_round : FileTable → Loaded → (FileTable → Loaded) → Loaded

@@ -1,16 +1,15 @@
 //! Loading: the files that a run reads.
-ghost use Rattle.std.specs.Prelude.{◌≡◌, ◌≤◌, ◌∷◌, ◌||◌, ℕ, List, [], length, map, true, false, Option, is_some, unwrap_or, IfOk, IfErr, IfSome, OnOk, OnErr, None};
+ghost use Rattle.std.specs.Prelude.{◌≡◌, ◌≤◌, ◌∷◌, ◌||◌, ℕ, List, [], length, map, true, false, Option, unwrap_or, IfOk, IfErr, IfSome, OnOk, OnErr, None};
 ghost use Rattle.std.specs.List.{list_any};
 ghost use Rattle.std.specs.Option.{option_copied};
 ghost use Rattle.std.specs.Str.{bytes_eq};
 ghost use Rattle.tangle_folders.specs.Folder.{file_limit};
 ghost use Rattle.tangle_files.specs.Adding.{has_file};
 ghost use Rattle.tangle_files.specs.Roles.{fits, is_there, is_there_if_any};
-ghost use Rattle.tangle_lines.specs.Inclusion.{included_name as name_of_inclusion};
 ghost use Rattle.tangle_files.specs.Lines.{FileTable};
 ghost use Rattle.ctangle_cli.specs.Asking.{AsksForAll, AsksOnce};
 ghost use Rattle.ctangle_cli.specs.Tries.{AsksOn, RoundsOnce, StopsAsking, TriesAll, named_in, tried};
-ghost use Rattle.ctangle_cli.specs.Loading.{AreAbsent, Grows, IsEnding, LoadsTo, StopsFor, TellsLastAsked, add_bytes, bad_name, ending_of, is_missing_kind, load_of, load_unless, missed_in, missing_of, refused_as, rounds_from, with_change, with_inclusion, with_inclusions, with_wanted};
+ghost use Rattle.ctangle_cli.specs.Loading.{AreAbsent, Grows, IsEnding, IsSettled, LoadsTo, StopsFor, TellsLastAsked, add_bytes, bad_name, ending_of, is_missing_kind, load_of, load_unless, misses_file, missed_in, missing_of, refused_as, rounds_from, with_change, with_inclusion, with_inclusions, with_wanted};
 ghost use Rattle.ctangle_cli.specs.Loading.Ending.{Unreadable};
 
 use crate::words::Words;
@@ -117,16 +116,16 @@ fn has(files: &Files, name: &[u8]) -> bool
 }
 
 // Adds a file of these bytes.
-fn add_file(alloc: Global, files: &mut Files, name: &[u8], bytes: &[u8]) -> Result<(), LoadFault>
-    requires { length bytes.now ≤ file_limit }
-    ensures ok { OnOk result (add_bytes files.old name.now bytes.now ≡ Ok files.new) }
+fn add_file(alloc: Global, files: &mut Files, name: &[u8], bytes: Vec<u8>) -> Result<(), LoadFault>
+    requires { length bytes.items ≤ file_limit }
+    ensures ok { OnOk result (add_bytes files.old name.now bytes.items ≡ Ok files.new) }
     ensures grows { OnOk result (Grows files.old files.new) }
     ensures there { OnOk result (is_there files.new name.now ≡ true) }
     ensures err { IfErr result (λ fault. (told : Option _) (n : ℕ)
-        → StopsFor told (λ _. add_bytes files.old name.now bytes.now) n n (ending_of fault)) }
+        → StopsFor told (λ _. add_bytes files.old name.now bytes.items) n n (ending_of fault)) }
     ensures told { IfErr result (λ fault. (asked : Option _) → TellsLastAsked asked (ending_of fault)) }
 {
-    match files.add(name, bytes) {
+    match files.add_owned(name, bytes) {
         Ok(()) => Ok(()),
         Err(refusal) => Err(refused(alloc, name, refusal)),
     }
@@ -154,7 +153,7 @@ fn read_wanted<F: Folder>(
     ensures created_stay { F.created folder.new ≡ F.created folder.old }
 {
     match folder.read_file(alloc, name) {
-        Ok(bytes) => add_file(alloc, files, name, bytes.as_slice()),
+        Ok(bytes) => add_file(alloc, files, name, bytes),
         Err(FolderFault::Missing) => Err(cannot_read(alloc, name)),
         Err(FolderFault::TooBig) => Err(cannot_read(alloc, name)),
         Err(FolderFault::Failed) => Err(cannot_read(alloc, name)),
@@ -225,7 +224,7 @@ fn read_inclusion<F: Folder>(
         return Ok(());
     }
     match folder.read_file(alloc, name) {
-        Ok(bytes) => add_file(alloc, files, name, bytes.as_slice()),
+        Ok(bytes) => add_file(alloc, files, name, bytes),
         Err(FolderFault::Missing) => Ok(absent.insert(alloc, name)?),
         Err(FolderFault::TooBig) => Err(cannot_read(alloc, name)),
         Err(FolderFault::Failed) => Err(cannot_read(alloc, name)),
@@ -275,32 +274,47 @@ fn read_inclusions<F: Folder>(
     Ok(())
 }
 
-// Whether one of the lines is an inclusion.
-fn has_inclusion(lines: &[Line]) -> bool
-    ensures { result ≡ list_any (λ line. is_some (name_of_inclusion line)) lines.now }
+// Whether the line includes a file that isn't in the table.
+fn misses(files: &Files, line: &Line) -> bool
+    ensures { result ≡ misses_file files.now line.now }
 {
-    lines
-        .iter()
-        .any(|line| included_name(line.bytes()).is_some())
-}
-
-// Whether nothing but the web is read, so that nothing is missing.
-fn is_web_alone(files: &Files, roles: &Roles) -> bool
-    ensures { result ≡ true → missing_of files.now roles.now ≡ [] }
-{
-    match (roles.change(), files.lines(roles.web())) {
-        (None, Some(lines)) => !has_inclusion(lines),
-        _ => false,
+    match included_name(line.bytes()) {
+        None => false,
+        Some(name) => !has(files, name),
     }
 }
 
-// The faults of reading these files, for the inclusions that are missing. Most webs include nothing: then all is told by a look at the
-// front of each line, and the session alone reads the web.
+// Whether one of the lines does.
+fn any_misses(files: &Files, lines: &[Line]) -> bool
+    ensures { result ≡ list_any (misses_file files.now) lines.now }
+{
+    for line in lines {
+        if misses(files, line) {
+            return true;
+        }
+    }
+    false
+}
+
+// Whether each file that some line includes is in the table, so that none is missing.
+fn is_settled(files: &Files) -> bool
+    ensures { result ≡ true → IsSettled files.now }
+{
+    for number in 0..files.count() {
+        if any_misses(files, files.lines_at(number as u16)) {
+            return false;
+        }
+    }
+    true
+}
+
+// The faults of reading these files, for the inclusions that are missing. Where all that lines include is there, a look at the front of
+// each line tells that none is, and the session alone reads the sources.
 fn faults_of(alloc: Global, files: &Files, roles: &Roles) -> Result<Vec<Fault>, NoMemory>
     requires { fits files.now roles.now ≡ true }
     ensures { IfOk result (λ faults. missed_in faults.items ≡ missing_of files.now roles.now) }
 {
-    if is_web_alone(files, roles) {
+    if is_settled(files) {
         return Ok(Vec::new(alloc));
     }
     let source = read_source(alloc, files, roles)?;

@@ -11,6 +11,7 @@ use crate::messages::{write_faults, write_load, write_unwritten, write_usage};
 use crate::words::{WordFault, Words, read_words};
 use crate::writing::write_outputs;
 use std::alloc::Global;
+use std::mem::forget;
 use tangle_folders::Folder;
 use tangle_lines::{Fault, Files, NoMemory, Roles, Sink};
 use tangle_session::Session;
@@ -72,7 +73,7 @@ fn started(alloc: Global, files: Files, roles: Roles) -> Result<Session, NoMemor
     }
 }
 
-// Starts a session of the files that were loaded, and runs it.
+// Starts a session of the files that were loaded, and runs it. The session is kept to the program's end, which frees all at once.
 fn run_loaded<F: Folder, E: Sink>(
     alloc: Global,
     files: Files,
@@ -95,7 +96,11 @@ fn run_loaded<F: Folder, E: Sink>(
             let _ = write_load(b"ctangle", &LoadFault::NoMemory, err);
             3
         }
-        Ok(session) => run_session(alloc, &session, folder, err),
+        Ok(session) => {
+            let status = run_session(alloc, &session, folder, err);
+            forget(session);
+            status
+        }
     }
 }
 

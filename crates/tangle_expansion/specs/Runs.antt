@@ -1,5 +1,5 @@
 -- Texts of items that stand side by side in the source.
-use Rattle.std.specs.Prelude.{◌≡◌, ℕ, ◌-◌, Bool, List, [], ◌∷◌, ◌++◌, Option, None, Some}
+use Rattle.std.specs.Prelude.{◌≡◌, ◌≤◌, ℕ, ◌-◌, Bool, List, [], ◌∷◌, ◌++◌, length, take, drop, get_or}
 use Rattle.tangle_scan.specs.declared.items.Item.{Item}
 use Rattle.tangle_lexer.specs.declared.spans.Span.{Span}
 use Rattle.tangle_scan.specs.Rules.{span_text}
@@ -11,6 +11,7 @@ use Rattle.tangle_expansion.specs.ItemSlots.{marks_behind_item, item_slots}
 use Rattle.tangle_expansion.specs.Slots.{byte_slots}
 use Rattle.tangle_expansion.specs.Planned.{Making}
 use Rattle.tangle_expansion.specs.declared.codes.ItemKind.{ItemKind}
+use Rattle.tangle_expansion.specs.declared.runs.Run.{Run}
 
 -- the item is its text, of this kind and this range
 pub record IsTextOf (item : Item) (kind : ItemKind) (s : Span) : Type 0 where
@@ -22,41 +23,46 @@ pub record IsTextOf (item : Item) (kind : ItemKind) (s : Span) : Type 0 where
   pub code : (table : TableRead) → code_in table item ≡ record { kind = kind; size = s.end - s.start }
   pub no_use : (table : TableRead) → names_in table item ≡ []
 
+-- the bytes of a range that is still to be copied
+abbrev pub run_bytes : Run → List ℕ
+run_bytes run = take (run.span.end - run.span.start) (drop run.span.start run.line.now)
+
+-- it is a range of a source line, or empty, and the bytes of its line are kept with it
+pub record IsKept (texts : List (List ℕ)) (run : Run) : Type 0 where
+  pub line : run.line.now ≡ get_or texts run.span.line []
+  pub start : run.span.start ≤ run.span.end
+  pub end : run.span.end ≤ length run.line.now
+
 -- a range is another with a third behind it
-pub record IsJoined (run span more : Span) : Type 0 where
-  pub range : (texts : List (List ℕ)) → IsSpan texts run → IsSpan texts span → IsSpan texts more
-  pub text : (texts : List (List ℕ)) → IsSpan texts run → IsSpan texts span → span_text texts run ++ span_text texts span ≡ span_text texts more
+pub record IsJoined (run : Run) (span : Span) (more : Run) : Type 0 where
+  pub range : (texts : List (List ℕ)) → IsKept texts run → IsSpan texts span → IsKept texts more
+  pub text : (texts : List (List ℕ)) → IsKept texts run → IsSpan texts span → run_bytes run ++ span_text texts span ≡ run_bytes more
 
 -- a range with an item behind it is a longer one
-pub record IsRunWith (texts : List (List ℕ)) (run : Span) (item : Item) (more : Span) : Type 0 where
-  pub range : IsSpan texts more
-  pub bytes : span_text texts run ++ bytes_in texts item ≡ span_text texts more
-  pub slots : (table : TableRead) (has_piece : ℕ → Bool) (node : Title) (piece marks : ℕ)
+pub record IsRunWith (run : Run) (item : Item) (more : Run) : Type 0 where
+  pub range : (texts : List (List ℕ)) → IsKept texts run → IsKept texts more
+  pub bytes : (texts : List (List ℕ)) → IsKept texts run → run_bytes run ++ bytes_in texts item ≡ run_bytes more
+  pub slots : (texts : List (List ℕ)) (table : TableRead) (has_piece : ℕ → Bool) (node : Title) (piece marks : ℕ)
       → item_slots texts table has_piece node piece marks item ≡ byte_slots (bytes_in texts item)
   pub marks : (marks : ℕ) → marks_behind_item marks item ≡ marks
 
--- the bytes of a range that is still to be copied, if there is one
-abbrev pub run_text : List (List ℕ) → Option Span → List ℕ
-run_text texts None = []
-run_text texts (Some run) = span_text texts run
-
 -- an item was added behind what is being made and a range that was still to be copied
-pub record AddsItem (texts : List (List ℕ)) (table : TableRead) (has_piece : ℕ → Bool) (item : Item) (run next : Option Span) (old new : Making) : Type 0 where
+pub record AddsItem (texts : List (List ℕ)) (table : TableRead) (has_piece : ℕ → Bool) (item : Item) (run next : Run) (old new : Making) : Type 0 where
   pub node : new.node ≡ old.node
   pub piece : new.piece ≡ old.piece
   pub marks : new.marks ≡ marks_behind_item old.marks item
-  pub made : new.made ++ byte_slots (run_text texts next)
-      ≡ (old.made ++ byte_slots (run_text texts run)) ++ item_slots texts table has_piece old.node old.piece old.marks item
-  pub bytes : new.bytes ++ run_text texts next ≡ (old.bytes ++ run_text texts run) ++ bytes_in texts item
+  pub made : new.made ++ byte_slots (run_bytes next)
+      ≡ (old.made ++ byte_slots (run_bytes run)) ++ item_slots texts table has_piece old.node old.piece old.marks item
+  pub bytes : new.bytes ++ run_bytes next ≡ (old.bytes ++ run_bytes run) ++ bytes_in texts item
   pub codes : new.codes ≡ old.codes ++ code_in table item ∷ []
   pub uses : new.uses ≡ old.uses ++ names_in table item
 
 -- a text of this kind, which is a range, was added so
-pub record AddsText (texts : List (List ℕ)) (kind : ItemKind) (s : Span) (run next : Option Span) (old new : Making) : Type 0 where
+pub record AddsText (texts : List (List ℕ)) (kind : ItemKind) (s : Span) (run next : Run) (old new : Making) : Type 0 where
   pub node : new.node ≡ old.node
   pub piece : new.piece ≡ old.piece
   pub marks : new.marks ≡ old.marks
-  pub made : new.made ++ byte_slots (run_text texts next) ≡ (old.made ++ byte_slots (run_text texts run)) ++ byte_slots (span_text texts s)
-  pub bytes : new.bytes ++ run_text texts next ≡ (old.bytes ++ run_text texts run) ++ span_text texts s
+  pub made : new.made ++ byte_slots (run_bytes next) ≡ (old.made ++ byte_slots (run_bytes run)) ++ byte_slots (span_text texts s)
+  pub bytes : new.bytes ++ run_bytes next ≡ (old.bytes ++ run_bytes run) ++ span_text texts s
   pub codes : new.codes ≡ old.codes ++ record { kind = kind; size = s.end - s.start } ∷ []
   pub uses : new.uses ≡ old.uses

@@ -1,5 +1,5 @@
 //! Making the text and the plan of a node, item by item.
-ghost use Rattle.std.specs.Prelude.{◌≡◌, false, length, slice_index_or, ◌++◌, flat_map, filter, [], IfOk, IfSome, OnOk, OnErr, ◌+◌, ◌^◌, ◌<◌, ◌≤◌, ◌∷◌};
+ghost use Rattle.std.specs.Prelude.{◌≡◌, false, length, slice_index_or, ◌++◌, flat_map, filter, [], IfOk, OnOk, OnErr, ◌+◌, ◌^◌, ◌<◌, ◌≤◌, ◌∷◌};
 ghost use Rattle.tangle_expansion.specs.Meaning.{title_of, pieces_passed, marks_passed};
 ghost use Rattle.tangle_expansion.specs.Slots.{slots, byte_slots, step_slots, is_run, last_run};
 ghost use Rattle.std.specs.List.{All};
@@ -10,12 +10,12 @@ ghost use Rattle.tangle_expansion.specs.Codes.{piece_end, shape_codes};
 ghost use Rattle.tangle_expansion.specs.Planned.{nothing_made};
 ghost use Rattle.tangle_expansion.specs.Shapes.{Program};
 ghost use Rattle.tangle_expansion.specs.NodeTexts.{node_title, node_bytes, node_codes, node_uses, plan_slots, plan_uses, HoldsShape};
-ghost use Rattle.tangle_expansion.specs.Runs.{AddsItem, AddsText, run_text};
+ghost use Rattle.tangle_expansion.specs.Runs.{AddsItem, AddsText, IsKept, run_bytes};
 ghost use Rattle.tangle_expansion.specs.ItemSlots.{marks_behind_item, name_slots, item_slots, piece_slots, pieces_slots, pieces_at};
 
 use crate::codes::{ItemCode, ItemKind, add_name, code_count, code_of, end_of_piece, text_code};
 use crate::expansion::{NodeText, Step};
-use crate::runs::{joined, text_of, with_space};
+use crate::runs::{Run, joined, no_run, run_of, text_of, with_space};
 use crate::steps::{marks_behind, pieces_behind};
 use itoa::Buffer;
 use std::alloc::Global;
@@ -225,81 +225,75 @@ fn add_item(
     }
 }
 
-/// Adds a range that is still to be copied, if there is one.
-fn add_run(planning: &mut Planning, web: &Web, run: Option<Span>) -> Result<(), NoMemory>
-    requires run { IfSome run (IsSpan web.now.texts) }
-    ensures { OnOk result (planning.new ≡ record planning.old { made = planning.old.made ++ byte_slots (run_text web.now.texts run); bytes = planning.old.bytes ++ run_text web.now.texts run }) }
+/// Adds a range that is still to be copied.
+fn add_run(planning: &mut Planning, run: Run) -> Result<(), NoMemory>
+    requires start { run.span.start ≤ run.span.end }
+    requires end { run.span.end ≤ length run.line.now }
+    ensures { OnOk result (planning.new ≡ record planning.old { made = planning.old.made ++ byte_slots (run_bytes run.entry); bytes = planning.old.bytes ++ run_bytes run.entry }) }
 {
-    match run {
-        Some(run) => planning.add_bytes(web.text(run)),
-        None => Ok(()),
-    }
+    planning.add_bytes(&run.line[run.span.start as usize..run.span.end as usize])
 }
 
-/// Adds a text behind a range that is still to be copied, if there is one: the range that is to be copied then.
-fn add_text(
+/// Adds a text behind a range that is still to be copied: the range that is to be copied then.
+fn add_text<'w>(
     planning: &mut Planning,
-    web: &Web,
-    run: Option<Span>,
+    web: &'w Web,
+    run: Run<'w>,
     kind: ItemKind,
     span: Span,
-) -> Result<Option<Span>, NoMemory>
-    requires run { IfSome run (IsSpan web.now.texts) }
+) -> Result<Run<'w>, NoMemory>
+    requires run { IsKept web.now.texts run }
     requires span { IsSpan web.now.texts span }
-    ensures range { IfOk result (λ next. IfSome next (IsSpan web.now.texts)) }
-    ensures added { IfOk result (λ next. AddsText web.now.texts kind span run next planning.old planning.new) }
+    ensures range { IfOk result (IsKept web.now.texts) }
+    ensures added { IfOk result (λ next. AddsText web.now.texts kind span run.entry next planning.old planning.new) }
 {
     planning.add_code(text_code(kind, span))?;
-    if let Some(before) = run {
-        if let Some(more) = joined(before, span) {
-            return Ok(Some(more));
-        }
+    if let Some(more) = joined(run, span) {
+        return Ok(more);
     }
-    add_run(planning, web, run)?;
-    Ok(Some(span))
+    add_run(planning, run)?;
+    Ok(run_of(web, span))
 }
 
-/// Adds an item without a text behind a range that is still to be copied, if there is one: the range that is to be copied then.
-fn add_other(
+/// Adds an item without a text behind a range that is still to be copied: the range that is to be copied then.
+fn add_other<'w>(
     planning: &mut Planning,
-    web: &Web,
+    web: &'w Web,
     table: &NameTable,
     has_piece: &[bool],
-    run: Option<Span>,
+    run: Run<'w>,
     item: &Item,
-) -> Result<Option<Span>, NoMemory>
+) -> Result<Run<'w>, NoMemory>
     requires span { IsInRange web.now.texts item.now }
     requires name { IsUseBelow (length table.now.resolved) item.now }
-    requires run { IfSome run (IsSpan web.now.texts) }
-    ensures range { IfOk result (λ next. IfSome next (IsSpan web.now.texts)) }
-    ensures added { IfOk result (λ next. AddsItem web.now.texts table.now (λ id. slice_index_or has_piece.now id false) item.now run next planning.old planning.new) }
+    requires run { IsKept web.now.texts run }
+    ensures range { IfOk result (IsKept web.now.texts) }
+    ensures added { IfOk result (λ next. AddsItem web.now.texts table.now (λ id. slice_index_or has_piece.now id false) item.now run.entry next planning.old planning.new) }
 {
     planning.add_code(code_of(item, table))?;
     planning.add_name(table, item)?;
-    if let Some(before) = run {
-        if let Some(more) = with_space(web, before, item) {
-            return Ok(Some(more));
-        }
+    if let Some(more) = with_space(run, item) {
+        return Ok(more);
     }
-    add_run(planning, web, run)?;
+    add_run(planning, run)?;
     add_item(planning, web, table, has_piece, *item)?;
-    Ok(None)
+    Ok(no_run(web))
 }
 
-/// Adds an item behind a range that is still to be copied, if there is one: the range that is to be copied then.
-fn add_behind(
+/// Adds an item behind a range that is still to be copied: the range that is to be copied then.
+fn add_behind<'w>(
     planning: &mut Planning,
-    web: &Web,
+    web: &'w Web,
     table: &NameTable,
     has_piece: &[bool],
-    run: Option<Span>,
+    run: Run<'w>,
     item: &Item,
-) -> Result<Option<Span>, NoMemory>
+) -> Result<Run<'w>, NoMemory>
     requires span { IsInRange web.now.texts item.now }
     requires name { IsUseBelow (length table.now.resolved) item.now }
-    requires run { IfSome run (IsSpan web.now.texts) }
-    ensures range { IfOk result (λ next. IfSome next (IsSpan web.now.texts)) }
-    ensures added { IfOk result (λ next. AddsItem web.now.texts table.now (λ id. slice_index_or has_piece.now id false) item.now run next planning.old planning.new) }
+    requires run { IsKept web.now.texts run }
+    ensures range { IfOk result (IsKept web.now.texts) }
+    ensures added { IfOk result (λ next. AddsItem web.now.texts table.now (λ id. slice_index_or has_piece.now id false) item.now run.entry next planning.old planning.new) }
 {
     match text_of(item) {
         Some((kind, span)) => add_text(planning, web, run, kind, span),
@@ -328,12 +322,12 @@ fn add_piece(
     }) }
 {
     planning.add_step(Step::Open)?;
-    let mut run = None;
+    let mut run = no_run(web);
     for item in items {
         run = add_behind(planning, web, table, has_piece, run, item)?;
     }
     planning.add_code(end_of_piece())?;
-    add_run(planning, web, run)?;
+    add_run(planning, run)?;
     planning.add_step(Step::Close)
 }
 

@@ -1,8 +1,9 @@
 //! Texts of items that stand side by side in the source, so that they are copied at once.
-ghost use Rattle.std.specs.Prelude.{◌≡◌, true, IfSome};
+ghost use Rattle.std.specs.Prelude.{◌≡◌, true, [], IfSome};
+ghost use Rattle.tangle_scan.specs.Rules.{span_text};
 ghost use Rattle.tangle_scan.specs.SourceOrder.{IsSpan};
 ghost use Rattle.tangle_scan.specs.declared.items.Item.TheVariants as item_kind;
-ghost use Rattle.tangle_expansion.specs.Runs.{IsJoined, IsRunWith, IsTextOf};
+ghost use Rattle.tangle_expansion.specs.Runs.{IsJoined, IsKept, IsRunWith, IsTextOf, run_bytes};
 
 use crate::codes::ItemKind;
 use tangle_scan::{Item, Span, Web};
@@ -26,15 +27,52 @@ pub(crate) fn text_of(item: &Item) -> Option<(ItemKind, Span)>
     }
 }
 
-/// A range with the one that begins where it ends.
-pub(crate) fn joined(run: Span, span: Span) -> Option<Span>
-    ensures { IfSome result (IsJoined run span) }
+/// A range that is still to be copied, with the bytes of its line. It may be empty.
+#[derive(Clone, Copy)]
+pub(crate) struct Run<'w> {
+    pub(crate) line: &'w [u8],
+    pub(crate) span: Span,
+}
+
+/// An empty range.
+pub(crate) fn no_run<'w>(web: &'w Web) -> Run<'w>
+    ensures range { IsKept web.now.texts result }
+    ensures bytes { run_bytes result ≡ [] }
 {
-    if run.line == span.line && run.end == span.start {
-        Some(Span {
+    Run {
+        line: web.line(0),
+        span: Span {
+            line: 0,
+            start: 0,
+            end: 0,
+        },
+    }
+}
+
+/// This range, with the bytes of its line.
+pub(crate) fn run_of<'w>(web: &'w Web, span: Span) -> Run<'w>
+    requires { IsSpan web.now.texts span }
+    ensures range { IsKept web.now.texts result }
+    ensures bytes { run_bytes result ≡ span_text web.now.texts span }
+{
+    Run {
+        line: web.line(span.line),
+        span,
+    }
+}
+
+/// A range with the one that begins where it ends.
+pub(crate) fn joined<'w>(run: Run<'w>, span: Span) -> Option<Run<'w>>
+    ensures { IfSome result (IsJoined run.entry span) }
+{
+    if run.span.line == span.line && run.span.end == span.start {
+        Some(Run {
             line: run.line,
-            start: run.start,
-            end: span.end,
+            span: Span {
+                line: span.line,
+                start: run.span.start,
+                end: span.end,
+            },
         })
     } else {
         None
@@ -52,19 +90,21 @@ fn is_blank(item: &Item) -> bool
 }
 
 /// A range with an item behind it, if that is white space, and a space in the source.
-pub(crate) fn with_space(web: &Web, run: Span, item: &Item) -> Option<Span>
-    requires run { IsSpan web.now.texts run }
-    ensures { IfSome result (IsRunWith web.now.texts run item.now) }
+pub(crate) fn with_space<'w>(run: Run<'w>, item: &Item) -> Option<Run<'w>>
+    ensures { IfSome result (IsRunWith run.entry item.now) }
 {
     if !is_blank(item) {
         return None;
     }
-    let end = run.end.checked_add(1)?;
-    if web.text_behind(run).first() == Some(&b' ') {
-        Some(Span {
+    let end = run.span.end.checked_add(1)?;
+    if run.line.get(run.span.end as usize) == Some(&b' ') {
+        Some(Run {
             line: run.line,
-            start: run.start,
-            end,
+            span: Span {
+                line: run.span.line,
+                start: run.span.start,
+                end,
+            },
         })
     } else {
         None

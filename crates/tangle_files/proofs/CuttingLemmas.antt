@@ -1,10 +1,12 @@
 -- Bytes are cut at the first line feed, and a line at its last byte that is no space.
-use Rattle.std.proofs.Common.{◌≡◌, ℕ, zero, suc, ◌<◌, ◌≤◌, ◌==◌, Bool, true, false, cond, List, [], ◌∷◌, length, get_or, take, drop, refl, ap, sym, ◌∙◌, arith, Some, None}
+use Rattle.std.proofs.Common.{◌≡◌, ℕ, zero, suc, ◌<◌, ◌≤◌, ◌==◌, Bool, true, false, cond, List, [], ◌∷◌, length, get_or, take, drop, refl, ap, sym, ◌∙◌, arith, Some, None, ◌+◌, ◌-◌, ◌++◌, ◌||◌, map, length-drop, length-append, append_assoc}
 use Rattle.std.specs.Prelude.{nat_lt, position}
-use Rattle.std.specs.List.{position_or_len, before_first}
-use Rattle.std.proofs.lemmas.List.{take_all}
+use Rattle.std.specs.List.{list_any, position_or_len, before_first}
+use Rattle.std.proofs.lemmas.List.{take_all, drop_all, drop-drop, take-take, length-take}
 use borrow.Author.Tests.{ltb-true, ltb-false}
-use Rattle.tangle_files.specs.Lines.{raw_lines, trimmed, before_first_line, before_trimmed}
+use Rattle.tangle_files.specs.Lines.{raw_lines, trimmed, cut, before_first_line, before_trimmed}
+use Rattle.tangle_files.specs.Adding.{is_too_long, longest_line, most_lines}
+use Rattle.tangle_files.specs.Sharing.{part_of}
 
 -- a byte that is no line feed joins the first line
 raw_lines-cons : (b : ℕ) (bs : List ℕ) → (b == 10) ≡ false → raw_lines (b ∷ bs) ≡ before_first_line b (raw_lines bs)
@@ -72,3 +74,77 @@ module _ {X : Type 0} (p : X → Bool) (xs : List X) where
       by : (b : Bool) → nat_lt (position_or_len p xs) (length xs) ≡ b → None ≡ cond b (Some (position_or_len p xs)) None → before_first p xs ≡ xs
       by true t e = cc
       by false t e = take_all (position_or_len p xs) xs (omega (arith, ltb-false (position_or_len p xs) (length xs) t))
+
+-- a line without its trailing spaces is a beginning of it
+pub trimmed_is_front : (bs : List ℕ) → take (length (trimmed bs)) bs ≡ trimmed bs
+trimmed_is_front [] = refl
+trimmed_is_front (b ∷ bs) = by (trimmed bs) (trimmed_is_front bs) (b == 32) refl
+  where
+    by : (t : List ℕ) → take (length t) bs ≡ t → (s : Bool) → (b == 32) ≡ s → take (length (before_trimmed b t)) (b ∷ bs) ≡ before_trimmed b t
+    by [] e true is = ap (λ l. take (length l) (b ∷ bs)) (ap (λ t. cond t [] (b ∷ [])) is) ∙ sym (ap (λ t. cond t [] (b ∷ [])) is)
+    by [] e false is = ap (λ l. take (length l) (b ∷ bs)) (ap (λ t. cond t [] (b ∷ [])) is) ∙ sym (ap (λ t. cond t [] (b ∷ [])) is)
+    by (c ∷ cs) e s is = ap (λ l. b ∷ l) e
+
+-- the first line behind a place, with its line feed and without one
+pub line_with_feed : (bs rest : List ℕ) (start n : ℕ) → rest ≡ drop start bs → n < length rest → ((k : ℕ) → k < n → (get_or rest k 0 == 10) ≡ false)
+    → (get_or rest n 0 == 10) ≡ true
+    → raw_lines (drop start bs) ≡ take (start + n - start) (drop start bs) ∷ raw_lines (drop (start + n + 1) bs)
+line_with_feed bs rest start n is h before at =
+    ap raw_lines (sym is) ∙ raw_lines_at rest n h before at ∙ ap (λ l. take n l ∷ raw_lines (drop (suc n) l)) is
+    ∙ ap (λ m. take m (drop start bs) ∷ raw_lines (drop (suc n) (drop start bs))) (omega arith)
+    ∙ ap (λ l. take (start + n - start) (drop start bs) ∷ raw_lines l) (drop-drop (suc n) start bs ∙ ap (λ m. drop m bs) (omega arith))
+
+pub line_without_feed : (bs rest : List ℕ) (start : ℕ) → rest ≡ drop start bs → start < length bs → ((k : ℕ) → k < length rest → (get_or rest k 0 == 10) ≡ false)
+    → raw_lines (drop start bs) ≡ take (length bs - start) (drop start bs) ∷ raw_lines (drop (length bs + 1) bs)
+line_without_feed bs rest start is h none =
+    ap raw_lines (sym is) ∙ raw_lines_whole rest (omega (arith, ap length is, length-drop start bs)) none ∙ ap (λ l. l ∷ []) is
+    ∙ ap (λ l. l ∷ []) (sym (take_all (length bs - start) (drop start bs) (omega (arith, length-drop start bs))))
+    ∙ ap (λ l. take (length bs - start) (drop start bs) ∷ raw_lines l) (sym (drop_all (length bs + 1) bs (omega arith)))
+
+-- the rest of a text
+pub whole_rest : (bs : List ℕ) (start : ℕ) → take (length bs - start) (drop start bs) ≡ drop start bs
+whole_rest bs start = take_all (length bs - start) (drop start bs) (omega (arith, length-drop start bs))
+
+trimmed_shorter : (bs : List ℕ) → length (trimmed bs) ≤ length bs
+trimmed_shorter bs = omega (arith, ap length (trimmed_is_front bs), length-take (length (trimmed bs)) bs)
+
+-- a line without its trailing spaces ends where the line does, or before
+pub line_fits : (text line : List ℕ) (start end : ℕ) → line ≡ trimmed (take (end - start) (drop start text)) → start ≤ end → end ≤ length text
+    → start + length line ≤ length text
+line_fits text line start end is low high =
+    omega (arith, ap length is, trimmed_shorter (take (end - start) (drop start text)), length-take (end - start) (drop start text))
+
+-- the lines of a text up to a place
+pub record IsCutUpTo (text : List ℕ) (start : ℕ) (lines : List (List ℕ)) : Type 0 where
+  pub made : lines ++ cut (drop start text) ≡ cut text
+  pub short : list_any is_too_long (cut (drop start text)) ≡ list_any is_too_long (cut text)
+  pub few : length lines ≤ most_lines
+  pub within : start ≤ length text + 1
+
+not_too_long : (n : ℕ) → n ≤ longest_line → nat_lt longest_line n ≡ false
+not_too_long n h = by (nat_lt longest_line n) refl
+  where
+    by : (b : Bool) → nat_lt longest_line n ≡ b → b ≡ false
+    by false e = refl
+    by true e = absurd (omega (arith, ltb-true longest_line n e))
+
+pub one_more_line : (text line : List ℕ) (start end : ℕ) (lines next : List (List ℕ))
+    → raw_lines (drop start text) ≡ take (end - start) (drop start text) ∷ raw_lines (drop (end + 1) text)
+    → line ≡ trimmed (take (end - start) (drop start text)) → length line ≤ longest_line → start ≤ end → end ≤ length text → length lines < most_lines
+    → next ≡ lines ++ part_of text start (length line) ∷ []
+    → IsCutUpTo text start lines → IsCutUpTo text (end + 1) next
+one_more_line text line start end lines next raw is size low high room more h =
+    let whole = take (end - start) (drop start text) in
+    let rest = cut (drop (end + 1) text) in
+    let fits : length line ≤ end - start = omega (arith, ap length is, trimmed_shorter whole, length-take (end - start) (drop start text)) in
+    let shared : part_of text start (length line) ≡ trimmed whole
+    = sym (take-take (length line) (end - start) (drop start text) fits) ∙ ap (λ m. take (length m) whole) is ∙ trimmed_is_front whole in
+    let lines_here : cut (drop start text) ≡ trimmed whole ∷ rest = ap (map trimmed) raw in
+    let fine : is_too_long (trimmed whole) ≡ false = ap is_too_long (sym is) ∙ not_too_long (length line) size in
+    record {
+      made = ap (λ l. l ++ rest) more ∙ ap (λ p. (lines ++ p ∷ []) ++ rest) shared ∙ append_assoc lines (trimmed whole ∷ []) rest
+          ∙ ap (λ l. lines ++ l) (sym lines_here) ∙ h.made;
+      short = ap (λ b. b || list_any is_too_long rest) (sym fine) ∙ ap (list_any is_too_long) (sym lines_here) ∙ h.short;
+      few = omega (arith, room, ap length more, length-append lines (part_of text start (length line) ∷ []));
+      within = omega (arith, high);
+    }

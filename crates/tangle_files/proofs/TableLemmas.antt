@@ -1,8 +1,10 @@
 -- A look-up in the table is a look-up among the files.
 use Rattle.std.proofs.Common.{◌≡◌, ℕ, zero, suc, ◌+◌, ◌||◌, Bool, true, false, cond, not, List, [], ◌∷◌, ◌++◌, map, refl, sym, ap, subst, ◌∙◌, Option, None, Some, is_some, true≢false, arith, length-append}
 use Rattle.indexmap.specs.IndexMap.{insert_entry}
-use Rattle.tangle_files.specs.Adding.{is_name, has_file, most_files, most_lines, is_too_long, add_refusal, with_file, HasDistinctNames, IsWithinLimits}
+use Rattle.tangle_files.specs.Adding.{is_name, has_file, most_files, most_lines, is_too_long, add_refusal, name_refusal, cut_refusal, with_file, HasDistinctNames, IsWithinLimits}
 use Rattle.std.specs.Option.{option_map}
+use Rattle.tangle_files.specs.declared.refusal.Refusal.{Refusal}
+use Rattle.tangle_files.specs.declared.refusal.Refusal.TheVariants.{BadName, FileExists, TooManyFiles}
 use Rattle.std.specs.Prelude.{position, nat_lt, nat_le, length, slice_get, ◌≤◌}
 use Rattle.std.specs.List.{position_or_len, list_any, All, AllZip, IsDistinct}
 use Rattle.std.specs.Vec.{vec_len}
@@ -52,6 +54,27 @@ accepted files name bytes h =
     let short = none_from_cond (list_any is_too_long (cut bytes)) _ _ room.1 in
     let few = none_from_cond (nat_lt most_lines (length (cut bytes))) _ _ short.1 in
     record { absent = none_from_is_some (lines_of files name) new.0; room = room.0; short = short.0; few = few.0 }
+
+-- a refusal of an addition is that of its name, or that of its lines
+pub refused_by_name : (files : FileTable) (name bytes : List ℕ) (refusal : Refusal) → name_refusal files name ≡ Some refusal → add_refusal files name bytes ≡ Some refusal
+refused_by_name files name bytes refusal h = by (not (is_name name)) (has_file files name) (nat_le most_files (length files)) h
+  where
+    by : (bad there full : Bool) → cond bad (Some BadName) (cond there (Some FileExists) (cond full (Some TooManyFiles) None)) ≡ Some refusal
+        → cond bad (Some BadName) (cond there (Some FileExists) (cond full (Some TooManyFiles) (cut_refusal bytes))) ≡ Some refusal
+    by true there full h = h
+    by false true full h = h
+    by false false true h = h
+    by false false false h = absurd (cc)
+
+pub refused_by_lines : (files : FileTable) (name bytes : List ℕ) → name_refusal files name ≡ None → add_refusal files name bytes ≡ cut_refusal bytes
+refused_by_lines files name bytes h = by (not (is_name name)) (has_file files name) (nat_le most_files (length files)) h
+  where
+    by : (bad there full : Bool) → cond bad (Some BadName) (cond there (Some FileExists) (cond full (Some TooManyFiles) None)) ≡ None
+        → cond bad (Some BadName) (cond there (Some FileExists) (cond full (Some TooManyFiles) (cut_refusal bytes))) ≡ cut_refusal bytes
+    by true there full h = absurd (cc)
+    by false true full h = absurd (cc)
+    by false false true h = absurd (cc)
+    by false false false h = refl
 
 -- one file
 pub last_few : (f : List ℕ × List (List ℕ)) → length f.1 ≤ most_lines → All (λ (file : List ℕ × List (List ℕ)). length file.1 ≤ most_lines) (f ∷ [])

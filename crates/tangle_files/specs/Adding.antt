@@ -30,6 +30,20 @@ has_file files name = is_some (lines_of files name)
 abbrev pub is_too_long : List ℕ → Bool
 is_too_long line = nat_lt longest_line (length line)
 
+-- what of a name refuses a file, and what of its lines
+abbrev pub name_refusal : FileTable → List ℕ → Option Refusal
+name_refusal files name =
+    if not (is_name name) then Some BadName
+    else if has_file files name then Some FileExists
+    else if nat_le most_files (length files) then Some TooManyFiles
+    else None
+
+abbrev pub cut_refusal : List ℕ → Option Refusal
+cut_refusal bytes =
+    if list_any is_too_long (cut bytes) then Some LineTooLong
+    else if nat_lt most_lines (length (cut bytes)) then Some TooManyLines
+    else None
+
 -- the first refusal that applies to adding a file
 abbrev pub add_refusal : FileTable → List ℕ → List ℕ → Option Refusal
 add_refusal files name bytes =

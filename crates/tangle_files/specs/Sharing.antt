@@ -1,5 +1,5 @@
 -- Lines that share a text: each is a part of it.
-use Rattle.std.specs.Prelude.{ℕ, ◌+◌, ◌*◌, ◌^◌, List, [], ◌∷◌, take, drop}
+use Rattle.std.specs.Prelude.{ℕ, ◌+◌, ◌*◌, ◌^◌, List, take, drop}
 
 -- a place in a text, by its low 32 bits and those above them
 abbrev pub place_of : ℕ → ℕ → ℕ
@@ -8,8 +8,3 @@ place_of low high = low + high * 2 ^ 32
 -- so many bytes of a text from a place on
 abbrev pub part_of : List ℕ → ℕ → ℕ → List ℕ
 part_of text place size = take size (drop place text)
-
--- the parts of these sizes that stand one behind the other in a text
-abbrev pub parts_of : List ℕ → List ℕ → List (List ℕ)
-parts_of text [] = []
-parts_of text (n ∷ ns) = take n text ∷ parts_of (drop n text) ns

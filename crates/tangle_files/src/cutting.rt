@@ -1,11 +1,13 @@
 //! The cutting of bytes into lines.
-ghost use Rattle.std.specs.Prelude.{◌≡◌, ◌<◌, ◌≤◌, ◌∷◌, length, map, false, IfOk};
-ghost use Rattle.std.specs.List.{concat, list_any, sum};
+ghost use Rattle.std.specs.Prelude.{◌≡◌, ◌+◌, ◌-◌, ◌<◌, ◌≤◌, ◌^◌, [], ◌∷◌, ◌++◌, length, take, drop, None, unwrap_or, IfErr, IfOk, IfSome, OnOk};
+ghost use Rattle.std.specs.List.{list_any};
 ghost use Rattle.tangle_files.specs.Lines.{raw_lines, trimmed, cut};
-ghost use Rattle.tangle_files.specs.Adding.{is_too_long, most_lines};
-ghost use Rattle.tangle_files.specs.Sharing.{parts_of};
+ghost use Rattle.tangle_files.specs.Adding.{cut_refusal, is_too_long};
+ghost use Rattle.tangle_files.specs.Sharing.{part_of};
 
-use crate::line::Line;
+use crate::files::MOST_LINES;
+use crate::line::{Line, MOST_PLACES};
+use crate::refusal::Refusal;
 use memchr::memchr;
 use std::alloc::{AllocError, Global};
 use std::rc::Rc;
@@ -41,49 +43,94 @@ pub(crate) fn measure_lines(bytes: &[u8]) -> LineMeasure
     LineMeasure { is_too_long, count }
 }
 
-/// Cuts the bytes into their lines, of which none is too long and which are not too many. The lines share one copy of
-/// their bytes, so that a line takes no memory of its own.
-pub(crate) fn cut_lines(alloc: Global, bytes: &[u8]) -> Result<Vec<Line>, AllocError>
-    requires short { list_any is_too_long (cut bytes.now) ≡ false }
-    requires few { length (cut bytes.now) ≤ most_lines }
-    ensures { IfOk result (λ lines. lines.items ≡ cut bytes.now) }
+/// Cuts the bytes into their lines, which share them, so that a line takes no memory of its own.
+///
+/// # Errors
+///
+/// The first of these that applies: `LineTooLong`, `TooManyLines`, `NoMemory`.
+pub(crate) fn cut_lines(alloc: Global, bytes: Vec<u8>) -> Result<Vec<Line>, Refusal>
+    ensures ok { IfOk result (λ lines. lines.items ≡ cut bytes.items) }
+    ensures accepted { IfOk result (λ lines. cut_refusal bytes.items ≡ None) }
+    ensures refused { IfErr result (λ refusal. refusal ≡ unwrap_or (cut_refusal bytes.items) Refusal.NoMemory) }
 {
-    let (text, sizes) = join_lines(alloc, bytes)?;
-    share_text(alloc, Rc::new(alloc, text)?, &sizes)
+    match Rc::new(alloc, bytes) {
+        Ok(text) => match share_lines(alloc, &text) {
+            Some(lines) => Ok(lines),
+            None => Err(why_not_cut(text.as_slice())),
+        },
+        Err(failed) => Err(why_not_cut(&failed.value)),
+    }
 }
 
-/// The text of the lines, one behind the other without their line feeds and trailing spaces, and the size of each.
-fn join_lines(alloc: Global, bytes: &[u8]) -> Result<(Vec<u8>, Vec<u16>), AllocError>
-    requires { list_any is_too_long (cut bytes.now) ≡ false }
-    ensures text { IfOk result (λ joined. joined.0.items ≡ concat (cut bytes.now)) }
-    ensures sizes { IfOk result (λ joined. joined.1.items ≡ map length (cut bytes.now)) }
+/// Why the bytes were not cut: want of memory, if their lines are within the limits.
+fn why_not_cut(bytes: &[u8]) -> Refusal
+    ensures { result ≡ unwrap_or (cut_refusal bytes.now) Refusal.NoMemory }
 {
-    let mut text = Vec::with_capacity(alloc, bytes.len())?;
-    let mut sizes = Vec::new(alloc);
-    let mut rest = bytes;
-    while !rest.is_empty() {
-        let (line, tail) = first_line(rest);
-        let line = without_trailing_spaces(line);
-        text.extend_from_slice(line)?;
-        sizes.push(line.len() as u16)?;
-        rest = tail;
+    let lines = measure_lines(bytes);
+    if lines.is_too_long {
+        return Refusal::LineTooLong;
     }
-    Ok((text, sizes))
+    if lines.count > MOST_LINES {
+        return Refusal::TooManyLines;
+    }
+    Refusal::NoMemory
 }
 
-/// The lines of these sizes that stand one behind the other in the text.
-fn share_text(alloc: Global, text: Rc<Vec<u8>>, sizes: &[u16]) -> Result<Vec<Line>, AllocError>
-    requires few { length sizes.now ≤ most_lines }
-    requires within { sum sizes.now ≤ length text.value.items }
-    ensures { IfOk result (λ lines. lines.items ≡ parts_of text.value.items sizes.now) }
+/// The lines of a text, which share it: `None`, if one is too long, if they are too many, or if a growth was refused.
+fn share_lines(alloc: Global, text: &Rc<Vec<u8>>) -> Option<Vec<Line>>
+    ensures lines { IfSome result (λ lines. lines.items ≡ cut text.now.value.items) }
+    ensures within { IfSome result (λ lines. cut_refusal text.now.value.items ≡ None) }
 {
-    let mut lines = Vec::with_capacity(alloc, sizes.len())?;
-    let mut place = 0;
-    for size in sizes {
-        lines.push(Line::new(text.clone()?, place, *size))?;
-        place += *size as usize;
+    let bytes = bytes_of(text);
+    let mut lines = Vec::new(alloc);
+    let mut start = 0;
+    while start < bytes.len() {
+        let end = end_of_line(bytes, start);
+        let line = without_trailing_spaces(&bytes[start..end]);
+        if line.len() > LONGEST_LINE || lines.len() >= MOST_LINES || start >= MOST_PLACES {
+            return None;
+        }
+        match add_line(&mut lines, text, start, line.len() as u16) {
+            Ok(()) => start = end + 1,
+            Err(_) => return None,
+        }
     }
-    Ok(lines)
+    Some(lines)
+}
+
+/// The bytes of a text.
+fn bytes_of(text: &Rc<Vec<u8>>) -> &[u8]
+    ensures { result.now ≡ text.now.value.items }
+{
+    text.as_slice()
+}
+
+/// Adds the line of so many bytes from this place of the text on.
+fn add_line(
+    lines: &mut Vec<Line>,
+    text: &Rc<Vec<u8>>,
+    start: usize,
+    size: u16,
+) -> Result<(), AllocError>
+    requires near { start < 2 ^ 48 }
+    requires within { start + size ≤ length text.now.value.items }
+    ensures { OnOk result (lines.new.items ≡ lines.old.items ++ part_of text.now.value.items start size ∷ []) }
+{
+    lines.push(Line::new(text.clone()?, start, size))?;
+    Ok(())
+}
+
+/// Where the line ends that begins at this place.
+fn end_of_line(bytes: &[u8], start: usize) -> usize
+    requires { start < length bytes.now }
+    ensures low { start ≤ result }
+    ensures high { result ≤ length bytes.now }
+    ensures line { raw_lines (drop start bytes.now) ≡ take (result - start) (drop start bytes.now) ∷ raw_lines (drop (result + 1) bytes.now) }
+{
+    match memchr(b'\n', &bytes[start..]) {
+        Some(count) => start + count,
+        None => bytes.len(),
+    }
 }
 
 /// The first line of some bytes, and the bytes after its line feed.

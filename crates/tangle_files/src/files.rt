@@ -2,7 +2,7 @@
 ghost use Rattle.std.specs.Prelude.{◌≡◌, ◌≤◌, [], length, slice_get, OnOk, OnErr, IsOkUnless, IfOk, IfSome, IfNone, Err};
 ghost use Rattle.std.specs.Option.{option_copied, option_map};
 ghost use Rattle.tangle_files.specs.Lines.{file_number, name_at as name_in_table, lines_at as lines_in_table, lines_of};
-ghost use Rattle.tangle_files.specs.Adding.{HasDistinctNames, with_file, add_refusal, has_file, is_name, most_files, most_lines};
+ghost use Rattle.tangle_files.specs.Adding.{HasDistinctNames, with_file, add_refusal, name_refusal, has_file, is_name, most_files, most_lines};
 ghost use Rattle.tangle_files.specs.Edits.{edit_refusal};
 ghost use Rattle.tangle_files.specs.Edited.{edited};
 
@@ -74,7 +74,28 @@ impl Files {
             return Err(refusal);
         }
         let alloc = *self.table.allocator();
-        let lines = Rc::new(alloc, cut_lines(alloc, bytes)?)?;
+        let bytes = Vec::from_slice(alloc, bytes)?;
+        self.add_owned(name, bytes)
+    }
+
+    /// Adds a file as [`Files::add`] does. Its bytes are handed over, and its lines share them: they are cut in one pass,
+    /// and not copied.
+    ///
+    /// # Errors
+    ///
+    /// Those of [`Files::add`], and then the table stays as it was, and the bytes are freed.
+    pub fn add_owned(&mut self, name: &[u8], bytes: Vec<u8>) -> Result<(), Refusal>
+        ensures ok { OnOk result (self.new ≡ with_file self.old name.now bytes.items) }
+        ensures refused { IfSome (add_refusal self.old name.now bytes.items) (λ e. result ≡ Err e) }
+        ensures only { IfNone (add_refusal self.old name.now bytes.items) (IsOkUnless result Refusal.NoMemory) }
+        ensures err { OnErr result (self.new ≡ self.old) }
+    {
+        if let Some(refusal) = self.refusal_of_name(name) {
+            return Err(refusal);
+        }
+        let alloc = *self.table.allocator();
+        let lines = cut_lines(alloc, bytes)?;
+        let lines = Rc::new(alloc, lines)?;
         let name = Vec::from_slice(alloc, name)?;
         self.table.insert(name, lines)?;
         Ok(())
@@ -111,9 +132,9 @@ impl Files {
         Ok(())
     }
 
-    /// Why a file is not to be added, but for want of memory.
-    fn refusal_to_add(&self, name: &[u8], bytes: &[u8]) -> Option<Refusal>
-        ensures { result ≡ add_refusal self.now name.now bytes.now }
+    /// Why a file of this name is not to be added, whatever its bytes.
+    fn refusal_of_name(&self, name: &[u8]) -> Option<Refusal>
+        ensures { result ≡ name_refusal self.now name.now }
     {
         if !is_file_name(name) {
             return Some(Refusal::BadName);
@@ -123,6 +144,16 @@ impl Files {
         }
         if self.count() >= MOST_FILES {
             return Some(Refusal::TooManyFiles);
+        }
+        None
+    }
+
+    /// Why a file is not to be added, but for want of memory.
+    fn refusal_to_add(&self, name: &[u8], bytes: &[u8]) -> Option<Refusal>
+        ensures { result ≡ add_refusal self.now name.now bytes.now }
+    {
+        if let Some(refusal) = self.refusal_of_name(name) {
+            return Some(refusal);
         }
         let lines = measure_lines(bytes);
         if lines.is_too_long {

@@ -10,6 +10,9 @@ use std::rc::Rc;
 /// How many places the low number of a place tells apart.
 const LOW_PLACES: usize = 4_294_967_296;
 
+/// How many places the two numbers of a place tell apart: more than bytes that fit a memory.
+pub(crate) const MOST_PLACES: usize = 281_474_976_710_656;
+
 /// A line without its trailing spaces and its line feed: at most 65,535 bytes. It stands in a text that the lines of
 /// its file share. Its place there is two numbers, so that a line takes 16 bytes though a text may pass 4 GiB.
 #[derive(Drop)]

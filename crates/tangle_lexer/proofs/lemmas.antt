@@ -1,5 +1,6 @@
 pub mod AheadLemmas
 pub mod ByteLemmas
+pub mod ChunkLemmas
 pub mod CutLemmas
 pub mod HeadLemmas
 pub mod LexemeLemmas

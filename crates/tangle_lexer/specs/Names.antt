@@ -1,5 +1,5 @@
 -- Section names: @< or @( up to @>, also over lines.
-use Rattle.std.specs.Prelude.{ℕ, ◌+◌, ◌-◌, Bool, false, true, not, ◌&&◌, ◌||◌, List, [], ◌∷◌, ◌++◌, length, nat_lt, drop, if◌then◌else◌, Option, Some, None, unwrap_or, codes}
+use Rattle.std.specs.Prelude.{◌≡◌, ◌≤◌, ℕ, ◌+◌, ◌-◌, Bool, false, true, not, ◌&&◌, ◌||◌, List, [], ◌∷◌, ◌++◌, length, nat_lt, drop, if◌then◌else◌, Option, Some, None, unwrap_or, codes}
 use Rattle.std.specs.Str.{bytes_eq}
 use Rattle.tangle_lines.specs.Bytes.{is_white}
 use Rattle.tangle_lines.specs.declared.faults.FaultKind.TheVariants as fault
@@ -16,7 +16,7 @@ use Rattle.tangle_lexer.specs.declared.tokens.Token.{Token}
 use Rattle.tangle_lexer.specs.declared.tokens.Token.TheVariants as token
 use Rattle.tangle_lexer.specs.Bytes.{at_sign, left_parenthesis, plus_sign, equals_sign, holds}
 use Rattle.tangle_lexer.specs.Text.{Cell, byte_at, line_at}
-use Rattle.tangle_lexer.specs.Regions.{count_before, from_units}
+use Rattle.tangle_lexer.specs.Regions.{count_before, from_units, region_end}
 use Rattle.tangle_lexer.specs.Lexemes.{NameRead, Lexeme, fault_if, in_mode, elsewhere}
 use Rattle.tangle_lexer.specs.Comments.{has_end_code, two_if}
 
@@ -52,6 +52,12 @@ normal_form bytes = with_single_spaces false false bytes
 -- the text of the name that is read from here on
 abbrev pub name_text : List Cell → List ℕ
 name_text text = normal_form (from_units name_bytes region.Name 0 text)
+
+-- These bytes stand at the front of a text, and the rest behind them: where a name is read there, they belong to it.
+pub record BeginsName (bytes : List ℕ) (text rest : List Cell) : Type 0 where
+  pub units : from_units name_bytes region.Name 0 text ≡ bytes ++ from_units name_bytes region.Name 0 rest
+  pub end : region_end region.Name text ≡ region_end region.Name rest
+  pub shorter : length rest ≤ length text
 
 abbrev pub dots : List ℕ
 dots = codes "..."

@@ -3,6 +3,7 @@ ghost use Rattle.std.specs.Prelude.{◌≡◌, ◌≤◌, ◌<◌, ◌+◌, ◌^
 ghost use Rattle.tangle_lines.specs.Bytes as lines;
 ghost use Rattle.tangle_lexer.specs.Ahead.{IsFront, run_length};
 ghost use Rattle.tangle_lexer.specs.Bytes as byte;
+ghost use Rattle.tangle_lexer.specs.Names.{BeginsName};
 ghost use Rattle.tangle_lexer.specs.declared.regions.Region.TheVariants as region;
 ghost use Rattle.tangle_lexer.specs.Steps.{word_more, is_include_word};
 ghost use Rattle.tangle_lexer.specs.Text.{text_from, byte_at, bytes_of, line_at, column_at, span_at};
@@ -375,6 +376,19 @@ impl<'s, 'a> Reader<'s, 'a> {
         ensures { (n : ℕ) × (self.new ≡ drop n self.old) × regions.AreOrdinary n self.old }
     {
         self.column = ordinary_end(self.text, self.column);
+    }
+
+    /// Takes the bytes of this line up to the next `@`, or to its end, which are bytes of a name where one is read.
+    pub fn take_name_bytes(&mut self) -> &'a [u8]
+        ensures { BeginsName result.now self.old self.new }
+    {
+        if self.is_done {
+            return &[];
+        }
+        let start = self.column;
+        let end = at_sign_from(self.text, start);
+        self.column = end;
+        &self.text[start..end]
     }
 
     /// Goes on in this line to the next `@`, or to its end.

@@ -100,6 +100,19 @@ fn push_unit(name: &mut Vec<u8>, white: bool, unit: Unit, front: Front) -> Resul
     }
 }
 
+/// Adds bytes to a name, none of which is an `@`.
+fn push_bytes(name: &mut Vec<u8>, white: bool, bytes: &[u8]) -> Result<bool, AllocError>
+    ensures { IfOk result (λ after. (more : List ℕ) →
+        name.new.items ++ spec.with_single_spaces (spec.has_begun name.new.items) after more
+        ≡ name.old.items ++ spec.with_single_spaces (spec.has_begun name.old.items) white (bytes.now ++ more)) }
+{
+    let mut after = white;
+    for byte in bytes {
+        after = push_byte(name, after, *byte)?;
+    }
+    Ok(after)
+}
+
 /// Room for the text of most names: it grows for longer ones.
 const NAME_ROOM: usize = 32;
 
@@ -117,6 +130,7 @@ fn read_text(alloc: Global, ahead: &mut Reader) -> Result<Vec<u8>, AllocError>
         }
         white = push_unit(&mut name, white, unit, front)?;
         ahead.pass(unit);
+        white = push_bytes(&mut name, white, ahead.take_name_bytes())?;
     }
     Ok(name)
 }

@@ -112,6 +112,13 @@ impl<'s, 'a> Web<'s, 'a> {
         &line[span.start as usize..span.end as usize]
     }
 
+    /// The bytes of the source line of this number, from 0: none behind the last line.
+    pub fn line(&self, number: u32) -> &[u8]
+        ensures { result.now ≡ get_or self.now.texts number [] }
+    {
+        self.source.line(number as usize)
+    }
+
     /// What stands behind a range, up to the end of its line.
     pub fn text_behind(&self, span: Span) -> &[u8]
         requires { IsSpan self.now.texts span }

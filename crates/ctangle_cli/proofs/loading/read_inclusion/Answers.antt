@@ -14,7 +14,7 @@ returns-in-Ok-clause-err g c =
     IfErr-weaker c.add_file.result _ _
     (λ fault stops.
     stops_along _ _ _ _ _ _ (ending_of fault) c.in-Ok.ensures.counted
-    (rw c.as_slice.ensures.value (included_bytes (g.F.Folder.files c.args.folder.now) c.args.files.now c.args.name.now c.in-Ok.bytes c.in-Ok.ensures.answer absent named))
+    (included_bytes (g.F.Folder.files c.args.folder.now) c.args.files.now c.args.name.now c.in-Ok.bytes c.in-Ok.ensures.answer absent named)
     (stops (g.F.Folder.files c.args.folder.now) (g.F.Folder.failures c.read_file.new.self)))
     c.add_file.ensures.err
 
@@ -34,7 +34,7 @@ returns-in-Ok-clause-asks g c =
     let new = tried (g.F.Folder.asked c.read_file.new.self) c.add_file.new.files c.args.absent.now in
     on_ok_weaker c.add_file.result
     (λ ok. asks_this old new c.args.name.now (untried _ _ (sym c.has.ensures ∙ c.if-has.false) (sym c.contains.ensures ∙ c.if-contains.false)) c.in-Ok.ensures.asks
-    (tries_added old.asked new.asked c.args.files.now c.add_file.new.files c.args.absent.now c.args.name.now c.in-Ok.bytes.items (rw c.as_slice.ensures.value at ok)))
+    (tries_added old.asked new.asked c.args.files.now c.add_file.new.files c.args.absent.now c.args.name.now c.in-Ok.bytes.items ok))
     c.add_file.ensures.ok
 
 pub returns-in-Ok-clause-tries : goal.returns-in-Ok-clause-tries
@@ -43,7 +43,7 @@ returns-in-Ok-clause-tries g c =
     let new = tried (g.F.Folder.asked c.read_file.new.self) c.add_file.new.files c.args.absent.now in
     on_ok_weaker c.add_file.result
     (λ ok. tries_this old new c.args.name.now
-    (tries_added old.asked new.asked c.args.files.now c.add_file.new.files c.args.absent.now c.args.name.now c.in-Ok.bytes.items (rw c.as_slice.ensures.value at ok)))
+    (tries_added old.asked new.asked c.args.files.now c.add_file.new.files c.args.absent.now c.args.name.now c.in-Ok.bytes.items ok))
     c.add_file.ensures.ok
 
 pub returns-in-Ok-clause-stops : goal.returns-in-Ok-clause-stops

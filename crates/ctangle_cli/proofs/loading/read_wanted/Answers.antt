@@ -11,7 +11,7 @@ returns-in-Ok-clause-err g c =
     IfErr-weaker c.add_file.result _ _
     (λ fault stops.
     stops_along _ _ _ _ _ _ (ending_of fault) c.in-Ok.ensures.counted
-    (rw c.as_slice.ensures.value (wanted_bytes (g.F.Folder.files c.args.folder.now) c.args.files.now c.args.name.now c.in-Ok.bytes c.in-Ok.ensures.answer))
+    (wanted_bytes (g.F.Folder.files c.args.folder.now) c.args.files.now c.args.name.now c.in-Ok.bytes c.in-Ok.ensures.answer)
     (stops (g.F.Folder.files c.args.folder.now) (g.F.Folder.failures c.read_file.new.self)))
     c.add_file.ensures.err
 
@@ -24,7 +24,7 @@ returns-in-Ok-clause-asks g c =
     let new = tried (g.F.Folder.asked c.read_file.new.self) c.add_file.new.files [] in
     on_ok_weaker c.add_file.result
     (λ ok. asks_this old new c.args.name.now (or_false _ ∙ c.requires) c.in-Ok.ensures.asks
-    (tries_added old.asked new.asked c.args.files.now c.add_file.new.files [] c.args.name.now c.in-Ok.bytes.items (rw c.as_slice.ensures.value at ok)))
+    (tries_added old.asked new.asked c.args.files.now c.add_file.new.files [] c.args.name.now c.in-Ok.bytes.items ok))
     c.add_file.ensures.ok
 
 pub returns-in-Ok-clause-stops : goal.returns-in-Ok-clause-stops

@@ -22,12 +22,19 @@ loop-front-preserved c =
     let front = c.in-Some.ensures.front in
     let here = unit_at-front region.Name c.loop-front.ahead c.in-Some.front _ front c.unit_of-unit.ensures in
     let given = from_units-go name_bytes region.Name 0 c.loop-front.ahead c.unit_of-unit.result front.inside here c.in_default-unit.not-Stop in
+    let chunk = c.take_name_bytes.ensures in
+    let units = from_units name_bytes region.Name 0 in
+    let passed = drop (more_by c.unit_of-unit.result) (drop 1 c.loop-front.ahead) in
     record {
-      end = ap (region_end region.Name) c.pass.ensures ∙ (sym (region_end-go region.Name c.loop-front.ahead c.unit_of-unit.result here c.in_default-unit.not-Stop) ∙ c.loop-front.invariant.end);
+      end = sym chunk.end ∙ ap (region_end region.Name) c.pass.ensures
+          ∙ (sym (region_end-go region.Name c.loop-front.ahead c.unit_of-unit.result here c.in_default-unit.not-Stop) ∙ c.loop-front.invariant.end);
       name =
           let unit = rw (front.byte, front.next) at given in
-          rw c.pass.ensures (c.in_ok-white.ensures (from_units name_bytes region.Name 0 (drop (more_by c.unit_of-unit.result) (drop 1 c.loop-front.ahead)))
-          ∙ (ap (λ bs. c.loop-front.name.items ++ with_single_spaces (has_begun c.loop-front.name.items) c.loop-front.white bs) (sym unit) ∙ c.loop-front.invariant.name));
+          let behind = sym chunk.units ∙ ap units c.pass.ensures in
+          c.in_ok-white-2.ensures (units c.take_name_bytes.new.self)
+          ∙ ap (λ bs. c.push_unit.new.name.items ++ with_single_spaces (has_begun c.push_unit.new.name.items) c.in_ok-white.white bs) behind
+          ∙ c.in_ok-white.ensures (units passed)
+          ∙ (ap (λ bs. c.loop-front.name.items ++ with_single_spaces (has_begun c.loop-front.name.items) c.loop-front.white bs) (sym unit) ∙ c.loop-front.invariant.name);
     }
 
 pub returns-clause-ahead : goal.returns-clause-ahead

@@ -1,0 +1,10 @@
+use Rattle.std.proofs.Common.{arith}
+use Rattle.tangle_lexer.proofs.lemmas.ChunkLemmas.{bytes_begin}
+use Rattle.tangle_lexer.proofs.ahead.Reader.take_name_bytes.Goals as goal
+
+pub returns : goal.returns
+returns c =
+    let r = c.self.inside in
+    let end = c.at_sign_from-end in
+    bytes_begin r.source.now.lines r.text.now r.line r.column end.result r.is_done c.args.self.now c.if-self.false c.self.view_is
+    end.ensures.low end.ensures.high end.ensures.before
