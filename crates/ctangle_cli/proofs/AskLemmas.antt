@@ -16,7 +16,7 @@ use Rattle.std.proofs.lemmas.Slice.Eq.{bytes_eq-Decides}
 use Rattle.tangle_files.specs.declared.refusal.Refusal.{Refusal}
 use Rattle.tangle_files.specs.Lines.{FileTable, cut}
 use Rattle.tangle_files.specs.Adding.{add_refusal, has_file, with_file}
-use Rattle.tangle_files.specs.Roles.{RoleNames}
+use Rattle.tangle_files.specs.Roles.{RolesRead}
 use Rattle.tangle_folders.specs.Folder.{File, file_limit, with_asked}
 use Rattle.ctangle_cli.specs.Asking.{AsksForAll, AsksOnce, IsWanted}
 use Rattle.ctangle_cli.specs.Tries.{AsksOn, IsTriedIn, RoundsOnce, StopsAsking, Tries, TriesAll, TriesOnce, TriesSince, TriesStay, is_tried, named_in}
@@ -197,7 +197,7 @@ pub none_missed : (faults : List Finding) (i : ℕ) → length faults ≤ i → 
 none_missed faults i end = ap missed_in (drop_of_length-le faults end)
 
 -- rounds: what is asked for in one is what its reading misses
-still_wanted : (files next : FileTable) (roles : RoleNames) (name : List ℕ) → Grows files next → IsWanted files roles name → IsWanted next roles name
+still_wanted : (files next : FileTable) (roles : RolesRead) (name : List ℕ) → Grows files next → IsWanted files roles name → IsWanted next roles name
 still_wanted files next roles name g w = elim w [
   | inl web ↦ inl web
   | inr other ↦ elim other [
@@ -210,7 +210,7 @@ still_wanted files next roles name g w = elim w [
   ]
 ]
 
-this_wanted : (files next : FileTable) (roles : RoleNames) (name : List ℕ) → Grows files next → Contains (missing_of files roles) name → IsWanted next roles name
+this_wanted : (files next : FileTable) (roles : RolesRead) (name : List ℕ) → Grows files next → Contains (missing_of files roles) name → IsWanted next roles name
 this_wanted files next roles name g c =
     still_wanted files next roles name g (inr (inr (length files, omega arith, subst (λ t. Contains (missing_of t roles) name) (sym (take_all (length files) files (omega arith))) c)))
 
@@ -234,7 +234,7 @@ pub stops_then : (old now : Tries) (asked : Option (List (List ℕ))) (all rest 
 stops_then old now asked all rest so_far stops before wanted t =
     stops before (wanted ++ all) (so_far before (wanted ++ all) (all_among wanted all) (wanted_more_if before old wanted all t)).1
 
-pub round_asks : (before : Option (List (List ℕ))) (old new : Tries) (roles : RoleNames) (missed : List (List ℕ)) → missed ≡ missing_of old.files roles → Grows old.files new.files
+pub round_asks : (before : Option (List (List ℕ))) (old new : Tries) (roles : RolesRead) (missed : List (List ℕ)) → missed ≡ missing_of old.files roles → Grows old.files new.files
     → AsksOn old new missed → RoundsOnce before old roles → RoundsOnce before new roles
 round_asks before old new roles missed is g asks r = (
   r.0 ++ missed,
@@ -243,7 +243,7 @@ round_asks before old new roles missed is g asks r = (
   asks before (r.0 ++ missed) (all_among r.0 missed) (wanted_more_if before old r.0 missed r.2),
 )
 
-pub asking_stops : (start now : Tries) (asked : Option (List (List ℕ))) (roles : RoleNames) → ((before : Option (List (List ℕ))) → RoundsOnce before start roles → RoundsOnce before now roles)
+pub asking_stops : (start now : Tries) (asked : Option (List (List ℕ))) (roles : RolesRead) → ((before : Option (List (List ℕ))) → RoundsOnce before start roles → RoundsOnce before now roles)
     → StopsAsking now asked → (before : Option (List (List ℕ))) → RoundsOnce before start roles → AsksOnce before asked
 asking_stops start now asked roles so_far stops before r =
     let here = so_far before r in
@@ -252,7 +252,7 @@ asking_stops start now asked roles so_far stops before r =
 tried_asked : (names : List (List ℕ)) (now : Tries) (wanted : List (List ℕ)) (name : List ℕ) (t : TriesSince names now wanted) → is_tried now name ≡ true → Contains t.asked name
 tried_asked names now wanted name t e = Contains-from_any (λ x y same. (bytes_eq-Decides x y).0 same) name t.asked (t.same name ∙ e)
 
-pub last_asks : (before : Option (List (List ℕ))) (old now : Tries) (roles : RoleNames) (missed : List (List ℕ)) → missed ≡ missing_of old.files roles → now.files ≡ old.files → TriesAll old now missed
+pub last_asks : (before : Option (List (List ℕ))) (old now : Tries) (roles : RolesRead) (missed : List (List ℕ)) → missed ≡ missing_of old.files roles → now.files ≡ old.files → TriesAll old now missed
     → RoundsOnce before now roles → AsksForAll before now.asked now.files roles
 last_asks None old now roles missed is stays done r = tt
 last_asks (Some names) old now roles missed is stays done r = record {
@@ -270,7 +270,7 @@ unfolding IsDistinct
 nothing_asked None wanted = tt
 nothing_asked (Some names) wanted = record { asked = []; behind = ap (λ l. Some l) (sym (append-nil names)); once = tt; same = λ name. refl; only = All-nil (Contains wanted) }
 
-roles_wanted : (files : FileTable) (roles : RoleNames) (change : Option (List ℕ)) → roles.change ≡ change → All (IsWanted files roles) (roles.web ∷ named_in change)
+roles_wanted : (files : FileTable) (roles : RolesRead) (change : Option (List ℕ)) → roles.change ≡ change → All (IsWanted files roles) (roles.web ∷ named_in change)
 roles_wanted files roles None is = All-cons (IsWanted files roles) roles.web [] (inl refl) (All-nil (IsWanted files roles))
 roles_wanted files roles (Some name) is =
     All-cons (IsWanted files roles) roles.web (name ∷ []) (inl refl) (All-cons (IsWanted files roles) name [] (inr (inl is)) (All-nil (IsWanted files roles)))
@@ -281,7 +281,7 @@ first_stops before asked stops = stops before [] (nothing_asked before [])
 pub second_stops : (before asked : Option (List (List ℕ))) (mid : Tries) (web : List ℕ) → AsksOn (record { asked = before; files = []; absent = [] }) mid (web ∷ []) → StopsAsking mid asked → AsksOnce before asked
 second_stops before asked mid web asks stops = stops before (web ∷ []) (asks before (web ∷ []) (All-contains_itself (web ∷ [])) (nothing_asked before (web ∷ [])))
 
-pub roles_asked : (before : Option (List (List ℕ))) (mid now : Tries) (roles : RoleNames) → AsksOn (record { asked = before; files = []; absent = [] }) mid (roles.web ∷ [])
+pub roles_asked : (before : Option (List (List ℕ))) (mid now : Tries) (roles : RolesRead) → AsksOn (record { asked = before; files = []; absent = [] }) mid (roles.web ∷ [])
     → AsksOn mid now (named_in roles.change) → RoundsOnce before now roles
 roles_asked before mid now roles first second =
     let all = roles.web ∷ named_in roles.change in
@@ -294,6 +294,6 @@ roles_asked before mid now roles first second =
 pub none_asked : (before : Option (List (List ℕ))) → AsksOnce before before
 none_asked before = first_stops before before (stops_here (record { asked = before; files = []; absent = [] }) before refl)
 
-pub asked_once : (before now : Option (List (List ℕ))) (files : FileTable) (roles : RoleNames) → AsksForAll before now files roles → AsksOnce before now
+pub asked_once : (before now : Option (List (List ℕ))) (files : FileTable) (roles : RolesRead) → AsksForAll before now files roles → AsksOnce before now
 asked_once None now files roles a = tt
 asked_once (Some names) now files roles a = record { asked = a.asked; behind = a.behind; once = a.once }

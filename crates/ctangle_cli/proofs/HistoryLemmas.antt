@@ -2,7 +2,7 @@
 use Rattle.std.proofs.Common.{◌≡◌, List, [], ◌∷◌, ◌++◌, refl, ap, sym, subst, append_assoc, inl, inr}
 use Rattle.std.specs.Prelude.{ℕ, false, Ok, Err, unwrap_or}
 use Rattle.tangle_files.specs.Lines.{FileTable}
-use Rattle.tangle_files.specs.Roles.{RoleNames}
+use Rattle.tangle_files.specs.Roles.{RolesRead}
 use Rattle.tangle_files.specs.declared.edits.Edit.{Edit}
 use Rattle.tangle_files.specs.declared.refusal.Refusal.TheVariants.{NoMemory}
 use Rattle.tangle_script.specs.Requests.{Command, Request, is_edit, request_of}
@@ -13,7 +13,7 @@ use Rattle.tangle_session.specs.Sessions.{SessionRead}
 use Rattle.ctangle_cli.specs.Conversation.{AnswersEdit, AnswersRequest, IsMade, IsRefused, answers, request_for}
 use Rattle.ctangle_cli.specs.Histories.{AreCallsOf, IsCallOf, IsEdit, IsNoEdit, IsOutOfMemory}
 
-module _ (files : FileTable) (roles : RoleNames) where
+module _ (files : FileTable) (roles : RolesRead) where
   -- the calls so far and the one of this request, if there is one, are a history of the session behind it
   abbrev GoesOn : List Call → Request → List ℕ → SessionRead → Type 0
   GoesOn calls request text t = (call : List Call) × IsCallOf request text call × History files roles (calls ++ call) t

@@ -14,7 +14,7 @@ use Rattle.tangle_files.specs.declared.refusal.Refusal.{Refusal}
 use Rattle.tangle_files.specs.declared.refusal.Refusal.TheVariants.{NoMemory as NoRoom}
 use Rattle.tangle_files.specs.Lines.{FileTable, cut, lines_of}
 use Rattle.tangle_files.specs.Adding.{add_refusal, with_file, has_file, is_name}
-use Rattle.tangle_files.specs.Roles.{RoleNames, is_there, is_there_if_any, fits}
+use Rattle.tangle_files.specs.Roles.{RolesRead, is_there, is_there_if_any, fits}
 use Rattle.tangle_streams.specs.Streams.{Failed}
 use Rattle.tangle_folders.specs.Folder.{File, Reads, bytes_of, file_limit, with_asked}
 use Rattle.ctangle_cli.specs.Loading.{AreAbsent, missing_of, Ending, Grows, IsEnding, Loaded, LoadsTo, StopsFor, TellsLastAsked, add_bytes, add_present, after_round, and_then, refused_as, rounds_from, rounds_in, bad_name, load_of, load_unless, unless_refused, with_inclusion, with_inclusions, with_round, with_wanted}
@@ -177,12 +177,12 @@ after_same files (Ok next) f g h = by (length next == length files) refl
     by false e = h next refl (eqb-false (length next) (length files) e)
 
 -- a round that adds no file is the last
-pub last_round : (all : List File) (names : RoleNames) (files next : FileTable) → with_round all names files ≡ Ok next → length next ≡ length files → rounds_from all names files ≡ Ok next
+pub last_round : (all : List File) (names : RolesRead) (files next : FileTable) → with_round all names files ≡ Ok next → length next ≡ length files → rounds_from all names files ≡ Ok next
 unfolding rounds_in
 last_round all names files next e same =
     ap (λ l. after_round files l (λ t. rounds_in all names (256 - length files) t)) e ∙ ap (λ b. cond b (Ok next) (rounds_in all names (256 - length files) next)) (eq-eqb (length next) (length files) same)
 
-pub stopped_round : (all : List File) (names : RoleNames) (files : FileTable) (ending : Ending) → with_round all names files ≡ Err ending → rounds_from all names files ≡ Err ending
+pub stopped_round : (all : List File) (names : RolesRead) (files : FileTable) (ending : Ending) → with_round all names files ≡ Err ending → rounds_from all names files ≡ Err ending
 unfolding rounds_in
 stopped_round all names files ending e = ap (λ l. after_round files l (λ t. rounds_in all names (256 - length files) t)) e
 
@@ -194,7 +194,7 @@ longer files next g more = by g.more g.is g.within
     by (x ∷ xs) is within = (omega (arith, ap length is, length-append files (x ∷ xs)), within (omega arith))
 
 -- more rounds than files give the same
-rounds_enough : (all : List File) (names : RoleNames) (n m : ℕ) (files : FileTable) → 256 - length files < n → 256 - length files < m → rounds_in all names n files ≡ rounds_in all names m files
+rounds_enough : (all : List File) (names : RolesRead) (n m : ℕ) (files : FileTable) → 256 - length files < n → 256 - length files < m → rounds_in all names n files ≡ rounds_in all names m files
 unfolding rounds_in
 rounds_enough all names zero m files p q = absurd (omega arith)
 rounds_enough all names (suc n) zero files p q = absurd (omega arith)
@@ -207,7 +207,7 @@ rounds_enough all names (suc n) (suc m) files p q =
     rounds_enough all names n m next (omega arith) (omega arith))
 
 -- a round that adds files is followed by the rest
-pub next_round : (all : List File) (names : RoleNames) (files next : FileTable) → with_round all names files ≡ Ok next → (length next ≡ length files → ⊥) → rounds_from all names next ≡ rounds_from all names files
+pub next_round : (all : List File) (names : RolesRead) (files next : FileTable) → with_round all names files ≡ Ok next → (length next ≡ length files → ⊥) → rounds_from all names next ≡ rounds_from all names files
 unfolding rounds_in
 next_round all names files next e more =
     let g = longer files next (grows_all all (missing_of files names) files next e) more in
@@ -217,7 +217,7 @@ next_round all names files next e more =
     ∙ sym (ap (λ l. after_round files l (λ t. rounds_in all names (256 - length files) t)) e ∙ ap (λ b. cond b (Ok next) (rounds_in all names (256 - length files) next)) (ne_eqb (length next) (length files) more))
 
 -- rounds stop where one does
-pub rounds_stop : (told told' : Option (List File)) (names : RoleNames) (start cur : FileTable) (ns : List (List ℕ)) (f f0 f' : ℕ) (e : Ending)
+pub rounds_stop : (told told' : Option (List File)) (names : RolesRead) (start cur : FileTable) (ns : List (List ℕ)) (f f0 f' : ℕ) (e : Ending)
     → told ≡ told' → ns ≡ missing_of cur names → IfSome told' (λ all. rounds_from all names cur ≡ rounds_from all names start) → f ≡ f0
     → StopsFor told (λ all. with_inclusions all ns cur) f f' e → StopsFor told' (λ all. rounds_from all names start) f0 f' e
 rounds_stop told told' names start cur ns f f0 f' e stay is inv same stops =
@@ -229,7 +229,7 @@ rounds_stop told told' names start cur ns f f0 f' e stay is inv same stops =
     by (Some all) h = λ e stop. sym h ∙ stopped_round all names cur e (subst (λ l. with_inclusions all l cur ≡ Err e) is stop)
 
 -- and end where one adds nothing
-pub rounds_last : (told told' : Option (List File)) (names : RoleNames) (start cur next : FileTable) (ns : List (List ℕ)) (f f0 f' : ℕ)
+pub rounds_last : (told told' : Option (List File)) (names : RolesRead) (start cur next : FileTable) (ns : List (List ℕ)) (f f0 f' : ℕ)
     → told ≡ told' → ns ≡ missing_of cur names → IfSome told' (λ all. rounds_from all names cur ≡ rounds_from all names start) → f ≡ f0
     → LoadsTo told (λ all. with_inclusions all ns cur) f f' next → length next ≡ length cur → LoadsTo told' (λ all. rounds_from all names start) f0 f' next
 rounds_last told told' names start cur next ns f f0 f' stay is inv same loads equal =
@@ -240,7 +240,7 @@ rounds_last told told' names start cur next ns f f0 f' stay is inv same loads eq
     by None h k = tt
     by (Some all) h k = sym h ∙ last_round all names cur next (subst (λ l. with_inclusions all l cur ≡ Ok next) is k) equal
 
-pub rounds_on : (told told' : Option (List File)) (names : RoleNames) (start cur next : FileTable) (ns : List (List ℕ)) (f f' : ℕ)
+pub rounds_on : (told told' : Option (List File)) (names : RolesRead) (start cur next : FileTable) (ns : List (List ℕ)) (f f' : ℕ)
     → told ≡ told' → ns ≡ missing_of cur names → IfSome told' (λ all. rounds_from all names cur ≡ rounds_from all names start)
     → LoadsTo told (λ all. with_inclusions all ns cur) f f' next → (length next ≡ length cur → ⊥)
     → IfSome told' (λ all. rounds_from all names next ≡ rounds_from all names start)
@@ -356,12 +356,12 @@ each true true p = (refl, refl)
 each true false p = absurd (cc)
 each false b p = absurd (cc)
 
-pub grows_fits : (old new : FileTable) (names : RoleNames) → Grows old new → fits old names ≡ true → fits new names ≡ true
+pub grows_fits : (old new : FileTable) (names : RolesRead) → Grows old new → fits old names ≡ true → fits new names ≡ true
 grows_fits old new names g h =
     let parts = each (is_there old names.web) (is_there_if_any old names.change) h in
     both (is_there new names.web) (is_there_if_any new names.change) (grows_there old new names.web g parts.0) (grows_there_if_any old new names.change g parts.1)
 
-pub fits_both : (files : FileTable) (names : RoleNames) → is_there files names.web ≡ true → is_there_if_any files names.change ≡ true → fits files names ≡ true
+pub fits_both : (files : FileTable) (names : RolesRead) → is_there files names.web ≡ true → is_there_if_any files names.change ≡ true → fits files names ≡ true
 fits_both files names p q = both (is_there files names.web) (is_there_if_any files names.change) p q
 
 -- the name that is told was asked for last
@@ -386,7 +386,7 @@ refused_last asked name refusal given which = elim which [
 ]
 
 -- the names are file names
-pub loads_named : (told : Option (List File)) (roles names : RoleNames) (files : FileTable) → bad_name names ≡ None → roles ≡ names
+pub loads_named : (told : Option (List File)) (roles names : RolesRead) (files : FileTable) → bad_name names ≡ None → roles ≡ names
     → IfSome told (λ all. load_unless all roles None ≡ Ok files) → IfSome told (λ all. load_of all names ≡ Ok files)
 loads_named None roles names files fine same loads = tt
 loads_named (Some all) roles names files fine same loads = ap (load_unless all names) fine ∙ ap (λ r. load_unless all r None) (sym same) ∙ loads

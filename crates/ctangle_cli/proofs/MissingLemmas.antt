@@ -6,7 +6,7 @@ use Rattle.std.proofs.lemmas.Bool.{eqb-true, eqb-false}
 use Rattle.tangle_files.specs.declared.refusal.Refusal.{Refusal}
 use Rattle.tangle_files.specs.Lines.{FileTable, cut}
 use Rattle.tangle_files.specs.Adding.{add_refusal, with_file, has_file, is_name}
-use Rattle.tangle_files.specs.Roles.{RoleNames}
+use Rattle.tangle_files.specs.Roles.{RolesRead}
 use Rattle.tangle_folders.specs.Folder.{File, bytes_of, file_limit}
 use Rattle.ctangle_cli.specs.Loading.{Grows, Loaded, add_bytes, add_present, after_round, and_then, bad_name, load_of, load_unless, missing_of, rounds_from, rounds_in, unless_refused, with_change, with_inclusion, with_inclusions, with_round, with_wanted}
 use Rattle.ctangle_cli.specs.Loading.Ending.{Unreadable}
@@ -72,7 +72,7 @@ each_looked_for all (n ∷ ns) files next e same name absent c =
     each_looked_for-step all files next n ns name (with_inclusion all files n) refl e same (λ f d. each_looked_for all ns files next f same name absent d) absent c
 
 -- the rounds end with one that adds nothing
-ended-step : (all : List File) (names : RoleNames) (n : ℕ) (start files : FileTable) (l : Loaded) → with_round all names start ≡ l → 256 - length start < suc n
+ended-step : (all : List File) (names : RolesRead) (n : ℕ) (start files : FileTable) (l : Loaded) → with_round all names start ≡ l → 256 - length start < suc n
     → ((mid : FileTable) → 256 - length mid < n → rounds_in all names n mid ≡ Ok files → with_round all names files ≡ Ok files)
     → after_round start l (λ next. rounds_in all names n next) ≡ Ok files → with_round all names files ≡ Ok files
 ended-step all names n start files (Err ending) is fuel rest e = absurd (cc)
@@ -87,7 +87,7 @@ ended-step all names n start files (Ok next) is fuel rest e = by (length next ==
         let g = longer start next (grows_all all (missing_of start names) start next is) (eqb-false (length next) (length start) more) in
         rest next (omega (arith, fuel, g.0, g.1)) e
 
-ended : (all : List File) (names : RoleNames) (n : ℕ) (start files : FileTable) → 256 - length start < n → rounds_in all names n start ≡ Ok files → with_round all names files ≡ Ok files
+ended : (all : List File) (names : RolesRead) (n : ℕ) (start files : FileTable) → 256 - length start < n → rounds_in all names n start ≡ Ok files → with_round all names files ≡ Ok files
 unfolding rounds_in
 ended all names zero start files fuel e = absurd (omega (arith, fuel))
 ended all names (suc n) start files fuel e =
@@ -97,13 +97,13 @@ after : (l : Loaded) (rest : FileTable → Loaded) (files : FileTable) → and_t
 after (Ok mid) rest files e = (mid, e)
 after (Err ending) rest files e = absurd (cc)
 
-loaded_ended : (all : List File) (names : RoleNames) (files : FileTable) (o : Option (List ℕ)) → load_unless all names o ≡ Ok files → with_round all names files ≡ Ok files
+loaded_ended : (all : List File) (names : RolesRead) (files : FileTable) (o : Option (List ℕ)) → load_unless all names o ≡ Ok files → with_round all names files ≡ Ok files
 loaded_ended all names files (Some name) e = absurd (cc)
 loaded_ended all names files None e =
     let first = after (with_wanted all [] names.web) (λ files. and_then (with_change all files names.change) (λ more. rounds_from all names more)) files e in
     let second = after (with_change all first.0 names.change) (λ more. rounds_from all names more) files first.1 in
     ended all names (suc (256 - length second.0)) second.0 files (omega arith) second.1
 
-pub missing_law : (all : List File) (names : RoleNames) (files : FileTable) → load_of all names ≡ Ok files → (name : List ℕ) → Contains (missing_of files names) name
+pub missing_law : (all : List File) (names : RolesRead) (files : FileTable) → load_of all names ≡ Ok files → (name : List ℕ) → Contains (missing_of files names) name
     → has_file files name ≡ false → (is_name name ≡ false) ⊎ (bytes_of all name ≡ None)
 missing_law all names files e name c absent = each_looked_for all (missing_of files names) files files (loaded_ended all names files (bad_name names) e) refl name absent c

@@ -8,7 +8,7 @@ use Rattle.std.proofs.lemmas.Bool.{ne_eqb, eqb-false}
 use Rattle.std.proofs.lemmas.Slice.Eq.{bytes_eq-Decides}
 use Rattle.std.proofs.lemmas.Map.Keys.{IsDistinct-cons, IsDistinct-head, IsDistinct-tail, apart_from_distinct}
 use Rattle.tangle_files.specs.Lines.{FileTable}
-use Rattle.tangle_files.specs.Roles.{RoleNames}
+use Rattle.tangle_files.specs.Roles.{RolesRead}
 use Rattle.tangle_scan.specs.Web.{WebRead}
 use Rattle.tangle_names.specs.declared.Resolved.{Resolved}
 use Rattle.tangle_names.specs.declared.Resolved.TheVariants.{Name, NoFullName, Ambiguous}
@@ -153,5 +153,5 @@ distinct_outputs web table out inside distinct = by (not (has_pieces (project we
     by false = named
 
 pub names_differ : ((web : WebRead) → ResolvesInside (table_of web)) → ((web : WebRead) → IsDistinct bytes_eq (table_of web).names)
-    → (files : FileTable) (roles : RoleNames) → IsDistinct bytes_eq (map (λ output. output.0) (outputs_of files roles))
+    → (files : FileTable) (roles : RolesRead) → IsDistinct bytes_eq (map (λ output. output.0) (outputs_of files roles))
 names_differ inside distinct files roles = distinct_outputs (web_at files roles) (table_of (web_at files roles)) roles.out (inside (web_at files roles)) (distinct (web_at files roles))

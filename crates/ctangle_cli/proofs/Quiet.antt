@@ -4,7 +4,7 @@ use Rattle.std.specs.Prelude.{codes}
 use Rattle.std.specs.Io.KnownBytes.{Appends}
 use Rattle.tangle_streams.specs.Streams.{Stream, Failed}
 use Rattle.tangle_lines.specs.Faults.{Finding, is_error}
-use Rattle.tangle_files.specs.Roles.{RoleNames}
+use Rattle.tangle_files.specs.Roles.{RolesRead}
 use Rattle.tangle_folders.specs.declared.folder.FolderFault.{FolderFault}
 use Rattle.tangle_folders.specs.declared.folder.FolderFault.TheVariants.{Missing, TooBig, Failed as IsFailed, NoMemory as NoRoom}
 use Rattle.ctangle_cli.specs.Loading.{Ending}
@@ -61,7 +61,7 @@ tangled_quiet t (IsUnheard told created status) = no_failure told.3
 tangled_quiet t (IsUnwritten stop status) =
     unheard stop.between.stream (fault_lines t.faults) (unwritten_line stop.fault stop.name) (stop_some stop.fault stop.name) stop.faults_told stop.output_told
 
-named_quiet : (names : RoleNames) → NamedEnds names quiet quiet 3 → ⊥
+named_quiet : (names : RolesRead) → NamedEnds names quiet quiet 3 → ⊥
 named_quiet names (IsUnloaded ending why told created status) = silent (ending_line (codes "ctangle") ending) (ending_some ending) told
 named_quiet names (IsUntangled files loaded told created status) = silent no_memory_line (ending_some Memory) told
 named_quiet names (IsTangled files loaded ends) = tangled_quiet ends.tangling ends.ends

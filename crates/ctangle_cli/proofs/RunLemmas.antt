@@ -9,7 +9,7 @@ use Rattle.std.proofs.lemmas.List.{take-append-drop}
 use Rattle.tangle_lines.specs.Faults.{Finding}
 use Rattle.tangle_lines.specs.FaultText.{fault_line}
 use Rattle.tangle_files.specs.Lines.{FileTable}
-use Rattle.tangle_files.specs.Roles.{RoleNames}
+use Rattle.tangle_files.specs.Roles.{RolesRead}
 use Rattle.tangle_folders.specs.Folder.{File}
 use Rattle.tangle_folders.specs.declared.folder.FolderFault.{FolderFault}
 use Rattle.tangle_folders.specs.declared.folder.FolderFault.TheVariants.{NoMemory}
@@ -100,10 +100,10 @@ tangled_stops t old new mid name fault r stops why calm told put = IsUnwritten (
 }) refl
 
 -- the tangling of which these are the faults
-abbrev pub tangling_with : FileTable → RoleNames → List Finding → Tangling
+abbrev pub tangling_with : FileTable → RolesRead → List Finding → Tangling
 tangling_with files names faults = record { faults = faults; outputs = outputs_of files names }
 
-pub ends_with_faults : (files : FileTable) (names : RoleNames) (faults : List Finding) (old new : Moment) (status : ℕ) → AreFaultsOf files names faults
+pub ends_with_faults : (files : FileTable) (names : RolesRead) (faults : List Finding) (old new : Moment) (status : ℕ) → AreFaultsOf files names faults
     → TangledEnds (tangling_with files names faults) old new status → SessionEnds files names old new status
 ends_with_faults files names faults old new status are ends = record {
   tangling = tangling_with files names faults;
@@ -114,7 +114,7 @@ ends_with_faults files names faults old new status are ends = record {
 abbrev at_moment : Option (List File) → Option (List File) → ℕ → Stream → Moment
 at_moment files created refusals stream = record { files = files; created = created; folder_failures = refusals; stream = stream }
 
-pub named_tangled : (names : RoleNames) (files : FileTable) (all all' made made' : Option (List File)) (n n' : ℕ) (stream : Stream) (new : Moment) (status : ℕ)
+pub named_tangled : (names : RolesRead) (files : FileTable) (all all' made made' : Option (List File)) (n n' : ℕ) (stream : Stream) (new : Moment) (status : ℕ)
     → LoadsTo all (λ xs. load_of xs names) n n' files → all' ≡ all → made' ≡ made
     → SessionEnds files names (record { files = all'; created = made'; folder_failures = n'; stream = stream }) new status
     → NamedEnds names (record { files = all; created = made; folder_failures = n; stream = stream }) new status

@@ -19,7 +19,7 @@ use Rattle.tangle_files.specs.Lines.{FileTable, file_number, lines_at, name_at, 
 use Rattle.tangle_files.specs.Adding.{has_file}
 use Rattle.tangle_lines.specs.Reading.{Reads, State, WaitingLine, after, begins, change_here, change_lines, change_number, change_spot, change_step, changes_in, depth_limit, included, line_limit, line_step, mismatch_faults, named, plain_step, reads, reads_from, reads_in, unequal_lines, unused_faults, waiting_lines}
 use Rattle.tangle_lines.specs.Reading.Step.{Ends, Goes}
-use Rattle.tangle_files.specs.Roles.{RoleNames}
+use Rattle.tangle_files.specs.Roles.{RolesRead}
 use Rattle.ctangle_cli.specs.Loading.{IsSettled, is_missing_kind, misses_file, misses_name, missed_in, missing_of}
 use Rattle.ctangle_cli.proofs.LoadLemmas.{there_as_has}
 
@@ -195,7 +195,7 @@ module _ (files : FileTable) (settled : IsSettled files) where
         by true rest = rest
         by false rest = refl
 
-pub settled_misses : (files : FileTable) (names : RoleNames) → IsSettled files → missing_of files names ≡ []
+pub settled_misses : (files : FileTable) (names : RolesRead) → IsSettled files → missing_of files names ≡ []
 unfolding missing_of
 settled_misses files names settled =
     let web = number_of files names.web in

@@ -10,7 +10,7 @@ use Rattle.tangle_files.specs.Lines.{FileTable, cut}
 use Rattle.tangle_lines.specs.Faults.{Finding, Spot, fault_at, fault_about, fault_counting, fault_unplaced}
 use Rattle.tangle_lines.specs.Reading.{reads_in}
 use Rattle.tangle_lexer.specs.Steps.{tokens_from, lexeme, names_from}
-use Rattle.tangle_files.specs.Roles.{RoleNames}
+use Rattle.tangle_files.specs.Roles.{RolesRead}
 use Rattle.tangle_names.specs.NameTable.{table_of}
 use Rattle.tangle_expansion.specs.Limits.{levels, heaviest}
 use Rattle.tangle_graph.specs.Faults.{graph_faults}
@@ -18,7 +18,7 @@ use Rattle.tangle_session.specs.Files.{source_at, web_at}
 use Rattle.tangle_session.specs.Tangle.{Tangling, outputs_of}
 
 -- what tangling gives where no node contains itself or reaches a name that does
-abbrev tangle_of : FileTable → RoleNames → Tangling
+abbrev tangle_of : FileTable → RolesRead → Tangling
 tangle_of files roles = record {
   faults = (source_at files roles).faults ++ ((web_at files roles).faults ++ ((table_of (web_at files roles)).faults
       ++ graph_faults (web_at files roles) (table_of (web_at files roles)) roles.out (λ n. false) (λ n. false)));

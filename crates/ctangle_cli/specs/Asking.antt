@@ -4,7 +4,7 @@ use Rattle.std.specs.List.{IsDistinct}
 use Rattle.std.specs.Str.{bytes_eq}
 use Rattle.tangle_files.specs.Adding.{has_file, is_name}
 use Rattle.tangle_files.specs.Lines.{FileTable}
-use Rattle.tangle_files.specs.Roles.{RoleNames}
+use Rattle.tangle_files.specs.Roles.{RolesRead}
 use Rattle.ctangle_cli.specs.Loading.{missing_of}
 
 -- behind the names asked for before stand others, no two of them the same
@@ -18,13 +18,13 @@ abbrev pub AsksOnce : Option (List (List ℕ)) → Option (List (List ℕ)) → 
 AsksOnce before now = IfSome before (λ names. AsksSince names now)
 
 -- the web, the change file, or a name that the reading of the first so many files misses
-abbrev pub IsWanted : FileTable → RoleNames → List ℕ → Type 0
+abbrev pub IsWanted : FileTable → RolesRead → List ℕ → Type 0
 IsWanted files roles name =
     (name ≡ roles.web) ⊎ ((roles.change ≡ Some name) ⊎ ((n : ℕ) × (n ≤ length files) × Contains (missing_of (take n files) roles) name))
 
 -- Each name asked for since, until the files were loaded: it was asked for once, and was wanted. Among them are the names of
 -- all files, and each file name that their reading still misses.
-pub record AsksFor (names : List (List ℕ)) (now : Option (List (List ℕ))) (files : FileTable) (roles : RoleNames) : Type 0 where
+pub record AsksFor (names : List (List ℕ)) (now : Option (List (List ℕ))) (files : FileTable) (roles : RolesRead) : Type 0 where
   pub asked : List (List ℕ)
   pub behind : now ≡ Some (names ++ asked)
   pub once : IsDistinct bytes_eq asked
@@ -32,5 +32,5 @@ pub record AsksFor (names : List (List ℕ)) (now : Option (List (List ℕ))) (f
   pub loaded : (name : List ℕ) → has_file files name ≡ true → Contains asked name
   pub missing : (name : List ℕ) → Contains (missing_of files roles) name → is_name name ≡ true → Contains asked name
 
-abbrev pub AsksForAll : Option (List (List ℕ)) → Option (List (List ℕ)) → FileTable → RoleNames → Type 0
+abbrev pub AsksForAll : Option (List (List ℕ)) → Option (List (List ℕ)) → FileTable → RolesRead → Type 0
 AsksForAll before now files roles = IfSome before (λ names. AsksFor names now files roles)

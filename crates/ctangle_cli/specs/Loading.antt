@@ -10,7 +10,7 @@ use Rattle.tangle_files.specs.Lines.{FileTable, lines_at}
 use Rattle.tangle_lines.specs.Inclusion.{included_name}
 use Rattle.tangle_files.specs.Adding.{add_refusal, with_file, has_file, is_name}
 use Rattle.tangle_lines.specs.Reading.{source_of}
-use Rattle.tangle_files.specs.Roles.{RoleNames}
+use Rattle.tangle_files.specs.Roles.{RolesRead}
 use Rattle.tangle_streams.specs.Streams.{Failed}
 use Rattle.tangle_folders.specs.Folder.{File, bytes_of, file_limit}
 use Rattle.ctangle_cli.specs.declared.loading.LoadFault.{LoadFault}
@@ -57,7 +57,7 @@ is_missing_kind _ = false
 abbrev pub missed_in : List Finding → List (List ℕ)
 missed_in faults = map (λ f. f.subject) (filter (λ f. is_missing_kind f.kind) faults)
 
-unfoldable pub missing_of : FileTable → RoleNames → List (List ℕ)
+unfoldable pub missing_of : FileTable → RolesRead → List (List ℕ)
 missing_of files names = missed_in (source_of files names).faults
 
 -- a line that includes a file that isn't in the table
@@ -97,7 +97,7 @@ module _ (all : List File) where
   with_inclusions [] files = Ok files
   with_inclusions (name ∷ names) files = and_then (with_inclusion files name) (λ next. with_inclusions names next)
 
-  module _ (names : RoleNames) where
+  module _ (names : RolesRead) where
     -- the sources are read, and the files that they miss are added
     abbrev pub with_round : FileTable → Loaded
     with_round files = with_inclusions (missing_of files names) files
@@ -116,18 +116,18 @@ bad_change None rest = rest
 bad_change (Some name) rest = if is_name name then rest else Some name
 
 -- the first of the web, the change file and the main file whose name is no file name
-abbrev pub bad_name : RoleNames → Option (List ℕ)
+abbrev pub bad_name : RolesRead → Option (List ℕ)
 bad_name names =
     if not (is_name names.web) then Some names.web else bad_change names.change (if is_name names.out then None else Some names.out)
 
-abbrev pub load_unless : List File → RoleNames → Option (List ℕ) → Loaded
+abbrev pub load_unless : List File → RolesRead → Option (List ℕ) → Loaded
 load_unless all names (Some name) = Err (Refuses name BadName)
 load_unless all names None =
     and_then (with_wanted all [] names.web) (λ files. and_then (with_change all files names.change) (λ more. rounds_from all names more))
 
 -- What loading by these names gives, of a folder with these files: the web, then the change file, and then in
 -- rounds the files that inclusions miss.
-abbrev pub load_of : List File → RoleNames → Loaded
+abbrev pub load_of : List File → RolesRead → Loaded
 load_of all names = load_unless all names (bad_name names)
 
 -- the table has these files, and perhaps others behind them, up to its limit

@@ -2,7 +2,7 @@
 use Rattle.std.specs.Prelude.{◌≡◌, true, List, Option, Some, codes, option_map}
 use Rattle.clap.specs.Words.{App, Row, Rule, Text, first_of, matches_of, new_app, new_rule, with_rule}
 use Rattle.clap.specs.declared.builder.action.ArgAction.TheVariants.{Set}
-use Rattle.tangle_files.specs.Roles.{RoleNames}
+use Rattle.tangle_files.specs.Roles.{RolesRead}
 use Rattle.ctangle_cli.specs.Words.{completed_names}
 use Rattle.ctangle_cli.specs.declared.retangle_words.Values.{Values}
 
@@ -23,12 +23,12 @@ abbrev pub retangle_app : App
 retangle_app = with_rule (with_rule (with_rule empty_app web_rule) (file_rule (codes "change"))) (file_rule (codes "out"))
 
 -- the names that the values of WEB, --change and --out complete to; there are none without a value of WEB
-abbrev pub completed_values : List Row → Option RoleNames
+abbrev pub completed_values : List Row → Option RolesRead
 completed_values rows =
     option_map (λ web. completed_names web (first_of (codes "change") rows) (first_of (codes "out") rows)) (first_of (codes "WEB") rows)
 
 -- the names that the words give, by clap's matches of this command
-unfoldable pub retangle_names_of : List Text → Option RoleNames
+unfoldable pub retangle_names_of : List Text → Option RolesRead
 retangle_names_of words = completed_values (matches_of retangle_app words)
 
 -- the matches give these values to WEB, --change and --out

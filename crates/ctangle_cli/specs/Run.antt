@@ -2,7 +2,7 @@
 use Rattle.std.specs.Prelude.{◌≡◌, ◌≢◌, ◌⊎◌, ℕ, List, [], ◌∷◌, ◌++◌, codes, Option, None, Some, IfSome, Ok}
 use Rattle.tangle_streams.specs.Streams.{Stream, Failed}
 use Rattle.tangle_files.specs.Lines.{FileTable}
-use Rattle.tangle_files.specs.Roles.{RoleNames}
+use Rattle.tangle_files.specs.Roles.{RolesRead}
 use Rattle.tangle_session.specs.Tangle.{Tangling, IsTanglingOf}
 use Rattle.tangle_folders.specs.declared.folder.FolderFault.{FolderFault}
 use Rattle.tangle_folders.specs.declared.folder.FolderFault.TheVariants.{NoMemory}
@@ -72,13 +72,13 @@ pub data TangledEnds (tangling : Tangling) (old new : Moment) (status : ℕ) : T
   IsUnwritten : IsStopped tangling old new → status ≡ 3 → TangledEnds tangling old new status
 
 -- how a run ends that has started a session of these files
-pub record SessionEnds (files : FileTable) (names : RoleNames) (old new : Moment) (status : ℕ) : Type 0 where
+pub record SessionEnds (files : FileTable) (names : RolesRead) (old new : Moment) (status : ℕ) : Type 0 where
   pub tangling : Tangling
   pub is : IsTanglingOf files names tangling
   pub ends : TangledEnds tangling old new status
 
 -- how a run ends whose words give these names
-pub data NamedEnds (names : RoleNames) (old new : Moment) (status : ℕ) : Type 0 where
+pub data NamedEnds (names : RolesRead) (old new : Moment) (status : ℕ) : Type 0 where
   -- 3: a file can't be read, or is refused, or memory is wanting
   IsUnloaded : (ending : Ending) → StopsFor old.files (λ all. load_of all names) old.folder_failures new.folder_failures ending
       → TriesToWrite old new (ending_line (codes "ctangle") ending) → CreatesNothing old new → status ≡ 3 → NamedEnds names old new status
@@ -98,7 +98,7 @@ pub data RunEnds (words : List (List ℕ)) (old new : Moment) (status : ℕ) : T
   -- 3: memory is wanting to read the words
   IsUnnamed : TriesToWrite old new no_memory_line → CreatesNothing old new → status ≡ 3 → RunEnds words old new status
   -- the words give names
-  IsNamed : (names : RoleNames) → names_of words ≡ Some names → NamedEnds names old new status → RunEnds words old new status
+  IsNamed : (names : RolesRead) → names_of words ≡ Some names → NamedEnds names old new status → RunEnds words old new status
 
 -- nothing was read, created or written, and nothing failed
 abbrev pub quiet : Moment

@@ -4,7 +4,7 @@ use Rattle.std.specs.List.{IsDistinct, list_any}
 use Rattle.std.specs.Str.{bytes_eq}
 use Rattle.tangle_files.specs.Adding.{has_file, is_name}
 use Rattle.tangle_files.specs.Lines.{FileTable}
-use Rattle.tangle_files.specs.Roles.{RoleNames}
+use Rattle.tangle_files.specs.Roles.{RolesRead}
 use Rattle.ctangle_cli.specs.Asking.{AsksOnce, IsWanted}
 
 -- the change file, if there is one
@@ -56,5 +56,5 @@ pub record TriesAll (old new : Tries) (names : List (List ℕ)) : Type 0 where
   pub all : All (IsTriedIn new) names
 
 -- what was asked for since, each once, was wanted, and is what was tried
-abbrev pub RoundsOnce : Option (List (List ℕ)) → Tries → RoleNames → Type 0
+abbrev pub RoundsOnce : Option (List (List ℕ)) → Tries → RolesRead → Type 0
 RoundsOnce before now roles = (wanted : List (List ℕ)) × All (IsWanted now.files roles) wanted × TriesOnce before now wanted

@@ -2,7 +2,7 @@
 use Rattle.std.specs.Prelude.{ℕ, Bool, false, ◌==◌, ◌||◌, ◌&&◌, not, nat_lt, length, filter, List, [], ◌∷◌, ◌++◌, codes, Option, None, Some, if◌then◌else◌}
 use Rattle.std.specs.List.{list_any, after_last, before_last}
 use Rattle.std.specs.Str.{bytes_eq}
-use Rattle.tangle_files.specs.Roles.{RoleNames}
+use Rattle.tangle_files.specs.Roles.{RolesRead}
 
 -- a word of two bytes or more that begins with a hyphen (45) or a plus sign (43)
 abbrev pub is_flag : List ℕ → Bool
@@ -44,11 +44,11 @@ abbrev pub out_of : List ℕ → Option (List ℕ) → List ℕ
 out_of web None = main_name web
 out_of web (Some word) = out_name word
 
-abbrev pub completed_names : List ℕ → Option (List ℕ) → Option (List ℕ) → RoleNames
+abbrev pub completed_names : List ℕ → Option (List ℕ) → Option (List ℕ) → RolesRead
 completed_names web change out = record { web = web_name web; change = change_of change; out = out_of (web_name web) out }
 
 -- the names given are a web, perhaps a change file, and then perhaps the main file
-abbrev pub named_by : List (List ℕ) → Option RoleNames
+abbrev pub named_by : List (List ℕ) → Option RolesRead
 named_by [] = None
 named_by (web ∷ []) = Some (completed_names web None None)
 named_by (web ∷ (change ∷ [])) = Some (completed_names web (Some change) None)
@@ -56,5 +56,5 @@ named_by (web ∷ (change ∷ (out ∷ []))) = Some (completed_names web (Some c
 named_by (web ∷ (change ∷ (out ∷ (more ∷ words)))) = None
 
 -- the names that the words give, or none where no word is a name or more than three are
-unfoldable pub names_of : List (List ℕ) → Option RoleNames
+unfoldable pub names_of : List (List ℕ) → Option RolesRead
 names_of words = named_by (filter (λ word. not (is_flag word)) words)

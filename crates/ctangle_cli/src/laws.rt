@@ -3,7 +3,7 @@ ghost use Rattle.std.specs.Prelude.{◌≡◌, ◌≢◌, ◌⊎◌, ◌++◌, �
 ghost use Rattle.tangle_folders.specs.Folder.{File, bytes_of};
 ghost use Rattle.tangle_files.specs.Adding.{has_file, is_name};
 ghost use Rattle.tangle_files.specs.Lines.{FileTable};
-ghost use Rattle.tangle_files.specs.Roles.{RoleNames};
+ghost use Rattle.tangle_files.specs.Roles.{RolesRead};
 ghost use Rattle.std.specs.List.{IsDistinct};
 ghost use Rattle.std.specs.Str.{bytes_eq};
 ghost use Rattle.tangle_script.specs.Requests.{Command};
@@ -21,25 +21,25 @@ use tangle_names::names_are_the_full_names;
 /// Loading goes round by round: a round that adds a file is followed by the rounds from there, one that adds none is the
 /// last, and where one ends loading, it ends so. So the bound on the rounds is no part of what loading gives.
 pub fn loading_goes_round_by_round()
-    ensures further { (all : List File) (names : RoleNames) (files next : FileTable) → with_round all names files ≡ Ok next
+    ensures further { (all : List File) (names : RolesRead) (files next : FileTable) → with_round all names files ≡ Ok next
         → length next ≢ length files → rounds_from all names files ≡ rounds_from all names next }
-    ensures last { (all : List File) (names : RoleNames) (files next : FileTable) → with_round all names files ≡ Ok next
+    ensures last { (all : List File) (names : RolesRead) (files next : FileTable) → with_round all names files ≡ Ok next
         → length next ≡ length files → rounds_from all names files ≡ Ok next }
-    ensures stopped { (all : List File) (names : RoleNames) (files : FileTable) (ending : Ending)
+    ensures stopped { (all : List File) (names : RolesRead) (files : FileTable) (ending : Ending)
         → with_round all names files ≡ Err ending → rounds_from all names files ≡ Err ending }
 {}
 
 /// Where the files are loaded, a name that their reading misses, and that is not the name of one of them, is no file
 /// name, or the folder has no such file.
 pub fn missing_names_are_not_there()
-    ensures { (all : List File) (names : RoleNames) (files : FileTable) → load_of all names ≡ Ok files
+    ensures { (all : List File) (names : RolesRead) (files : FileTable) → load_of all names ≡ Ok files
         → (name : List ℕ) → Contains (missing_of files names) name → has_file files name ≡ false
         → (is_name name ≡ false) ⊎ (bytes_of all name ≡ None) }
 {}
 
 /// No two outputs of files have one name, so none is written over another in a run.
 pub fn output_names_differ()
-    ensures { (files : FileTable) (roles : RoleNames) → IsDistinct bytes_eq (map (λ output. output.0) (outputs_of files roles)) }
+    ensures { (files : FileTable) (roles : RolesRead) → IsDistinct bytes_eq (map (λ output. output.0) (outputs_of files roles)) }
 {
     names_resolve_inside();
     names_are_the_full_names();
@@ -49,7 +49,7 @@ pub fn output_names_differ()
 /// each edit is one call more, with the answer that was written, unless there was no memory for its
 /// texts; nothing else changes the session. So the headline holds at each line of a script.
 pub fn the_answers_of_a_script_are_a_history()
-    ensures { (files : FileTable) (roles : RoleNames) (calls : List Call) (old new : SessionRead)
+    ensures { (files : FileTable) (roles : RolesRead) (calls : List Call) (old new : SessionRead)
         (commands : List Command) (text : List ℕ)
         → History files roles calls old → Dialogue answers old commands text new
         → (more : List Call) × AreCallsOf commands text more × History files roles (calls ++ more) new }

@@ -1,5 +1,5 @@
 -- Each byte of a text stands at its own place, over a whole output.
-use Rattle.std.proofs.Common.{◌≡◌, ◌∙◌, ℕ, ◌+◌, zero, suc, Bool, true, false, List, [], ◌∷◌, ◌++◌, map, drop, get_or, Option, None, Some, ap, subst, arith}
+use Rattle.std.proofs.Common.{◌≡◌, ◌∙◌, ℕ, ◌+◌, zero, suc, Bool, true, false, List, [], ◌∷◌, ◌++◌, map, drop, get_or, Option, None, Some, refl, ap, subst, arith}
 use Rattle.std.specs.Prelude.{filter, flat_map, if◌then◌else◌, slice_index_or}
 use Rattle.std.specs.List.{AllZip}
 use Rattle.tangle_lines.specs.declared.faults.Origin.{Origin}
@@ -17,6 +17,7 @@ use Rattle.tangle_expansion.specs.Projects.{is_piece_of, use_of, resolved_at, Re
 use Rattle.tangle_expansion.proofs.NumberLemmas.{node_numbers_of}
 use Rattle.tangle_expansion.specs.Numbers.{NumbersRead, PieceNumbersRead, no_place, no_numbers, numbers_of, node_numbers, numbers_at, place_of_mark, piece_numbers, item_places}
 use Rattle.tangle_expansion.specs.Standing.{Own, Other, StandingItem, StandingPart, place_behind, StandAtTheirPlaces, standing_items, standing_pieces, standing_project, standing_item, items_standing, pieces_standing, standing}
+use Rattle.tangle_files.specs.declared.marks.MarkMode.TheVariants.{Full}
 
 -- where the first place is known, the second is the same
 abbrev pub Agrees : Option Origin → Option Origin → Type 0
@@ -71,7 +72,7 @@ next_numbers (n ∷ numbers) (suc k) first rest e =
     let more : suc k + 1 ≡ suc (k + 1) = omega arith in
     (next.0, ap (λ j. drop j (n ∷ numbers)) more ∙ next.1)
 
-module _ (numbers : NumbersRead) (texts : List (List ℕ)) (table : TableRead) (lines : List Line)
+module _ (numbers : NumbersRead) (full : numbers.marks ≡ Full) (texts : List (List ℕ)) (table : TableRead) (lines : List Line)
     (used : List ℕ → List StandingPart) (all : (name : List ℕ) (q : Option Origin) → StandAtTheirPlaces numbers q (used name)) where
   items_stand : (node : Title) (piece marks : ℕ) (p q : Option Origin) → Agrees p q → (items : List Item) (ss : List Standing)
       → drop (marks + 1) (numbers_at numbers node piece).marks ≡ flat_map item_places items
@@ -106,7 +107,7 @@ module _ (numbers : NumbersRead) (texts : List (List ℕ)) (table : TableRead) (
       (tt, items_stand node piece marks p q agrees items ss places own)
   items_stand node piece marks p q agrees (item.LineMark place ∷ items) ss places own =
       let next = next_mark (numbers_at numbers node piece).marks (marks + 1) place (flat_map item_places items) places in
-      (tt, items_stand node piece (marks + 1) (Some place) (Some (place_of_mark numbers node piece (marks + 1))) (ap Some next.0) items ss next.1 own)
+      rw full (tt, items_stand node piece (marks + 1) (Some place) (Some (place_of_mark numbers node piece (marks + 1))) (ap Some next.0) items ss next.1 own)
   items_stand node piece marks p q agrees (item.UseOf occurrence ∷ items) ss places own =
       use_stands numbers table used node piece marks (standing_items texts table lines ss items) all
       (λ r. items_stand node piece marks None r tt items ss places own) q (resolved_at table occurrence)
@@ -131,7 +132,7 @@ module _ (numbers : NumbersRead) (texts : List (List ℕ)) (table : TableRead) (
       by true is more =
           let next = next_numbers (node_numbers numbers node) piece (piece_numbers p) (map piece_numbers (filter (is_piece_of table node) pieces)) is in
           let mark : place_of_mark numbers node piece 0 ≡ p.place = ap (λ n. get_or n.marks 0 no_place) next.0 in
-          let marks : drop (0 + 1) (numbers_at numbers node piece).marks ≡ flat_map item_places p.items = ap (λ n. drop 1 n.marks) next.0 in (
+          let marks : drop (0 + 1) (numbers_at numbers node piece).marks ≡ flat_map item_places p.items = ap (λ n. drop 1 n.marks) next.0 in rw full (
             tt,
             (
               tt,
@@ -146,9 +147,9 @@ module _ (numbers : NumbersRead) (texts : List (List ℕ)) (table : TableRead) (
 -- what a node expands to, with any fuel and from any place of the compiler on
 pub node_stands : (source : SourceRead) (web : WebRead) (table : TableRead) → ResolvesInside table → PiecesStandAtTheirLines source web
     → (fuel : ℕ) (node : Title) (q : Option Origin)
-    → StandAtTheirPlaces (numbers_of web table) q (standing fuel (standing_project source web table) node)
+    → StandAtTheirPlaces (numbers_of web table Full) q (standing fuel (standing_project source web table) node)
 node_stands source web table inside own zero node q = tt
 node_stands source web table inside own (suc fuel) node q =
-    pieces_stand (numbers_of web table) web.texts table source.lines (λ name. standing fuel (standing_project source web table) (Named name))
+    pieces_stand (numbers_of web table Full) refl web.texts table source.lines (λ name. standing fuel (standing_project source web table) (Named name))
     (λ name r. node_stands source web table inside own fuel (Named name) r)
-    node 0 web.pieces (piece_standings source.lines) (node_numbers_of web table inside node) own q
+    node 0 web.pieces (piece_standings source.lines) (node_numbers_of web table Full inside node) own q

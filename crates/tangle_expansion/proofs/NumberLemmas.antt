@@ -13,6 +13,7 @@ use Rattle.tangle_names.specs.NameTable.{TableRead}
 use Rattle.tangle_expansion.specs.Shapes.{Title, Program, Named}
 use Rattle.tangle_expansion.specs.Projects.{is_node, node_of, node_of_name, is_piece_of, pieces_of, resolved_at, IsNameBelow, ResolvesInside}
 use Rattle.tangle_expansion.specs.Numbers.{piece_numbers, numbers_of, node_numbers}
+use Rattle.tangle_files.specs.declared.marks.MarkMode.{MarkMode}
 
 module _ {A : Type 0} (f : List ℕ → A) (name : List ℕ) where
   lookup_found : (names : List (List ℕ)) → list_any (bytes_eq name) names ≡ true → lookup (bytes_eq name) (map (λ n. (n, f n)) names) ≡ Some (f name)
@@ -55,10 +56,10 @@ module _ (table : TableRead) (name : List ℕ) (none : list_any (bytes_eq name) 
       ap (λ t. if t then p ∷ filter (is_piece_of table (Named name)) pieces else filter (is_piece_of table (Named name)) pieces) (no_piece inside p.name)
       ∙ no_pieces inside pieces
 
-pub node_numbers_of : (web : WebRead) (table : TableRead) → ResolvesInside table → (node : Title)
-    → node_numbers (numbers_of web table) node ≡ map piece_numbers (pieces_of web table node)
-node_numbers_of web table inside Program = refl
-node_numbers_of web table inside (Named name) = by (list_any (bytes_eq name) table.names) refl
+pub node_numbers_of : (web : WebRead) (table : TableRead) (marks : MarkMode) → ResolvesInside table → (node : Title)
+    → node_numbers (numbers_of web table marks) node ≡ map piece_numbers (pieces_of web table node)
+node_numbers_of web table marks inside Program = refl
+node_numbers_of web table marks inside (Named name) = by (list_any (bytes_eq name) table.names) refl
   where
     by : (t : Bool) → list_any (bytes_eq name) table.names ≡ t
         → unwrap_or (lookup (bytes_eq name) (map (λ name. (name, map piece_numbers (pieces_of web table (Named name)))) table.names)) []

@@ -10,7 +10,9 @@ use Rattle.std.proofs.Math.Nat.{mul-le-mul_right}
 use Rattle.tangle_expansion.specs.Shapes.{Title, Program, Named}
 use Rattle.tangle_expansion.specs.Flat.{Part, Byte, Opening, MarkOf, Closing, AllMacros}
 use Rattle.tangle_expansion.specs.Limits.{heaviest}
-use Rattle.tangle_expansion.specs.Numbers.{PieceNumbersRead, NumbersRead, no_numbers, no_place, node_numbers, numbers_at, place_of_mark, opening_text, closing_text, mark_text, part_text, text}
+use Rattle.tangle_expansion.specs.Numbers.{PieceNumbersRead, NumbersRead, no_numbers, no_place, node_numbers, numbers_at, place_of_mark, opening_text, closing_text, mark_text, marked_text, part_text, text}
+use Rattle.tangle_files.specs.declared.marks.MarkMode.{MarkMode}
+use Rattle.tangle_files.specs.declared.marks.MarkMode.TheVariants.{Full, Bare}
 use Rattle.tangle_expansion.specs.TextLimits.{longest_part, PartsAreShort, IsLow, IsShort, EntryIsShort, AreShort}
 use Rattle.tangle_expansion.proofs.TextLemmas.{text-short}
 
@@ -36,6 +38,11 @@ unfolding longest_part
 mark_short file line h low =
     let whole = five_lengths (codes "\n#line ") (decimal line) (codes " \"") file (codes "\"\n") in
     omega (arith, h, decimal_short line (omega (arith, low)), whole)
+
+marked_short : (marks : MarkMode) (file : List ℕ) (line : ℕ) → length file < 2 ^ 64 → line < 2 ^ 32 → length (marked_text marks file line) ≤ longest_part
+unfolding longest_part
+marked_short Full file line h low = mark_short file line h low
+marked_short Bare file line h low = omega arith
 
 -- what holds of all of a list and of the default holds wherever it is read
 all_or : {X : Type 0} (P : X → Type 0) (xs : List X) (d : X) → P d → All P xs → (i : ℕ) → P (get_or xs i d)
@@ -74,7 +81,7 @@ module _ (numbers : NumbersRead) (h : AreShort numbers) where
   parts_short (Opening node piece) = opening_short (numbers_at numbers node piece).section (piece_short node piece).section
   parts_short (MarkOf node piece mark) =
       let place = place_of_mark numbers node piece mark in
-      mark_short (get_or numbers.file_names place.file []) place.line (file_short place.file) (place_low node piece mark)
+      marked_short numbers.marks (get_or numbers.file_names place.file []) place.line (file_short place.file) (place_low node piece mark)
   parts_short (Closing node piece) = closing_short (numbers_at numbers node piece).section (piece_short node piece).section
   parts_short AllMacros = omega (arith, h.macros)
 

@@ -11,6 +11,7 @@ use Rattle.tangle_expansion.specs.Flat.{flat, weight, depth}
 use Rattle.tangle_expansion.specs.Projects.{project}
 use Rattle.tangle_expansion.specs.Numbers.{numbers_of, text}
 use Rattle.tangle_expansion.specs.Standing.{Role, Own, Feed, Other, standing, standing_project}
+use Rattle.tangle_files.specs.declared.marks.MarkMode.TheVariants.{Full}
 
 -- the source lines of the file a.w from a line number on
 abbrev numbered_lines : ℕ → List (List ℕ) → List Line
@@ -25,12 +26,12 @@ abbrev web : List (List ℕ) → WebRead
 web lines = web_of (source lines)
 
 abbrev output : List (List ℕ) → List ℕ
-output lines = text (numbers_of (web lines) (table_of (web lines))) (flat 1001 (project (web lines) (table_of (web lines))) Program) ++ codes "\n"
+output lines = text (numbers_of (web lines) (table_of (web lines)) Full) (flat 1001 (project (web lines) (table_of (web lines))) Program) ++ codes "\n"
 
 -- the text of a named node, and a line feed
 abbrev output_of : List (List ℕ) → List ℕ → List ℕ
 output_of lines name =
-    text (numbers_of (web lines) (table_of (web lines))) (flat 1001 (project (web lines) (table_of (web lines))) (Named name)) ++ codes "\n"
+    text (numbers_of (web lines) (table_of (web lines)) Full) (flat 1001 (project (web lines) (table_of (web lines))) (Named name)) ++ codes "\n"
 
 abbrev weight_in : List (List ℕ) → Title → ℕ
 weight_in lines node = weight 16777217 (project (web lines) (table_of (web lines))) node
@@ -189,7 +190,7 @@ doubling_depth = refl
 abbrev long_macro : List (List ℕ)
 long_macro = codes "@ A." ∷ codes "@d F(x) x" ∷ codes "  +1" ∷ [] ∷ codes "@d 3" ∷ codes "@c" ∷ codes "y" ∷ []
 
-long_macro_text : (numbers_of (web long_macro) (table_of (web long_macro))).macros ≡ codes "#define F(x) x\\\n+1\n"
+long_macro_text : (numbers_of (web long_macro) (table_of (web long_macro)) Full).macros ≡ codes "#define F(x) x\\\n+1\n"
 unfolding lexeme tokens_from names_from digits
 long_macro_text = refl
 

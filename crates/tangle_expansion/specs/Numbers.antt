@@ -11,6 +11,8 @@ use Rattle.tangle_names.specs.NameTable.{TableRead}
 use Rattle.tangle_expansion.specs.Shapes.{Title, Program, Named}
 use Rattle.tangle_expansion.specs.Flat.{Part, Byte, Opening, MarkOf, Closing, AllMacros}
 use Rattle.tangle_expansion.specs.Projects.{pieces_of}
+use Rattle.tangle_files.specs.declared.marks.MarkMode.{MarkMode}
+use Rattle.tangle_files.specs.declared.marks.MarkMode.TheVariants.{Full, Bare}
 use Rattle.tangle_expansion.specs.MacroTexts.{macro_text}
 
 -- of a piece the number of its section and the places of its marks, the opening mark's first
@@ -25,6 +27,8 @@ pub record NumbersRead : Type 0 where
   pub program : List PieceNumbersRead
   pub names : List (List ℕ × List PieceNumbersRead)
   pub macros : List ℕ
+  -- how line marks are written
+  pub marks : MarkMode
 
 abbrev pub backslash : ℕ
 backslash = 92
@@ -47,12 +51,16 @@ abbrev pub piece_numbers : PieceRead → PieceNumbersRead
 piece_numbers piece = record { section = piece.section; marks = piece.place ∷ flat_map item_places piece.items }
 
 module _ (web : WebRead) (table : TableRead) where
-  abbrev pub numbers_of : NumbersRead
-  numbers_of = record {
+  abbrev pub name_numbers : List (List ℕ × List PieceNumbersRead)
+  name_numbers = map (λ name. (name, map piece_numbers (pieces_of web table (Named name)))) table.names
+
+  abbrev pub numbers_of : MarkMode → NumbersRead
+  numbers_of marks = record {
     file_names = map escaped web.file_names;
     program = map piece_numbers (pieces_of web table Program);
-    names = map (λ name. (name, map piece_numbers (pieces_of web table (Named name)))) table.names;
+    names = name_numbers;
     macros = flat_map (macro_text web.texts) web.macros;
+    marks = marks;
   }
 
 -- the text of an expansion
@@ -65,6 +73,11 @@ closing_text section = codes "/*:" ++ decimal section ++ codes "*/"
 
 abbrev pub mark_text : List ℕ → ℕ → List ℕ
 mark_text file line = codes "\n#line " ++ decimal line ++ codes " \"" ++ file ++ codes "\"\n"
+
+-- the text of a line mark: bare it is a line feed
+abbrev pub marked_text : MarkMode → List ℕ → ℕ → List ℕ
+marked_text Full file line = mark_text file line
+marked_text Bare file line = line_feed ∷ []
 
 abbrev pub no_numbers : PieceNumbersRead
 no_numbers = record { section = 0; marks = [] }
@@ -85,7 +98,7 @@ module _ (numbers : NumbersRead) where
   place_of_mark node piece mark = get_or (numbers_at node piece).marks mark no_place
 
   abbrev pub place_text : Origin → List ℕ
-  place_text place = mark_text (get_or numbers.file_names place.file []) place.line
+  place_text place = marked_text numbers.marks (get_or numbers.file_names place.file []) place.line
 
   abbrev pub part_text : Part → List ℕ
   part_text (Byte b) = b ∷ []

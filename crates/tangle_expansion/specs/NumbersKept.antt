@@ -23,4 +23,5 @@ numbers_read n = record {
   program = n.program.items;
   names = entries_of n.names;
   macros = n.macros.items;
+  marks = n.marks;
 }

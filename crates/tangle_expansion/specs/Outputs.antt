@@ -9,6 +9,7 @@ use Rattle.tangle_expansion.specs.Flat.{Part}
 use Rattle.tangle_expansion.specs.Limits.{levels, heaviest}
 use Rattle.tangle_expansion.specs.Numbers.{NumbersRead, numbers_of, text}
 use Rattle.tangle_expansion.specs.Kept.{kept_at}
+use Rattle.tangle_files.specs.declared.marks.MarkMode.TheVariants.{Full}
 use Rattle.tangle_expansion.specs.declared.nodes.Node.{Node}
 use Rattle.tangle_expansion.specs.declared.kept.Kept.{Kept}
 use Rattle.tangle_expansion.specs.Standing.{StandingPart, standing, standing_project, StandAtTheirPlaces}
@@ -45,7 +46,7 @@ abbrev pub standing_of : SourceRead → WebRead → Title → List StandingPart
 standing_of source web node = standing levels (standing_project source web (table_of web)) node
 
 -- The bytes are the text of what the node expands to, and each byte of a text in it that is in no stretch stands at the compiler's place
--- that is its own line's. In front of a file's first mark no place is known.
+-- that is its own line's, where marks are written in full. In front of a file's first mark no place is known.
 pub record IsTrueToLines (source : SourceRead) (web : WebRead) (node : Title) (bytes : List ℕ) : Type 0 where
-  pub written : bytes ≡ text (numbers_of web (table_of web)) (map (λ p. p.part) (standing_of source web node))
-  pub places : StandAtTheirPlaces (numbers_of web (table_of web)) None (standing_of source web node)
+  pub written : bytes ≡ text (numbers_of web (table_of web) Full) (map (λ p. p.part) (standing_of source web node))
+  pub places : StandAtTheirPlaces (numbers_of web (table_of web) Full) None (standing_of source web node)

@@ -12,6 +12,8 @@ use Rattle.tangle_expansion.specs.Shapes.{Title, Named, ShapeItem, Written, Mark
 use Rattle.tangle_expansion.specs.Flat.{Part, Byte, Opening, MarkOf, Closing, AllMacros, marks_behind}
 use Rattle.tangle_expansion.specs.Numbers.{NumbersRead, place_of_mark, no_place}
 use Rattle.tangle_expansion.specs.Projects.{is_piece_of, shape_item}
+use Rattle.tangle_files.specs.declared.marks.MarkMode.{MarkMode}
+use Rattle.tangle_files.specs.declared.marks.MarkMode.TheVariants.{Full, Bare}
 
 -- what a byte is to the compiler's place
 pub data Role : Type 0 where
@@ -122,6 +124,11 @@ feeds place (Own origin in_stretch) = place
 feeds place Feed = with_line_end place
 feeds place Other = place
 
+-- a mark sets the place where it is written in full
+abbrev pub place_set : MarkMode → Option Origin → Origin → Option Origin
+place_set Full place own = Some own
+place_set Bare place own = place
+
 -- A byte of a text that is in no stretch stands at this place.
 abbrev pub IsOwnPlace : Option Origin → Role → Type 0
 IsOwnPlace place (Own origin in_stretch) = in_stretch ≡ false → place ≡ Some origin
@@ -129,11 +136,11 @@ IsOwnPlace place Feed = Unit {0}
 IsOwnPlace place Other = Unit {0}
 
 module _ (numbers : NumbersRead) where
-  -- the compiler's place behind a part: a mark sets it to what the mark says, and behind the macros it is not known until the next mark
+  -- the compiler's place behind a part: a mark that is written in full sets it to what the mark says, and behind the macros it is not known until the next mark
   abbrev pub place_behind : Option Origin → Part → Role → Option Origin
   place_behind place (Byte b) role = feeds place role
   place_behind place (Opening node piece) role = place
-  place_behind place (MarkOf node piece mark) role = Some (place_of_mark numbers node piece mark)
+  place_behind place (MarkOf node piece mark) role = place_set numbers.marks place (place_of_mark numbers node piece mark)
   place_behind place (Closing node piece) role = place
   place_behind place AllMacros role = None
 

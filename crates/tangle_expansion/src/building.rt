@@ -6,7 +6,7 @@ ghost use Rattle.tangle_expansion.specs.Shapes.{Program};
 ghost use Rattle.tangle_expansion.specs.Projects.{pieces_of};
 ghost use Rattle.tangle_expansion.specs.ItemSlots.{pieces_at};
 ghost use Rattle.tangle_expansion.specs.Nodes.{IsGroupedBy};
-ghost use Rattle.tangle_expansion.specs.Numbers.{escaped_byte, escaped, item_places, piece_numbers as numbers_of_piece_read, numbers_of};
+ghost use Rattle.tangle_expansion.specs.Numbers.{escaped_byte, escaped, item_places, piece_numbers as numbers_of_piece_read, numbers_of, name_numbers};
 ghost use Rattle.tangle_expansion.specs.NumbersKept.{entries_of};
 ghost use Rattle.tangle_expansion.specs.TextLimits.{IsShort, IsLow, EntryIsShort};
 
@@ -15,7 +15,7 @@ use crate::nodes::{Node, PiecesByNode};
 use crate::numbers::{Numbers, PieceNumbers};
 use indexmap::IndexMap;
 use std::alloc::Global;
-use tangle_lines::{NoMemory, Origin};
+use tangle_lines::{MarkMode, NoMemory, Origin};
 use tangle_names::names_are_the_full_names;
 use tangle_scan::{Item, Piece, Web};
 
@@ -128,7 +128,7 @@ fn numbers_of_names<S: PiecesByNode>(
     store: &S,
 ) -> Result<IndexMap<Vec<u8>, Vec<PieceNumbers>>, NoMemory>
     requires { IsGroupedBy web.now (table_of web.now) (S.names store.now) (S.pieces store.now) }
-    ensures are { IfOk result (λ names. entries_of names ≡ (numbers_of web.now (table_of web.now)).names) }
+    ensures are { IfOk result (λ names. entries_of names ≡ name_numbers web.now (table_of web.now)) }
     ensures short { IfOk result (λ names. All EntryIsShort (entries_of names)) }
 {
     names_are_the_full_names();
@@ -147,14 +147,19 @@ impl Numbers {
     /// # Errors
     ///
     /// `NoMemory`, where a growth was refused.
-    pub fn build<S: PiecesByNode>(alloc: Global, web: &Web, store: &S) -> Result<Numbers, NoMemory>
+    pub fn build<S: PiecesByNode>(
+        alloc: Global,
+        web: &Web,
+        store: &S,
+        marks: MarkMode,
+    ) -> Result<Numbers, NoMemory>
         requires { IsGroupedBy web.now (table_of web.now) (S.names store.now) (S.pieces store.now) }
-        ensures { IfOk result (λ numbers. numbers ≡ numbers_of web.now (table_of web.now)) }
+        ensures { IfOk result (λ numbers. numbers ≡ numbers_of web.now (table_of web.now) marks) }
     {
         let file_names = escaped_names(alloc, web)?;
         let program = numbers_of_pieces(alloc, web, store.piece_numbers(Node::Program))?;
         let names = numbers_of_names(alloc, web, store)?;
         let macros = macros_text(alloc, web)?;
-        Ok(Numbers::new(file_names, program, names, macros))
+        Ok(Numbers::new(file_names, program, names, macros, marks))
     }
 }

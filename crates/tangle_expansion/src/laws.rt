@@ -5,6 +5,7 @@ ghost use Rattle.tangle_lines.specs.Reading.{SourceRead};
 ghost use Rattle.tangle_scan.specs.Web.{WebRead};
 ghost use Rattle.tangle_scan.specs.LineTruth.{PiecesStandAtTheirLines};
 ghost use Rattle.tangle_names.specs.NameTable.{TableRead, table_of};
+ghost use Rattle.tangle_files.specs.declared.marks.MarkMode.TheVariants.{Full};
 ghost use Rattle.tangle_expansion.specs.Codes.{shape_codes, shape_bytes, shape_names};
 ghost use Rattle.tangle_expansion.specs.Shapes.{Shape, Title, Named, Project, Uses, Reaches, ContainsItself};
 ghost use Rattle.tangle_expansion.specs.Slots.{filled};
@@ -39,7 +40,7 @@ pub fn texts_stand_at_their_places()
         → map (λ (p : StandingPart). p.part) (standing fuel (standing_project source web table) node) ≡ flat fuel (project web table) node }
     ensures places { (source : SourceRead) (web : WebRead) (fuel : ℕ) (node : Title) (place : Option Origin)
         → PiecesStandAtTheirLines source web
-        → StandAtTheirPlaces (numbers_of web (table_of web)) place (standing fuel (standing_project source web (table_of web)) node) }
+        → StandAtTheirPlaces (numbers_of web (table_of web) Full) place (standing fuel (standing_project source web (table_of web)) node) }
 {
     names_resolve_inside();
 }
@@ -47,7 +48,7 @@ pub fn texts_stand_at_their_places()
 /// The text of each node is true to the lines of the source.
 pub fn texts_are_true_to_lines()
     ensures { (source : SourceRead) (web : WebRead) (node : Title) → PiecesStandAtTheirLines source web
-        → IsTrueToLines source web node (text (numbers_of web (table_of web)) (flat_of (project web (table_of web)) node)) }
+        → IsTrueToLines source web node (text (numbers_of web (table_of web) Full) (flat_of (project web (table_of web)) node)) }
 {
     texts_stand_at_their_places();
 }

@@ -4,12 +4,13 @@ ghost use Rattle.std.specs.List.{All};
 ghost use Rattle.tangle_expansion.specs.Meaning.{title_of};
 ghost use Rattle.tangle_expansion.specs.Numbers.{PieceNumbersRead, node_numbers, no_numbers, no_place};
 ghost use Rattle.tangle_expansion.specs.NumbersKept.{entries_of};
+ghost use Rattle.tangle_files.specs.declared.marks.MarkMode.TheVariants.{Full as full};
 ghost use Rattle.tangle_expansion.specs.TextLimits.{IsShort, EntryIsShort, PartsAreShort};
 
 use indexmap::IndexMap;
 use std::alloc::Global;
 use std::marker::Model;
-use tangle_lines::Origin;
+use tangle_lines::{MarkMode, Origin};
 
 /// The section number of a piece, and the places of its marks.
 #[derive(Drop)]
@@ -42,6 +43,7 @@ pub struct Numbers {
     program: Vec<PieceNumbers>,
     names: IndexMap<Vec<u8>, Vec<PieceNumbers>>,
     macros: Vec<u8>,
+    marks: MarkMode,
 }
 
 impl Model for Numbers {
@@ -63,11 +65,12 @@ impl Numbers {
         program: Vec<PieceNumbers>,
         names: IndexMap<Vec<u8>, Vec<PieceNumbers>>,
         macros: Vec<u8>,
+        marks: MarkMode,
     ) -> Self
         requires file_names { All (λ n. vec_len n < 2 ^ 64) file_names.items }
         requires program { All IsShort program.items }
         requires names { All EntryIsShort (entries_of names) }
-        ensures { result ≡ record { file_names = map (λ n. n.items) file_names.items; program = program.items; names = entries_of names; macros = macros.items } }
+        ensures { result ≡ record { file_names = map (λ n. n.items) file_names.items; program = program.items; names = entries_of names; macros = macros.items; marks = marks } }
     {
         let _bytes = macros.len();
         Numbers {
@@ -75,18 +78,20 @@ impl Numbers {
             program,
             names,
             macros,
+            marks,
         }
     }
 
     /// The numbers of a web without files, pieces and macros. It takes no memory yet.
     pub fn none(alloc: Global) -> Self
-        ensures { result ≡ record { file_names = []; program = []; names = []; macros = [] } }
+        ensures { result ≡ record { file_names = []; program = []; names = []; macros = []; marks = full } }
     {
         Numbers::new(
             Vec::new(alloc),
             Vec::new(alloc),
             IndexMap::new(alloc),
             Vec::new(alloc),
+            MarkMode::Full,
         )
     }
 
@@ -118,6 +123,13 @@ impl Numbers {
             Some(name) => name.as_slice(),
             None => &[],
         }
+    }
+
+    /// How line marks are written.
+    pub(crate) fn marks(&self) -> MarkMode
+        ensures { result ≡ self.now.marks }
+    {
+        self.marks
     }
 
     /// The text of the macros.

@@ -3,13 +3,13 @@ ghost use Rattle.std.specs.Prelude.{◌≡◌, ◌+◌, ◌-◌, ◌^◌, ◌<�
 ghost use Rattle.tangle_streams.specs.Streams.{PutsOut, PutsOutMore};
 ghost use Rattle.tangle_expansion.specs.Limits.{heaviest};
 ghost use Rattle.tangle_expansion.specs.Meaning.{title_of, bytes_between, is_use as is_use_step, pieces_passed, marks_passed, bytes_passed, own_parts, before_use, behind_use};
-ghost use Rattle.tangle_expansion.specs.Numbers.{node_numbers, opening_text, closing_text, place_text, text};
+ghost use Rattle.tangle_expansion.specs.Numbers.{node_numbers, opening_text, closing_text, mark_text, place_text, text};
 
 use crate::expansion::{Body, Expansion, NodeText, Step};
 use crate::numbers::{Numbers, PieceNumbers, place_at, section_at};
 use crate::steps::{bytes_behind, marks_behind, pieces_behind};
 use itoa::Buffer;
-use tangle_lines::{Origin, Sink, WriteFault, put};
+use tangle_lines::{MarkMode, Origin, Sink, WriteFault, put};
 
 /// Where the writing of a plan stands: behind so many steps, so many pieces, so many marks of this piece, and so many bytes of the text.
 #[derive(Clone, Copy, Debug)]
@@ -67,6 +67,24 @@ fn put_closing<S: Sink>(
     put(sink, numbered, b"*/")
 }
 
+/// Puts out a line mark in full.
+fn put_full_mark<S: Sink>(
+    file: &[u8],
+    line: u32,
+    sink: &mut S,
+    so_far: Result<u128, WriteFault>,
+) -> Result<u128, WriteFault>
+    ensures { PutsOutMore (S.stream sink.old) (S.stream sink.new)
+        so_far (mark_text file.now line) result }
+{
+    let mut digits = Buffer::new();
+    let opened = put(sink, so_far, b"\n#line ");
+    let numbered = put(sink, opened, digits.format(line).as_bytes());
+    let quoted = put(sink, numbered, b" \"");
+    let named = put(sink, quoted, file);
+    put(sink, named, b"\"\n")
+}
+
 /// Puts out a line mark.
 fn put_mark<S: Sink>(
     numbers: &Numbers,
@@ -77,12 +95,10 @@ fn put_mark<S: Sink>(
     ensures { PutsOutMore (S.stream sink.old) (S.stream sink.new)
         so_far (place_text numbers.now place) result }
 {
-    let mut digits = Buffer::new();
-    let opened = put(sink, so_far, b"\n#line ");
-    let numbered = put(sink, opened, digits.format(place.line).as_bytes());
-    let quoted = put(sink, numbered, b" \"");
-    let named = put(sink, quoted, numbers.file_name(place));
-    put(sink, named, b"\"\n")
+    match numbers.marks() {
+        MarkMode::Full => put_full_mark(numbers.file_name(place), place.line, sink, so_far),
+        MarkMode::Bare => put(sink, so_far, b"\n"),
+    }
 }
 
 /// The bytes from one place of a text up to another.

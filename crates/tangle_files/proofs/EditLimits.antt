@@ -10,7 +10,7 @@ use Rattle.std.proofs.lemmas.List.{length-take-le, length-drop}
 use Rattle.std.proofs.lemmas.List.Elements.{All-append}
 use Rattle.std.proofs.lemmas.Map.{length-set_value, keys-set_value}
 use Rattle.tangle_files.specs.declared.edits.Edit.{Edit}
-use Rattle.tangle_files.specs.declared.edits.Edit.TheVariants.{Insert, Remove, Replace, Create, Discard}
+use Rattle.tangle_files.specs.declared.edits.Edit.TheVariants.{Insert, Remove, Replace, Create, Discard, Marks}
 use Rattle.tangle_files.specs.declared.refusal.Refusal.{Refusal}
 use Rattle.tangle_files.specs.declared.refusal.Refusal.TheVariants.{BadName, FileExists, TooManyFiles, TooManyLines, UnknownFile, NoSuchLine}
 use Rattle.tangle_files.specs.Lines.{FileTable, lines_of, trimmed}
@@ -193,3 +193,4 @@ IsWithinLimits-edited files (Discard file) h within =
       names = distinct-remove_entry files file.items within.names;
       lines = few-remove_entry files file.items within.lines;
     }
+IsWithinLimits-edited files (Marks mode) h within = within

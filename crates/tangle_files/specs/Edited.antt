@@ -4,7 +4,8 @@ use Rattle.std.specs.Option.{option_map_or}
 use Rattle.std.specs.Map.{set_value, remove_entry}
 use Rattle.std.specs.Str.{bytes_eq}
 use Rattle.tangle_files.specs.declared.edits.Edit.{Edit}
-use Rattle.tangle_files.specs.declared.edits.Edit.TheVariants.{Insert, Remove, Replace, Create, Discard}
+use Rattle.tangle_files.specs.declared.edits.Edit.TheVariants.{Insert, Remove, Replace, Create, Discard, Marks}
+use Rattle.tangle_files.specs.declared.marks.MarkMode.{MarkMode}
 use Rattle.tangle_files.specs.Lines.{FileTable, lines_of, trimmed}
 
 -- the lines with new ones in place of those between two places
@@ -23,3 +24,19 @@ edited files (Remove file at) = with_lines_changed files file.items (λ lines. s
 edited files (Replace file at text) = with_lines_changed files file.items (λ lines. spliced lines (at - 1) (trimmed text.items ∷ []) at)
 edited files (Create file) = files ++ (file.items, []) ∷ []
 edited files (Discard file) = remove_entry (bytes_eq file.items) files
+edited files (Marks mode) = files
+
+-- how line marks are written after an edit
+abbrev pub edited_marks : MarkMode → Edit → MarkMode
+edited_marks marks (Marks mode) = mode
+edited_marks marks _ = marks
+
+-- the files after a list of edits, each made on what the earlier ones left
+abbrev pub edited_all : FileTable → List Edit → FileTable
+edited_all files [] = files
+edited_all files (edit ∷ edits) = edited_all (edited files edit) edits
+
+-- and how line marks are then written
+abbrev pub marks_after : MarkMode → List Edit → MarkMode
+marks_after marks [] = marks
+marks_after marks (edit ∷ edits) = marks_after (edited_marks marks edit) edits

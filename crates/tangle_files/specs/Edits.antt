@@ -3,7 +3,7 @@ use Rattle.std.specs.Prelude.{ℕ, ◌+◌, Bool, ◌==◌, ◌&&◌, not, nat_l
 use Rattle.std.specs.List.{list_any}
 use Rattle.std.specs.Option.{option_map_or}
 use Rattle.tangle_files.specs.declared.edits.Edit.{Edit}
-use Rattle.tangle_files.specs.declared.edits.Edit.TheVariants.{Insert, Remove, Replace, Create, Discard}
+use Rattle.tangle_files.specs.declared.edits.Edit.TheVariants.{Insert, Remove, Replace, Create, Discard, Marks}
 use Rattle.tangle_files.specs.declared.refusal.Refusal.{Refusal}
 use Rattle.tangle_files.specs.declared.refusal.Refusal.TheVariants.{BadName, FileExists, TooManyFiles, LineTooLong, TooManyLines, UnknownFile, NoSuchLine, BadLine}
 use Rattle.tangle_files.specs.Bytes.{line_feed}
@@ -54,3 +54,4 @@ edit_refusal files (Remove file at) = refusal_in files file.items (λ lines. ref
 edit_refusal files (Replace file at text) = refusal_in files file.items (λ lines. replace_refusal lines at text.items)
 edit_refusal files (Create file) = create_refusal files file.items
 edit_refusal files (Discard file) = refusal_in files file.items (λ lines. None)
+edit_refusal files (Marks mode) = None

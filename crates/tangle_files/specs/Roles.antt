@@ -2,21 +2,29 @@
 use Rattle.std.specs.Prelude.{ℕ, Bool, true, ◌&&◌, List, if◌then◌else◌, Option, None, Some, is_some}
 use Rattle.tangle_files.specs.declared.refusal.Refusal.{Refusal}
 use Rattle.tangle_files.specs.declared.refusal.Refusal.TheVariants.{BadName}
+use Rattle.tangle_files.specs.declared.marks.MarkMode.{MarkMode}
+use Rattle.tangle_files.specs.declared.marks.MarkMode.TheVariants.{Full}
 use Rattle.tangle_files.specs.Adding.{is_name}
 use Rattle.tangle_files.specs.Lines.{FileTable, file_number}
 
--- the names of the web, of the change file if there is one, and of the main file
-pub record RoleNames : Type 0 where
+-- the names of the web, of the change file if there is one, and of the main file, and how line
+-- marks are written
+pub record RolesRead : Type 0 where
   pub web : List ℕ
   pub change : Option (List ℕ)
   pub out : List ℕ
+  pub marks : MarkMode
+
+-- the roles of these names: line marks are written in full until that is set otherwise
+abbrev pub roles_of : List ℕ → Option (List ℕ) → List ℕ → RolesRead
+roles_of web change out = record { web = web; change = change; out = out; marks = Full }
 
 abbrev pub is_name_if_any : Option (List ℕ) → Bool
 is_name_if_any None = true
 is_name_if_any (Some name) = is_name name
 
 -- each of the names has to be a file's name
-abbrev pub roles_refusal : RoleNames → Option Refusal
+abbrev pub roles_refusal : RolesRead → Option Refusal
 roles_refusal roles = if is_name roles.web && is_name_if_any roles.change && is_name roles.out then None else Some BadName
 
 abbrev pub is_there : FileTable → List ℕ → Bool
@@ -27,5 +35,5 @@ is_there_if_any files None = true
 is_there_if_any files (Some name) = is_there files name
 
 -- the web and the change file that is named are there
-abbrev pub fits : FileTable → RoleNames → Bool
+abbrev pub fits : FileTable → RolesRead → Bool
 fits files roles = is_there files roles.web && is_there_if_any files roles.change

@@ -7,6 +7,7 @@ ghost use Rattle.tangle_files.specs.declared.refusal.Refusal.TheVariants.{NoSuch
 use crate::cutting::{LONGEST_LINE, without_trailing_spaces};
 use crate::files::{Files, MOST_FILES, MOST_LINES, is_file_name};
 use crate::line::Line;
+use crate::marks::MarkMode;
 use crate::refusal::Refusal;
 
 /// An edit of the files. Lines are counted from 1. The trailing spaces of a text are dropped.
@@ -37,6 +38,10 @@ pub enum Edit {
     Discard {
         file: Vec<u8>,
     },
+    /// Sets how line marks are written. It changes no file, and is refused only out of memory.
+    Marks {
+        mode: MarkMode,
+    },
 }
 
 impl Files {
@@ -65,6 +70,7 @@ impl Files {
                 Ok(_) => None,
                 Err(refusal) => Some(refusal),
             },
+            Edit::Marks { .. } => None,
         }
     }
 

@@ -1,11 +1,13 @@
 //! The names of files that have roles, as they were given.
 ghost use Rattle.std.specs.Prelude.{◌≡◌};
 ghost use Rattle.std.specs.Option.{option_copied, option_map};
+ghost use Rattle.tangle_files.specs.Roles.{roles_of};
 
 use std::marker::Model;
 
-/// The names of the web, of the change file if there is one, and of the main file, as they were given: nothing is known
-/// of them. [`Roles`](crate::Roles) has such names that are files' names.
+/// The names of the web, of the change file if there is one, and of the main file, as they were
+/// given: nothing is known of them. [`Roles`](crate::Roles) has such names that are files' names.
+/// Their value is that of roles whose line marks are written in full.
 #[derive(Drop)]
 pub struct RoleNames {
     web: Vec<u8>,
@@ -15,17 +17,17 @@ pub struct RoleNames {
 
 impl Model for RoleNames {
     ghost use Rattle.std.specs.Option.{option_map};
-    ghost use Rattle.tangle_files.specs.Roles.{RoleNames as NamesGiven};
+    ghost use Rattle.tangle_files.specs.Roles.{RolesRead, roles_of};
 
-    ghost Value = { NamesGiven };
+    ghost Value = { RolesRead };
 
-    ghost view = { λ r. record { web = r.web.items; change = option_map (λ c. c.items) r.change; out = r.out.items } };
+    ghost view = { λ r. roles_of r.web.items (option_map (λ c. c.items) r.change) r.out.items };
 }
 
 impl RoleNames {
     /// These names.
     pub fn new(web: Vec<u8>, change: Option<Vec<u8>>, out: Vec<u8>) -> Self
-        ensures { result ≡ record { web = web.items; change = option_map (λ c. c.items) change; out = out.items } }
+        ensures { result ≡ roles_of web.items (option_map (λ c. c.items) change) out.items }
     {
         RoleNames { web, change, out }
     }

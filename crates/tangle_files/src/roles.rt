@@ -1,32 +1,36 @@
 //! The roles of files.
 ghost use Rattle.std.specs.Prelude.{◌≡◌, IfOk, IfSome, IfNone, IsOkUnless, Err};
 ghost use Rattle.std.specs.Option.{option_copied, option_map};
-ghost use Rattle.tangle_files.specs.Roles.{RoleNames as NamesGiven, is_name_if_any, roles_refusal, fits as roles_fit, is_there, is_there_if_any};
+ghost use Rattle.tangle_files.specs.Roles.{roles_of, roles_refusal, is_name_if_any};
+ghost use Rattle.tangle_files.specs.Roles.{fits as roles_fit, is_there, is_there_if_any};
 
 use crate::files::{Files, is_file_name};
+use crate::marks::MarkMode;
 use crate::refusal::Refusal;
 use crate::role_names::RoleNames;
 use std::alloc::Global;
 use std::marker::Model;
 use tangle_streams::NoMemory;
 
-/// The names of the web, of the change file if there is one, and of the main file that is written. CWEB's programs take
-/// the same three from the command line.
+/// The names of the web, of the change file if there is one, and of the main file that is written,
+/// and how line marks are written. CWEB's programs take the three names from the command line.
 #[derive(Drop)]
 pub struct Roles {
     names: RoleNames,
+    marks: MarkMode,
 }
 
 impl Model for Roles {
-    ghost use Rattle.tangle_files.specs.Roles.{RoleNames as NamesGiven};
+    ghost use Rattle.tangle_files.specs.Roles.{RolesRead};
 
-    ghost Value = { NamesGiven };
+    ghost Value = { RolesRead };
 
-    ghost view = { λ r. r.names };
+    ghost view = { λ r. record r.names { marks = r.marks } };
 }
 
 impl Roles {
-    /// The roles of these names.
+    /// The roles of these names. Line marks are written in full until [`Roles::set_marks`] says
+    /// otherwise.
     ///
     /// # Errors
     ///
@@ -37,11 +41,12 @@ impl Roles {
         change: Option<&[u8]>,
         out: &[u8],
     ) -> Result<Self, Refusal>
-        ensures roles { IfOk result (λ r. r ≡ record { web = web.now; change = option_copied change.entry; out = out.now }) }
-        ensures refused { let names : NamesGiven = record { web = web.now; change = option_copied change.entry; out = out.now } in
-            IfSome (roles_refusal names) (λ e. result ≡ Err e) }
-        ensures only { let names : NamesGiven = record { web = web.now; change = option_copied change.entry; out = out.now } in
-            IfNone (roles_refusal names) (IsOkUnless result Refusal.NoMemory) }
+        ensures roles { IfOk result (λ r.
+            r ≡ roles_of web.now (option_copied change.entry) out.now) }
+        ensures refused { IfSome (roles_refusal (roles_of web.now (option_copied change.entry) out.now))
+            (λ refusal. result ≡ Err refusal) }
+        ensures only { IfNone (roles_refusal (roles_of web.now (option_copied change.entry) out.now))
+            (IsOkUnless result Refusal.NoMemory) }
     {
         if !(is_file_name(web) && is_file_name_if_any(change) && is_file_name(out)) {
             return Err(Refusal::BadName);
@@ -51,6 +56,7 @@ impl Roles {
         let out = Vec::from_slice(alloc, out)?;
         Ok(Roles {
             names: RoleNames::new(web, change, out),
+            marks: MarkMode::Full,
         })
     }
 
@@ -73,6 +79,20 @@ impl Roles {
         ensures { result.now ≡ self.now.out }
     {
         self.names.out()
+    }
+
+    /// How line marks are written.
+    pub fn marks(&self) -> MarkMode
+        ensures { result ≡ self.now.marks }
+    {
+        self.marks
+    }
+
+    /// Sets how line marks are written from here on.
+    pub fn set_marks(&mut self, marks: MarkMode)
+        ensures { self.new ≡ record self.old { marks = marks } }
+    {
+        self.marks = marks;
     }
 
     /// Whether the web, and the change file that is named, are in the table.

@@ -42,6 +42,7 @@ pub(crate) fn make_edit(
             discard_file(table, file);
             Ok(())
         }
+        Edit::Marks { .. } => Ok(()),
     }
 }
 

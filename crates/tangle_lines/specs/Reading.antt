@@ -5,7 +5,7 @@ use Rattle.tangle_lines.specs.declared.faults.FaultKind.{FaultKind}
 use Rattle.tangle_lines.specs.declared.faults.FaultKind.TheVariants.{IncludeNoName, IncludeMissing, IncludeTooDeep, ChangeMismatch, SourceTooLong, ChangeUnused}
 use Rattle.tangle_lines.specs.declared.faults.Origin.{Origin}
 use Rattle.tangle_files.specs.Lines.{FileTable, file_number, number_of, name_at, lines_at}
-use Rattle.tangle_files.specs.Roles.{RoleNames}
+use Rattle.tangle_files.specs.Roles.{RolesRead}
 use Rattle.tangle_lines.specs.Faults.{Spot, Finding, fault_at, fault_about, fault_counting}
 use Rattle.tangle_lines.specs.Change.{Change}
 use Rattle.tangle_lines.specs.Changes.{Found, nothing, changes_of}
@@ -185,7 +185,7 @@ abbrev pub with_files : FileTable → Reads → SourceRead
 with_files files r = record { files = files; lines = r.lines; faults = r.faults }
 
 -- the source that the files and the roles make
-abbrev pub source_of : FileTable → RoleNames → SourceRead
+abbrev pub source_of : FileTable → RolesRead → SourceRead
 source_of files roles = with_files files (reads files roles.web roles.change)
 
 -- what is read from a source without that line

@@ -17,5 +17,5 @@ pub use faults::{Fault, FaultKind, Origin, Place};
 pub use inclusion::included_name;
 pub use reading::{read_source, reading_goes_step_by_step};
 pub use source::Source;
-pub use tangle_files::{Edit, Files, Line, Refusal, RoleNames, Roles, is_file_name};
+pub use tangle_files::{Edit, Files, Line, MarkMode, Refusal, RoleNames, Roles, is_file_name};
 pub use tangle_streams::{IoSink, NoMemory, Sink, WriteFault, put};

@@ -6,7 +6,7 @@ use Rattle.std.proofs.lemmas.Bool.{eqb-true, lt-ltb}
 use Rattle.std.proofs.lemmas.Slice.Eq.{bytes_eq-Decides}
 use borrow.Author.Tests.{ltb-true}
 use Rattle.tangle_script.specs.Requests.{Command, Request, after_word, file_request, number_and_file, numbered, request_of, request_with, row, text_request}
-use Rattle.tangle_script.specs.Requests.Request.{Insert, Replace, Remove, Create, Discard, Show, Faults, Work, Quit, BadCommand}
+use Rattle.tangle_script.specs.Requests.Request.{Insert, Replace, Remove, Create, Discard, Show, MarksFull, MarksNone, Begin, Commit, Cancel, Faults, Work, Quit, BadCommand}
 use Rattle.tangle_script.specs.Table.{Asks, AsksForItsRow, IsNumbered, IsRow, is_digit, value_after}
 
 -- digits, one space and a file are read as the number and the file
@@ -85,6 +85,11 @@ module _ (c : Command) where
   row_asked (Create file) h = asked_at _ h.0 _ h.1
   row_asked (Discard file) h = asked_at _ h.0 _ h.1
   row_asked (Show file) h = asked_at _ h.0 _ h.1
+  row_asked MarksFull h = asked_at _ h.0 _ h.1
+  row_asked MarksNone h = asked_at _ h.0 _ h.1
+  row_asked Begin h = asked_at _ h.0 _ h.1
+  row_asked Commit h = asked_at _ h.0 _ h.1
+  row_asked Cancel h = asked_at _ h.0 _ h.1
   row_asked Faults h = asked_at _ h.0 _ h.1
   row_asked Work h = asked_at _ h.0 _ h.1
   row_asked Quit h = asked_at _ h.0 _ h.1
@@ -132,9 +137,14 @@ module _ (c : Command) where
       (at_row P (codes "create ") line _ _ (λ rest is. inl (e ∙ is, t))
       (at_row P (codes "discard ") line _ _ (λ rest is. inl (e ∙ is, t))
       (at_row P (codes "show ") line _ _ (λ rest is. inl (e ∙ is, t))
+      (at_word P line (codes "marks full") _ _ (λ is. inl (e ∙ is, t))
+      (at_word P line (codes "marks none") _ _ (λ is. inl (e ∙ is, t))
+      (at_word P line (codes "begin") _ _ (λ is. inl (e ∙ is, t))
+      (at_word P line (codes "commit") _ _ (λ is. inl (e ∙ is, t))
+      (at_word P line (codes "cancel") _ _ (λ is. inl (e ∙ is, t))
       (at_word P line (codes "faults") _ _ (λ is. inl (e ∙ is, t))
       (at_word P line (codes "work") _ _ (λ is. inl (e ∙ is, t))
-      (at_word P line (codes "quit") _ _ (λ is. inl (e ∙ is, t)) (inr refl)))))))
+      (at_word P line (codes "quit") _ _ (λ is. inl (e ∙ is, t)) (inr refl))))))))))))
     where
       P : Request → Type 0
       P r = IsRowOrBad c r
@@ -166,6 +176,11 @@ module _ (c : Command) where
   row_asks (Create file) h = h
   row_asks (Discard file) h = h
   row_asks (Show file) h = h
+  row_asks MarksFull h = h
+  row_asks MarksNone h = h
+  row_asks Begin h = h
+  row_asks Commit h = h
+  row_asks Cancel h = h
   row_asks Faults h = h
   row_asks Work h = h
   row_asks Quit h = h
@@ -184,6 +199,11 @@ module _ (c : Command) where
   asks_row (Create file) h = inl h
   asks_row (Discard file) h = inl h
   asks_row (Show file) h = inl h
+  asks_row MarksFull h = inl h
+  asks_row MarksNone h = inl h
+  asks_row Begin h = inl h
+  asks_row Commit h = inl h
+  asks_row Cancel h = inl h
   asks_row Faults h = inl h
   asks_row Work h = inl h
   asks_row Quit h = inl h

@@ -17,6 +17,13 @@ pub data Request : Type 0 where
   Create : (file : List ℕ) → Request
   Discard : (file : List ℕ) → Request
   Show : (file : List ℕ) → Request
+  -- line marks are to be written in full, or as line feeds alone
+  MarksFull : Request
+  MarksNone : Request
+  -- a list of edits is to be open, made whole, or dropped
+  Begin : Request
+  Commit : Request
+  Cancel : Request
   Faults : Request
   Work : Request
   Quit : Request
@@ -30,6 +37,11 @@ asked (variant.Remove at file) = Remove at file.now
 asked (variant.Create file) = Create file.now
 asked (variant.Discard file) = Discard file.now
 asked (variant.Show file) = Show file.now
+asked variant.MarksFull = MarksFull
+asked variant.MarksNone = MarksNone
+asked variant.Begin = Begin
+asked variant.Commit = Commit
+asked variant.Cancel = Cancel
 asked variant.Faults = Faults
 asked variant.Work = Work
 asked variant.Quit = Quit
@@ -57,10 +69,15 @@ abbrev pub numbered : (ℕ → List ℕ → Request) → Option (ℕ × List ℕ
 numbered request None = BadCommand
 numbered request (Some p) = request p.0 p.1
 
--- a line that is one word
+-- a line that is one of these words
 abbrev pub bare_request : List ℕ → Request
 bare_request line =
-    if bytes_eq line (codes "faults") then Faults
+    if bytes_eq line (codes "marks full") then MarksFull
+    else if bytes_eq line (codes "marks none") then MarksNone
+    else if bytes_eq line (codes "begin") then Begin
+    else if bytes_eq line (codes "commit") then Commit
+    else if bytes_eq line (codes "cancel") then Cancel
+    else if bytes_eq line (codes "faults") then Faults
     else if bytes_eq line (codes "work") then Work
     else if bytes_eq line (codes "quit") then Quit
     else BadCommand
@@ -101,4 +118,6 @@ is_edit (Replace at file text) = true
 is_edit (Remove at file) = true
 is_edit (Create file) = true
 is_edit (Discard file) = true
+is_edit MarksFull = true
+is_edit MarksNone = true
 is_edit _ = false

@@ -2,7 +2,7 @@
 use Rattle.std.specs.Prelude.{◌≡◌, ◌<◌, ◌≤◌, ℕ, ◌+◌, ◌-◌, ◌*◌, ◌&&◌, Bool, true, nat_le, List, [], ◌∷◌, ◌++◌, codes, length, None, Some}
 use Rattle.std.specs.List.{list_all}
 use Rattle.tangle_script.specs.Requests.{Command, Request, request_of}
-use Rattle.tangle_script.specs.Requests.Request.{Insert, Replace, Remove, Create, Discard, Show, Faults, Work, Quit, BadCommand}
+use Rattle.tangle_script.specs.Requests.Request.{Insert, Replace, Remove, Create, Discard, Show, MarksFull, MarksNone, Begin, Commit, Cancel, Faults, Work, Quit, BadCommand}
 
 abbrev pub is_digit : ℕ → Bool
 is_digit b = nat_le 48 b && nat_le b 57
@@ -33,6 +33,11 @@ IsRow c (Remove at file) = IsNumbered (codes "remove ") at file c.line × (c.tex
 IsRow c (Create file) = (c.line ≡ codes "create " ++ file) × (c.text ≡ None)
 IsRow c (Discard file) = (c.line ≡ codes "discard " ++ file) × (c.text ≡ None)
 IsRow c (Show file) = (c.line ≡ codes "show " ++ file) × (c.text ≡ None)
+IsRow c MarksFull = (c.line ≡ codes "marks full") × (c.text ≡ None)
+IsRow c MarksNone = (c.line ≡ codes "marks none") × (c.text ≡ None)
+IsRow c Begin = (c.line ≡ codes "begin") × (c.text ≡ None)
+IsRow c Commit = (c.line ≡ codes "commit") × (c.text ≡ None)
+IsRow c Cancel = (c.line ≡ codes "cancel") × (c.text ≡ None)
 IsRow c Faults = (c.line ≡ codes "faults") × (c.text ≡ None)
 IsRow c Work = (c.line ≡ codes "work") × (c.text ≡ None)
 IsRow c Quit = (c.line ≡ codes "quit") × (c.text ≡ None)

@@ -34,26 +34,27 @@ fn is_no_command(line: &[u8], text: Option<&[u8]>) -> bool
 fn answer_line<P: Project, S: Sink>(
     alloc: Global,
     held: &mut P::Held,
+    draft: &mut P::Draft,
     line: &[u8],
     text: Option<&[u8]>,
     sink: &mut S,
 ) -> Result<bool, SinkFailed>
     ensures told { IfOk result (λ _. IsTold P.answers
-        (telling (P.state held.old) (S.stream sink.old))
-        (telling (P.state held.new) (S.stream sink.new))
+        (telling (P.state held.old draft.old) (S.stream sink.old))
+        (telling (P.state held.new draft.new) (S.stream sink.new))
         (found_commands line.now (option_copied text.entry))) }
     ensures quit { IfOk result (λ quit.
         has_quit (found_commands line.now (option_copied text.entry)) ≡ quit) }
     ensures cut { IfErr result (λ _. IsCut P.answers
-        (telling (P.state held.old) (S.stream sink.old))
-        (telling (P.state held.new) (S.stream sink.new))
+        (telling (P.state held.old draft.old) (S.stream sink.old))
+        (telling (P.state held.new draft.new) (S.stream sink.new))
         (found_commands line.now (option_copied text.entry))) }
 {
     if is_no_command(line, text) {
         return Ok(false);
     }
     let request = parse(line, text);
-    match P::answer(alloc, held, &request, sink) {
+    match P::answer(alloc, held, draft, &request, sink) {
         Ok(_) => Ok(request.is_quit()),
         Err(fault) => Err(fault),
     }
@@ -63,24 +64,25 @@ fn answer_line<P: Project, S: Sink>(
 pub fn answer_all<P: Project, S: Sink>(
     alloc: Global,
     held: &mut P::Held,
+    draft: &mut P::Draft,
     bytes: &[u8],
     sink: &mut S,
 ) -> Result<usize, End>
     ensures told { IfOk result (λ _. IsTold P.answers
-        (telling (P.state held.old) (S.stream sink.old))
-        (telling (P.state held.new) (S.stream sink.new))
+        (telling (P.state held.old draft.old) (S.stream sink.old))
+        (telling (P.state held.new draft.new) (S.stream sink.new))
         (ended_commands bytes.now)) }
     ensures unquit { IfOk result (λ _. has_quit (ended_commands bytes.now) ≡ false) }
     ensures used { IfOk result (λ used.
         (kept bytes.now ≡ drop used bytes.now) × (used ≤ length bytes.now)) }
     ensures breaks { IfErr result (λ end. Breaks P.answers end
-        (telling (P.state held.old) (S.stream sink.old))
-        (telling (P.state held.new) (S.stream sink.new))
+        (telling (P.state held.old draft.old) (S.stream sink.old))
+        (telling (P.state held.new draft.new) (S.stream sink.new))
         (ended_commands bytes.now)) }
 {
     let mut rest = bytes;
     while let Some(found) = first_command(rest) {
-        match answer_line::<P, S>(alloc, held, found.line, found.text, sink) {
+        match answer_line::<P, S>(alloc, held, draft, found.line, found.text, sink) {
             Err(_) => return Err(End::Failed),
             Ok(true) => return Err(End::Done),
             Ok(false) => {}
@@ -94,21 +96,22 @@ pub fn answer_all<P: Project, S: Sink>(
 pub fn answer_last<P: Project, S: Sink>(
     alloc: Global,
     held: &mut P::Held,
+    draft: &mut P::Draft,
     bytes: &[u8],
     sink: &mut S,
 ) -> Result<(), End>
     requires { OnlyWaits bytes.now }
     ensures told { IfOk result (λ _. IsTold P.answers
-        (telling (P.state held.old) (S.stream sink.old))
-        (telling (P.state held.new) (S.stream sink.new))
+        (telling (P.state held.old draft.old) (S.stream sink.old))
+        (telling (P.state held.new draft.new) (S.stream sink.new))
         (all_commands bytes.now)) }
     ensures cut { IfErr result (λ end. (end ≡ Failed) × IsCut P.answers
-        (telling (P.state held.old) (S.stream sink.old))
-        (telling (P.state held.new) (S.stream sink.new))
+        (telling (P.state held.old draft.old) (S.stream sink.old))
+        (telling (P.state held.new draft.new) (S.stream sink.new))
         (all_commands bytes.now)) }
 {
     let (line, text) = last_parts(bytes);
-    match answer_line::<P, S>(alloc, held, line, text, sink) {
+    match answer_line::<P, S>(alloc, held, draft, line, text, sink) {
         Ok(_) => Ok(()),
         Err(_) => Err(End::Failed),
     }

@@ -16,11 +16,14 @@ pub trait Project {
     /// What changes as edits are made.
     type Held;
 
+    /// What a run keeps besides, and drops at its end: the list of edits that is open, if one is.
+    type Draft;
+
     // What can be asked of it.
     ghost State: { Type 0 };
 
     // The same, of this one.
-    ghost state: { Self.Held → State };
+    ghost state: { Self.Held → Self.Draft → State };
 
     // This text answers the request in the one state, and the other state comes after it.
     ghost answers: { State → Request → List ℕ → State → Type 0 };
@@ -36,12 +39,13 @@ pub trait Project {
     fn answer<S: Sink>(
         alloc: Global,
         held: &mut Self::Held,
+        draft: &mut Self::Draft,
         request: &Request<'_>,
         sink: &mut S,
     ) -> Result<(), SinkFailed>
-        ensures { (text : List ℕ) × Replies answers (state held.old) (asked request.now) text (state held.new) × WritesText (S.stream sink.old) (S.stream sink.new) text result };
+        ensures { (text : List ℕ) × Replies answers (state held.old draft.old) (asked request.now) text (state held.new draft.new) × WritesText (S.stream sink.old) (S.stream sink.new) text result };
 
     /// Whether an error is among the faults.
     fn has_error(held: &Self::Held) -> bool
-        ensures { has_error (state held.now) result };
+        ensures { (draft : Self.Draft) → has_error (state held.now draft) result };
 }

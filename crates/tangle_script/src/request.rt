@@ -36,6 +36,16 @@ pub enum Request<'a> {
     Show {
         file: &'a [u8],
     },
+    /// Line marks are to be written in full from here on.
+    MarksFull,
+    /// They are to be written as line feeds alone.
+    MarksNone,
+    /// A list of edits is to be open: edits are held until it is made whole, or dropped.
+    Begin,
+    /// The edits of the list are to be made, all or none.
+    Commit,
+    /// The list is to be dropped.
+    Cancel,
     /// The faults are to be told.
     Faults,
     /// The last work is to be told.
@@ -82,6 +92,21 @@ fn number_before(rest: &[u8]) -> Option<(u32, &[u8])>
 fn bare<'a>(line: &'a [u8]) -> Request<'a>
     ensures { asked result ≡ bare_request line.now }
 {
+    if line == b"marks full".as_slice() {
+        return Request::MarksFull;
+    }
+    if line == b"marks none".as_slice() {
+        return Request::MarksNone;
+    }
+    if line == b"begin".as_slice() {
+        return Request::Begin;
+    }
+    if line == b"commit".as_slice() {
+        return Request::Commit;
+    }
+    if line == b"cancel".as_slice() {
+        return Request::Cancel;
+    }
     if line == b"faults".as_slice() {
         return Request::Faults;
     }

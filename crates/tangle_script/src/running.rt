@@ -24,6 +24,7 @@ pub const SCRIPT_LIMIT: usize = 67_108_864;
 fn hear<P: Project, S: Sink>(
     alloc: Global,
     held: &mut P::Held,
+    draft: &mut P::Draft,
     chunk: &[u8],
     pending: &mut Vec<u8>,
     sink: &mut S,
@@ -32,19 +33,19 @@ fn hear<P: Project, S: Sink>(
     requires room { 0 < vec_len pending.old → vec_len pending.old + 4096 ≤ vec_capacity pending.old }
     requires short { length chunk.now ≤ 4096 }
     ensures told { IfOk result (λ _. IsTold P.answers
-        (telling (P.state held.old) (S.stream sink.old))
-        (telling (P.state held.new) (S.stream sink.new))
+        (telling (P.state held.old draft.old) (S.stream sink.old))
+        (telling (P.state held.new draft.new) (S.stream sink.new))
         (ended_commands (pending.old.items ++ chunk.now))) }
     ensures unquit { OnOk result (has_quit (ended_commands (pending.old.items ++ chunk.now)) ≡ false) }
     ensures kept { OnOk result (pending.new.items ≡ kept (pending.old.items ++ chunk.now)) }
     ensures room { OnOk result (0 < vec_len pending.new → vec_len pending.new + 4096 ≤ vec_capacity pending.new) }
     ensures stops { IfErr result (λ end. Stops P.answers end
-        (telling (P.state held.old) (S.stream sink.old))
-        (telling (P.state held.new) (S.stream sink.new))
+        (telling (P.state held.old draft.old) (S.stream sink.old))
+        (telling (P.state held.new draft.new) (S.stream sink.new))
         (pending.old.items ++ chunk.now)) }
 {
     if pending.is_empty() {
-        let used = answer_all::<P, S>(alloc, held, chunk, sink)?;
+        let used = answer_all::<P, S>(alloc, held, draft, chunk, sink)?;
         return keep(pending, &chunk[used..]);
     }
     append(pending, chunk);
@@ -54,7 +55,7 @@ fn hear<P: Project, S: Sink>(
         }
         return Ok(());
     }
-    let used = answer_all::<P, S>(alloc, held, pending.as_slice(), sink)?;
+    let used = answer_all::<P, S>(alloc, held, draft, pending.as_slice(), sink)?;
     keep_rest(pending, used)
 }
 
@@ -74,6 +75,7 @@ fn fill_front<R: Feed>(feed: &mut R, room: &mut [u8], size: usize) -> Option<usi
 fn turn<P: Project, R: Feed, S: Sink>(
     alloc: Global,
     held: &mut P::Held,
+    draft: &mut P::Draft,
     feed: &mut R,
     room: &mut [u8],
     size: usize,
@@ -87,21 +89,21 @@ fn turn<P: Project, R: Feed, S: Sink>(
     requires room { 0 < vec_len pending.old → vec_len pending.old + 4096 ≤ vec_capacity pending.old }
     ensures ends { (old : Talk P.State) (count : ℕ) → count + size ≤ script_limit
         → Holds P.answers old
-        (talk (P.state held.old) (S.stream sink.old) (R.coming feed.old) (R.failures feed.old))
+        (talk (P.state held.old draft.old) (S.stream sink.old) (R.coming feed.old) (R.failures feed.old))
         pending.old.items count
         → MatchResult result
         (λ n. Holds P.answers old
-        (talk (P.state held.new) (S.stream sink.new) (R.coming feed.new) (R.failures feed.new))
+        (talk (P.state held.new draft.new) (S.stream sink.new) (R.coming feed.new) (R.failures feed.new))
         pending.new.items (count + n))
         (λ end. EndsBy P.answers P.has_error end old
-        (talk (P.state held.new) (S.stream sink.new) (R.coming feed.new) (R.failures feed.new))) }
+        (talk (P.state held.new draft.new) (S.stream sink.new) (R.coming feed.new) (R.failures feed.new))) }
     ensures end { IfOk result (λ n. n ≡ 0 → IsAtEnd (R.coming feed.new)) }
     ensures within { IfOk result (λ n. n ≤ size) }
     ensures room { OnOk result (0 < vec_len pending.new → vec_len pending.new + 4096 ≤ vec_capacity pending.new) }
 {
     match fill_front(feed, room, size) {
         None => Err(End::Failed),
-        Some(count) => match hear::<P, S>(alloc, held, &room[..count], pending, sink) {
+        Some(count) => match hear::<P, S>(alloc, held, draft, &room[..count], pending, sink) {
             Ok(()) => Ok(count),
             Err(end) => Err(end),
         },
@@ -122,6 +124,7 @@ fn ends_here<R: Feed>(feed: &mut R) -> Option<bool>
 fn end_full<P: Project, R: Feed, S: Sink>(
     alloc: Global,
     held: &mut P::Held,
+    draft: &mut P::Draft,
     feed: &mut R,
     pending: &[u8],
     sink: &mut S,
@@ -129,18 +132,18 @@ fn end_full<P: Project, R: Feed, S: Sink>(
     requires { OnlyWaits pending.now }
     ensures { (old : Talk P.State) (count : ℕ) → count ≡ script_limit
         → Holds P.answers old
-        (talk (P.state held.old) (S.stream sink.old) (R.coming feed.old) (R.failures feed.old))
+        (talk (P.state held.old draft.old) (S.stream sink.old) (R.coming feed.old) (R.failures feed.old))
         pending.now count
         → MatchResult result
         (λ _. EndsAnswered P.answers P.has_error old
-        (talk (P.state held.new) (S.stream sink.new) (R.coming feed.new) (R.failures feed.new)))
+        (talk (P.state held.new draft.new) (S.stream sink.new) (R.coming feed.new) (R.failures feed.new)))
         (λ end. EndsBy P.answers P.has_error end old
-        (talk (P.state held.new) (S.stream sink.new) (R.coming feed.new) (R.failures feed.new))) }
+        (talk (P.state held.new draft.new) (S.stream sink.new) (R.coming feed.new) (R.failures feed.new))) }
 {
     match ends_here(feed) {
         None => Err(End::Failed),
         Some(false) => Err(End::Failed),
-        Some(true) => answer_last::<P, S>(alloc, held, pending, sink),
+        Some(true) => answer_last::<P, S>(alloc, held, draft, pending, sink),
     }
 }
 
@@ -148,37 +151,38 @@ fn end_full<P: Project, R: Feed, S: Sink>(
 fn read_script<P: Project, R: Feed, S: Sink>(
     alloc: Global,
     held: &mut P::Held,
+    draft: &mut P::Draft,
     feed: &mut R,
     sink: &mut S,
 ) -> Result<(), End>
     ensures { MatchResult result
         (λ _. EndsAnswered P.answers P.has_error
-        (talk (P.state held.old) (S.stream sink.old) (R.coming feed.old) (R.failures feed.old))
-        (talk (P.state held.new) (S.stream sink.new) (R.coming feed.new) (R.failures feed.new)))
+        (talk (P.state held.old draft.old) (S.stream sink.old) (R.coming feed.old) (R.failures feed.old))
+        (talk (P.state held.new draft.new) (S.stream sink.new) (R.coming feed.new) (R.failures feed.new)))
         (λ end. EndsBy P.answers P.has_error end
-        (talk (P.state held.old) (S.stream sink.old) (R.coming feed.old) (R.failures feed.old))
-        (talk (P.state held.new) (S.stream sink.new) (R.coming feed.new) (R.failures feed.new))) }
+        (talk (P.state held.old draft.old) (S.stream sink.old) (R.coming feed.old) (R.failures feed.old))
+        (talk (P.state held.new draft.new) (S.stream sink.new) (R.coming feed.new) (R.failures feed.new))) }
 {
     let mut room = [0u8; CHUNK];
     let mut pending = Vec::new(alloc);
     let mut count = 0;
     while count < SCRIPT_LIMIT {
         let size = CHUNK.min(SCRIPT_LIMIT - count);
-        match turn::<P, R, S>(alloc, held, feed, &mut room, size, &mut pending, sink) {
+        match turn::<P, R, S>(alloc, held, draft, feed, &mut room, size, &mut pending, sink) {
             Err(end) => return Err(end),
             Ok(given) => {
                 if given == 0 {
-                    return answer_last::<P, S>(alloc, held, pending.as_slice(), sink);
+                    return answer_last::<P, S>(alloc, held, draft, pending.as_slice(), sink);
                 }
                 count += given;
             }
         }
     }
-    end_full::<P, R, S>(alloc, held, feed, pending.as_slice(), sink)
+    end_full::<P, R, S>(alloc, held, draft, feed, pending.as_slice(), sink)
 }
 
 fn status_at_end<P: Project>(held: &P::Held) -> u8
-    ensures { IsStatus P.has_error (P.state held.now) result }
+    ensures { (draft : P.Draft) → IsStatus P.has_error (P.state held.now draft) result }
 {
     if P::has_error(held) { 1 } else { 0 }
 }
@@ -188,15 +192,16 @@ fn status_at_end<P: Project>(held: &P::Held) -> u8
 pub fn run_script<P: Project, R: Feed, S: Sink>(
     alloc: Global,
     held: &mut P::Held,
+    draft: &mut P::Draft,
     feed: &mut R,
     sink: &mut S,
 ) -> u8
     ensures { TalkEnds P.answers P.has_error
-        (talk (P.state held.old) (S.stream sink.old) (R.coming feed.old) (R.failures feed.old))
-        (talk (P.state held.new) (S.stream sink.new) (R.coming feed.new) (R.failures feed.new))
+        (talk (P.state held.old draft.old) (S.stream sink.old) (R.coming feed.old) (R.failures feed.old))
+        (talk (P.state held.new draft.new) (S.stream sink.new) (R.coming feed.new) (R.failures feed.new))
         result }
 {
-    match read_script::<P, R, S>(alloc, held, feed, sink) {
+    match read_script::<P, R, S>(alloc, held, draft, feed, sink) {
         Ok(()) => status_at_end::<P>(held),
         Err(End::Done) => status_at_end::<P>(held),
         Err(End::Failed) => 3,

@@ -9,7 +9,7 @@ use Rattle.std.proofs.lemmas.Slice.Eq.{bytes_eq-Decides}
 use Rattle.tangle_files.specs.Edited.{edited, with_lines_changed}
 use Rattle.tangle_files.specs.Edits.{edit_refusal, or_else, refusal_if}
 use Rattle.tangle_files.specs.Lines.{FileTable, lines_of}
-use Rattle.tangle_files.specs.Roles.{RoleNames, fits, is_there, is_there_if_any}
+use Rattle.tangle_files.specs.Roles.{RolesRead, fits, is_there, is_there_if_any}
 use Rattle.tangle_files.specs.declared.edits.Edit.{Edit}
 use Rattle.tangle_files.specs.declared.edits.Edit.TheVariants.{Insert, Remove, Replace, Create, Discard}
 use Rattle.tangle_files.specs.declared.refusal.Refusal.{Refusal}
@@ -105,10 +105,10 @@ lines_stay files (Discard file) other h s = kept_apart files file.items other s 
 stays_there : (files : FileTable) (edit : Edit) (other : List ℕ) → is_there files other ≡ true → Spares edit other → is_there (edited files edit) other ≡ true
 stays_there files edit other h s = sym (there_is (edited files edit) other) ∙ lines_stay files edit other (there_is files other ∙ h) s
 
-abbrev SparesRoles : Edit → RoleNames → Type 0
+abbrev SparesRoles : Edit → RolesRead → Type 0
 SparesRoles edit roles = Spares edit roles.web × ((name : List ℕ) → roles.change ≡ Some name → Spares edit name)
 
-spares_roles : (roles : RoleNames) (edit : Edit) → None ≡ role_refusal roles edit → SparesRoles edit roles
+spares_roles : (roles : RolesRead) (edit : Edit) → None ≡ role_refusal roles edit → SparesRoles edit roles
 spares_roles roles (Insert file at text) h = (tt, λ name e. tt)
 spares_roles roles (Remove file at) h = (tt, λ name e. tt)
 spares_roles roles (Replace file at text) h = (tt, λ name e. tt)
@@ -122,7 +122,7 @@ any_stays : (files : FileTable) (edit : Edit) (o : Option (List ℕ)) → is_the
 any_stays files edit None h s = refl
 any_stays files edit (Some name) h s = stays_there files edit name h (s name refl)
 
-pub fits_edited : (files : FileTable) (roles : RoleNames) (edit : Edit) → fits files roles ≡ true → None ≡ session_refusal files roles edit → fits (edited files edit) roles ≡ true
+pub fits_edited : (files : FileTable) (roles : RolesRead) (edit : Edit) → fits files roles ≡ true → None ≡ session_refusal files roles edit → fits (edited files edit) roles ≡ true
 fits_edited files roles edit h none =
     let parts = and_parts (is_there files roles.web) (is_there_if_any files roles.change) h in
     let spared = spares_roles roles edit (both_none (edit_refusal files edit) (role_refusal roles edit) none).1 in
@@ -130,7 +130,7 @@ fits_edited files roles edit h none =
     (stays_there files edit roles.web parts.0 spared.0) (any_stays files edit roles.change parts.1 spared.1)
 
 -- the files refuse no edit that the session doesn't
-pub files_take : (files : FileTable) (roles : RoleNames) (edit : Edit) → None ≡ session_refusal files roles edit → None ≡ edit_refusal files edit
+pub files_take : (files : FileTable) (roles : RolesRead) (edit : Edit) → None ≡ session_refusal files roles edit → None ≡ edit_refusal files edit
 files_take files roles edit none = (both_none (edit_refusal files edit) (role_refusal roles edit) none).0
 
 -- where nothing refuses, what holds of a refusal holds

@@ -3,7 +3,7 @@ use Rattle.std.proofs.Common.{◌≡◌, ◌∙◌, ◌++◌, ℕ, List, [], ap,
 use Rattle.tangle_lines.specs.Faults.{Finding}
 use Rattle.tangle_files.specs.Lines.{FileTable}
 use Rattle.tangle_lines.specs.Reading.{SourceRead, source_of}
-use Rattle.tangle_files.specs.Roles.{RoleNames}
+use Rattle.tangle_files.specs.Roles.{RolesRead}
 use Rattle.tangle_scan.specs.LineTruth.{PiecesStandAtTheirLines}
 use Rattle.tangle_scan.specs.Web.{WebRead, web_of}
 use Rattle.tangle_names.specs.NameTable.{table_of}
@@ -40,15 +40,15 @@ pub faults_joined : (s w t g a b c : List Finding) → a ≡ s ++ w → b ≡ a 
 faults_joined s w t g a b c first second third =
     third ∙ ap (λ l. l ++ g) (second ∙ ap (λ l. l ++ t) first) ∙ append_assoc (s ++ w) t g ∙ append_assoc s w (t ++ g)
 
-pub at_source : (files : FileTable) (roles : RoleNames) (source : SourceRead) → source ≡ source_of files roles → source ≡ source_at files roles
+pub at_source : (files : FileTable) (roles : RolesRead) (source : SourceRead) → source ≡ source_of files roles → source ≡ source_at files roles
 unfolding source_at
 at_source files roles source e = e
 
-pub at_web : (files : FileTable) (roles : RoleNames) (source : SourceRead) (web : WebRead) → source ≡ source_of files roles → web ≡ web_of source → web ≡ web_at files roles
+pub at_web : (files : FileTable) (roles : RolesRead) (source : SourceRead) (web : WebRead) → source ≡ source_of files roles → web ≡ web_of source → web ≡ web_at files roles
 unfolding web_at
 at_web files roles source web e is = is ∙ ap web_of (at_source files roles source e)
 
-module _ (files : FileTable) (roles : RoleNames) (source : SourceRead) (web : WebRead) (out : List ℕ) (before after : Ground)
+module _ (files : FileTable) (roles : RolesRead) (source : SourceRead) (web : WebRead) (out : List ℕ) (before after : Ground)
     (source_is : source ≡ source_of files roles) (web_is : web ≡ web_of source) (out_is : out ≡ roles.out)
     (names : before.table.names ≡ (table_of web).names) (store : IsStoreOf (project_of web) before.store) (store_names : before.store.names ≡ (table_of web).names)
     (files_are : before.store.outputs ≡ outputs web (table_of web) out) (numbers : before.numbers ≡ numbers_of web (table_of web))

@@ -4,7 +4,7 @@ use Rattle.std.specs.Prelude.{Option, None, Some, Ok, Err, Result, option_map, u
 use Rattle.tangle_streams.specs.Streams.{Stream}
 use Rattle.tangle_files.specs.Edited.{edited}
 use Rattle.tangle_files.specs.Lines.{FileTable}
-use Rattle.tangle_files.specs.Roles.{RoleNames}
+use Rattle.tangle_files.specs.Roles.{RolesRead}
 use Rattle.tangle_files.specs.declared.edits.Edit.{Edit}
 use Rattle.tangle_files.specs.declared.refusal.Refusal.{Refusal}
 use Rattle.tangle_files.specs.declared.refusal.Refusal.TheVariants.{NoMemory}
@@ -36,7 +36,7 @@ edited_more : (files : FileTable) (edits : List Edit) (edit : Edit) → edited_a
 edited_more files [] edit = refl
 edited_more files (e ∷ edits) edit = edited_more (edited files e) edits edit
 
-expanded_more : (files : FileTable) (roles : RoleNames) (edits : List Edit) (edit : Edit) (nodes : List Node)
+expanded_more : (files : FileTable) (roles : RolesRead) (edits : List Edit) (edit : Edit) (nodes : List Node)
     → ListsAffected (web_at (edited_all files edits) roles) (web_at (edited (edited_all files edits) edit) roles) nodes → ListsLastExpanded files roles (edits ++ edit ∷ []) nodes
 expanded_more files roles [] edit nodes h = h
 expanded_more files roles (e ∷ []) edit nodes h = h
@@ -50,12 +50,12 @@ zip_more (a ∷ xs) (b ∷ ys) x y e = ap (λ l. (a, b) ∷ l) (zip_more xs ys x
 
 -- what a history leaves
 
-pub record Stands (files : FileTable) (roles : RoleNames) (edits : List Edit) (session : SessionRead) : Type 0 where
+pub record Stands (files : FileTable) (roles : RolesRead) (edits : List Edit) (session : SessionRead) : Type 0 where
   pub files_are : session.files ≡ edited_all files edits
   pub roles_are : session.roles ≡ roles
   pub expanded : ListsLastExpanded files roles edits session.work
 
-stands_edited : (files : FileTable) (roles : RoleNames) (calls : List Call) (before after : SessionRead) (edit : Edit) (answer : Result (Unit {0}) Refusal)
+stands_edited : (files : FileTable) (roles : RolesRead) (calls : List Call) (before after : SessionRead) (edit : Edit) (answer : Result (Unit {0}) Refusal)
     → Stands files roles (accepted calls) before → IsAnswered before edit answer after → Stands files roles (accepted (calls ++ (edit, answer) ∷ [])) after
 stands_edited files roles calls before after edit (Ok done) stands is =
     let now : after.files ≡ edited (edited_all files (accepted calls)) edit = is.1 ∙ ap (λ fs. edited fs edit) stands.files_are in
@@ -72,7 +72,7 @@ stands_edited files roles calls before after edit (Ok done) stands is =
 stands_edited files roles calls before after edit (Err refusal) stands is =
     subst (λ edits. Stands files roles edits after) (sym (accepted_none edit refusal calls)) (subst (λ s. Stands files roles (accepted calls) s) (sym is.1) stands)
 
-pub stands : {files : FileTable} {roles : RoleNames} {calls : List Call} {session : SessionRead} → History files roles calls session → Stands files roles (accepted calls) session
+pub stands : {files : FileTable} {roles : RolesRead} {calls : List Call} {session : SessionRead} → History files roles calls session → Stands files roles (accepted calls) session
 stands {files = files} {roles = roles} (Started {session = session} none same_files same_roles work) = record { files_are = same_files; roles_are = same_roles; expanded = work }
 stands {files = files} {roles = roles} (Edited {calls = calls} {after = after} before edit answer history is) =
     stands_edited files roles calls before after edit answer (stands history) is
@@ -108,15 +108,15 @@ not_refused (Some refusal) give r a is h = absurd (cc)
 
 -- what is shown
 
-read_at : (files : FileTable) (roles : RoleNames) → source_at files roles ≡ source_of files roles
+read_at : (files : FileTable) (roles : RolesRead) → source_at files roles ≡ source_of files roles
 unfolding source_at
 read_at files roles = refl
 
-scanned_at : (files : FileTable) (roles : RoleNames) → web_at files roles ≡ web_of (source_at files roles)
+scanned_at : (files : FileTable) (roles : RolesRead) → web_at files roles ≡ web_of (source_at files roles)
 unfolding web_at
 scanned_at files roles = refl
 
-abbrev plain_at : (files : FileTable) (roles : RoleNames) (faults : List _) → AreFaultsOf files roles faults → IsPlainTangling files roles (outputs_of files roles) faults
+abbrev plain_at : (files : FileTable) (roles : RolesRead) (faults : List _) → AreFaultsOf files roles faults → IsPlainTangling files roles (outputs_of files roles) faults
 plain_at files roles faults are = record {
   source = source_at files roles;
   reading = read_at files roles;
@@ -156,13 +156,13 @@ module _ (name : List ℕ) (old new : Stream) (shown : Shown) where
     cycles = answers.cycles;
   }
 
-  pub shows : (s : SessionRead) → Answers s → (files : FileTable) (roles : RoleNames) (calls : List Call) → History files roles calls s
+  pub shows : (s : SessionRead) → Answers s → (files : FileTable) (roles : RolesRead) (calls : List Call) → History files roles calls s
       → ShowsPlainTangling (edited_all files (accepted calls)) roles name old new shown
   shows s answers files roles calls history =
       let at = stands history in
       subst (λ rs. ShowsPlainTangling (edited_all files (accepted calls)) rs name old new shown) at.roles_are
       (subst (λ fs. ShowsPlainTangling fs s.roles name old new shown) at.files_are (shows_now s answers))
 
-  pub shows_work : (s : SessionRead) → shown.work ≡ length s.work → (files : FileTable) (roles : RoleNames) (calls : List Call) → History files roles calls s
+  pub shows_work : (s : SessionRead) → shown.work ≡ length s.work → (files : FileTable) (roles : RolesRead) (calls : List Call) → History files roles calls s
       → ShowsLastWork files roles (accepted calls) shown
   shows_work s counted files roles calls history = record { nodes = s.work; expanded = (stands history).expanded; counted = counted }

@@ -9,7 +9,7 @@ use Rattle.std.proofs.lemmas.List.FromFn.{length-range_with_len, get_or-range_wi
 use Rattle.tangle_lines.specs.Faults.{Finding, fault_about}
 use Rattle.tangle_files.specs.Lines.{FileTable}
 use Rattle.tangle_lines.specs.Reading.{SourceRead}
-use Rattle.tangle_files.specs.Roles.{RoleNames}
+use Rattle.tangle_files.specs.Roles.{RolesRead}
 use Rattle.tangle_lines.specs.declared.faults.FaultKind.TheVariants as kind
 use Rattle.tangle_lexer.specs.Occurrences.{OccurrenceRead}
 use Rattle.tangle_scan.specs.Web.{WebRead, PieceRead}
@@ -40,7 +40,7 @@ one_faults : AreOneList → (source : SourceRead) (web : WebRead) (out : List �
 one_faults law source web out a b x y =
     x.list ∙ ap (λ l. source.faults ++ (web.faults ++ ((table_of web).faults ++ l))) (law web (table_of web) out x.of_graph y.of_graph x.is_graph y.is_graph) ∙ sym y.list
 
-pub one_tangling : AreOneList → (files : FileTable) (roles : RoleNames) (a b : Tangling) → IsTanglingOf files roles a → IsTanglingOf files roles b → a ≡ b
+pub one_tangling : AreOneList → (files : FileTable) (roles : RolesRead) (a b : Tangling) → IsTanglingOf files roles a → IsTanglingOf files roles b → a ≡ b
 one_tangling law files roles a b x y =
     let faults : a.faults ≡ b.faults = one_faults law (source_at files roles) (web_at files roles) roles.out a.faults b.faults x.faults y.faults in
     let outputs : a.outputs ≡ b.outputs = x.outputs ∙ sym y.outputs in

@@ -12,7 +12,7 @@ use Rattle.std.proofs.lemmas.Map.Made.{IsDistinct-from_AllPairs}
 use Rattle.std.proofs.lemmas.Map.Views.{lookup-from_Contains}
 use Rattle.std.proofs.lemmas.Slice.Eq.{bytes_eq-Decides}
 use Rattle.tangle_files.specs.Lines.{FileTable}
-use Rattle.tangle_files.specs.Roles.{RoleNames}
+use Rattle.tangle_files.specs.Roles.{RolesRead}
 use Rattle.tangle_scan.specs.Web.{WebRead}
 use Rattle.tangle_names.specs.NameTable.{TableRead, table_of}
 use Rattle.tangle_expansion.specs.Outputs.{OutputRead}
@@ -99,6 +99,6 @@ names_distinct web resolves distinct out =
     subst (IsDistinct bytes_eq) (names_written web (outputs web (table_of web) out))
     (IsDistinct-from_AllPairs bytes_eq-Decides (map (λ o. o.name) (outputs web (table_of web) out)) (names_once web (table_of web) resolves distinct out))
 
-pub found_by_name : (files : FileTable) (roles : RoleNames) → IsDistinct bytes_eq (map (λ o. o.0) (outputs_of files roles)) → (name bytes : List ℕ) → Contains (outputs_of files roles) (name, bytes)
+pub found_by_name : (files : FileTable) (roles : RolesRead) → IsDistinct bytes_eq (map (λ o. o.0) (outputs_of files roles)) → (name bytes : List ℕ) → Contains (outputs_of files roles) (name, bytes)
     → output_at files roles name ≡ Some bytes
 found_by_name files roles distinct name bytes c = lookup-from_Contains nat_list_eq_equiv name bytes (outputs_of files roles) distinct c

@@ -8,7 +8,7 @@ use Rattle.std.specs.Prelude.{if◌then◌else◌, nat_lt, Option, Some, None, i
 use Rattle.tangle_streams.specs.Streams.{Stream, PutsOut}
 use Rattle.tangle_files.specs.Lines.{FileTable, lines_of}
 use Rattle.tangle_lines.specs.Reading.{SourceRead}
-use Rattle.tangle_files.specs.Roles.{RoleNames, is_there, is_there_if_any, fits}
+use Rattle.tangle_files.specs.Roles.{RolesRead, is_there, is_there_if_any, fits}
 use Rattle.tangle_files.specs.declared.refusal.Refusal.TheVariants.{NoWeb, NoChange}
 use Rattle.tangle_files.specs.declared.refusal.Refusal.TheVariants as refusal
 use Rattle.tangle_scan.specs.LineTruth.{PiecesStandAtTheirLines}
@@ -83,7 +83,7 @@ there_is (f ∷ files) name = by (bytes_eq name f.0) (there_is files name)
         e ∙ some_where (nat_lt n (length files)) n ∙ (let t : nat_lt n (length files) ≡ nat_lt (1 + n) (suc (length files)) = grind (arith, nat_tests) in t)
         ∙ sym (some_where (nat_lt (1 + n) (suc (length files))) (1 + n))
 
-pub no_refusal : (files : FileTable) (roles : RoleNames) → fits files roles ≡ true → None ≡ start_refusal files roles
+pub no_refusal : (files : FileTable) (roles : RolesRead) → fits files roles ≡ true → None ≡ start_refusal files roles
 no_refusal files roles e = by (is_there files roles.web) (is_there_if_any files roles.change) e
   where
     by : (a b : Bool) → (a && b) ≡ true → None ≡ (if a then (if b then None else Some NoChange) else Some NoWeb)
@@ -91,7 +91,7 @@ no_refusal files roles e = by (is_there files roles.web) (is_there_if_any files 
     by true false e = absurd (let no : false ≡ true = e in cc)
     by false b e = absurd (let no : false ≡ true = e in cc)
 
-pub no_change : (files : FileTable) (roles : RoleNames) → fits files roles ≡ false → is_some (lines_of files roles.web) ≡ true → Some NoChange ≡ start_refusal files roles
+pub no_change : (files : FileTable) (roles : RolesRead) → fits files roles ≡ false → is_some (lines_of files roles.web) ≡ true → Some NoChange ≡ start_refusal files roles
 no_change files roles e there = by (is_there files roles.web) (is_there_if_any files roles.change) e (sym (there_is files roles.web) ∙ there)
   where
     by : (a b : Bool) → (a && b) ≡ false → a ≡ true → Some NoChange ≡ (if a then (if b then None else Some NoChange) else Some NoWeb)
@@ -99,7 +99,7 @@ no_change files roles e there = by (is_there files roles.web) (is_there_if_any f
     by true false e t = refl
     by false b e t = absurd (let no : false ≡ true = t in cc)
 
-pub no_web : (files : FileTable) (roles : RoleNames) → is_some (lines_of files roles.web) ≡ false → Some NoWeb ≡ start_refusal files roles
+pub no_web : (files : FileTable) (roles : RolesRead) → is_some (lines_of files roles.web) ≡ false → Some NoWeb ≡ start_refusal files roles
 no_web files roles missing = by (is_there files roles.web) (sym (there_is files roles.web) ∙ missing)
   where
     by : (a : Bool) → a ≡ false → Some NoWeb ≡ (if a then (if is_there_if_any files roles.change then None else Some NoChange) else Some NoWeb)
@@ -107,7 +107,7 @@ no_web files roles missing = by (is_there files roles.web) (sym (there_is files 
     by false t = refl
 
 -- where there is none, the files fit the roles
-pub fit_to_start : (files : FileTable) (roles : RoleNames) → None ≡ start_refusal files roles → fits files roles ≡ true
+pub fit_to_start : (files : FileTable) (roles : RolesRead) → None ≡ start_refusal files roles → fits files roles ≡ true
 fit_to_start files roles e = by (is_there files roles.web) (is_there_if_any files roles.change) e
   where
     by : (a b : Bool) → None ≡ (if a then (if b then None else Some NoChange) else Some NoWeb) → (a && b) ≡ true
@@ -120,7 +120,7 @@ some_copied None = refl
 some_copied (Some x) = refl
 
 -- What is found by a name, where what is held is what the files make.
-module _ (files : FileTable) (roles : RoleNames) (tangled : Tangled) (hold : Holds files roles tangled) (name : List ℕ) where
+module _ (files : FileTable) (roles : RolesRead) (tangled : Tangled) (hold : Holds files roles tangled) (name : List ℕ) where
   abbrev named : OutputRead → Bool
   named o = bytes_eq name o.name
 

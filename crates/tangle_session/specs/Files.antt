@@ -1,7 +1,7 @@
 -- The web of files with roles, and the output files that a web has.
 use Rattle.std.specs.Prelude.{ℕ, List, map}
 use Rattle.tangle_files.specs.Lines.{FileTable}
-use Rattle.tangle_files.specs.Roles.{RoleNames}
+use Rattle.tangle_files.specs.Roles.{RolesRead}
 use Rattle.tangle_lines.specs.Reading.{SourceRead, source_of}
 use Rattle.tangle_scan.specs.Web.{WebRead, web_of}
 use Rattle.tangle_names.specs.NameTable.{table_of}
@@ -14,11 +14,11 @@ use Rattle.tangle_graph.specs.Nodes.{title_of_node}
 use Rattle.tangle_graph.specs.Outputs.{outputs}
 
 -- the source that is read from the files
-unfoldable pub source_at : FileTable → RoleNames → SourceRead
+unfoldable pub source_at : FileTable → RolesRead → SourceRead
 source_at files roles = source_of files roles
 
 -- the web that is scanned from it
-unfoldable pub web_at : FileTable → RoleNames → WebRead
+unfoldable pub web_at : FileTable → RolesRead → WebRead
 web_at files roles = web_of (source_at files roles)
 
 module _ (web : WebRead) where

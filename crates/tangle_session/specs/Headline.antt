@@ -21,7 +21,7 @@ use Rattle.std.specs.Str.{bytes_eq}
 use Rattle.tangle_streams.specs.Streams.{Stream}
 use Rattle.tangle_files.specs.Edited.{edited}
 use Rattle.tangle_files.specs.Lines.{FileTable}
-use Rattle.tangle_files.specs.Roles.{RoleNames}
+use Rattle.tangle_files.specs.Roles.{RolesRead}
 use Rattle.tangle_files.specs.declared.edits.Edit.{Edit}
 use Rattle.tangle_files.specs.declared.refusal.Refusal.{Refusal}
 use Rattle.tangle_files.specs.declared.refusal.Refusal.TheVariants.{NoMemory}
@@ -57,7 +57,7 @@ output_text web names output =
     (flat_of (project web names) (title_of_node names.names output.node))
 
 -- Each step is a function of what the steps before it gave, and of the roles; of nothing else.
-pub record IsPlainTangling (files : FileTable) (roles : RoleNames)
+pub record IsPlainTangling (files : FileTable) (roles : RolesRead)
     (output_files : List (List ℕ × List ℕ)) (faults : List Finding) : Type 0 where
   -- files to source: the lines of the web, with files included and the change file's changes made
   pub source : SourceRead
@@ -109,7 +109,7 @@ IsAnswered before edit (Err refusal) after =
 
 -- The session was started with these files and roles, which expanded each node that can be
 -- expanded; then the calls were made and answered, in this order.
-pub data History (files : FileTable) (roles : RoleNames) : List Call → SessionRead → Type 0 where
+pub data History (files : FileTable) (roles : RolesRead) : List Call → SessionRead → Type 0 where
   Started : {session : SessionRead} → start_refusal files roles ≡ None
       → session.files ≡ files → session.roles ≡ roles
       → ListsExpandable (web_at files roles) session.work
@@ -137,7 +137,7 @@ EachCycleIsReported web names faults =
 
 -- A session was asked everything, and for the output file of this name, whatever the name, with a
 -- writer that was in the state old and then in the state new.
-pub record ShowsPlainTangling (files : FileTable) (roles : RoleNames) (name : List ℕ)
+pub record ShowsPlainTangling (files : FileTable) (roles : RolesRead) (name : List ℕ)
     (old new : Stream) (shown : Shown) : Type 0 where
   pub files_are : shown.files.now ≡ files
   pub roles_are : shown.roles.now ≡ roles
@@ -159,7 +159,7 @@ pub record ShowsPlainTangling (files : FileTable) (roles : RoleNames) (name : Li
   pub cycles : EachCycleIsReported plain.web plain.names shown.faults.now
 
 -- the nodes that the last of these edits affected; without an edit, those that can be expanded
-abbrev pub ListsLastExpanded : FileTable → RoleNames → List Edit → List Node → Type 0
+abbrev pub ListsLastExpanded : FileTable → RolesRead → List Edit → List Node → Type 0
 ListsLastExpanded files roles [] nodes = ListsExpandable (web_at files roles) nodes
 ListsLastExpanded files roles (edit ∷ []) nodes =
     ListsAffected (web_at files roles) (web_at (edited files edit) roles) nodes
@@ -168,7 +168,7 @@ ListsLastExpanded files roles (edit ∷ next ∷ edits) nodes =
 
 -- The count that is shown is that of these nodes. Here the files are those of the start, and the
 -- edits those that were accepted.
-pub record ShowsLastWork (files : FileTable) (roles : RoleNames) (edits : List Edit)
+pub record ShowsLastWork (files : FileTable) (roles : RolesRead) (edits : List Edit)
     (shown : Shown) : Type 0 where
   pub nodes : List Node
   pub expanded : ListsLastExpanded files roles edits nodes

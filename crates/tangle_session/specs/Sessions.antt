@@ -1,7 +1,7 @@
 -- What a session shows, and what it holds besides.
 use Rattle.std.specs.Prelude.{◌≡◌, ◌≢◌, ◌↔◌, ℕ, true, List, None, Some, Option, AllPairs, Contains, if◌then◌else◌}
 use Rattle.tangle_files.specs.Lines.{FileTable}
-use Rattle.tangle_files.specs.Roles.{RoleNames, fits, is_there, is_there_if_any}
+use Rattle.tangle_files.specs.Roles.{RolesRead, fits, is_there, is_there_if_any}
 use Rattle.tangle_lines.specs.Reading.{SourceRead}
 use Rattle.tangle_files.specs.declared.refusal.Refusal.{Refusal}
 use Rattle.tangle_files.specs.declared.refusal.Refusal.TheVariants.{NoWeb, NoChange}
@@ -24,11 +24,11 @@ use Rattle.tangle_session.specs.declared.tangling.Tangled.{Tangled}
 -- the files, the roles, and the nodes that were expanded in the start or in the last accepted edit
 pub record SessionRead : Type 0 where
   pub files : FileTable
-  pub roles : RoleNames
+  pub roles : RolesRead
   pub work : List Node
 
 -- the first refusal that applies to a start, but for want of memory
-abbrev pub start_refusal : FileTable → RoleNames → Option Refusal
+abbrev pub start_refusal : FileTable → RolesRead → Option Refusal
 start_refusal files roles =
     if is_there files roles.web then (if is_there_if_any files roles.change then None else Some NoChange) else Some NoWeb
 
@@ -55,11 +55,11 @@ pub record IsGroundOf (source : SourceRead) (web : WebRead) (out : List ℕ) (gr
   pub line_truth : PiecesStandAtTheirLines source web
 
 -- the ground is what the files make
-abbrev pub IsGroundAt : FileTable → RoleNames → Ground → Type 0
+abbrev pub IsGroundAt : FileTable → RolesRead → Ground → Type 0
 IsGroundAt files roles ground = IsGroundOf (source_at files roles) (web_at files roles) roles.out ground
 
 -- What is held is what the files make, with what each expandable node expands to; and the web and the change file are there.
-pub record Holds (files : FileTable) (roles : RoleNames) (tangled : Tangled) : Type 0 where
+pub record Holds (files : FileTable) (roles : RolesRead) (tangled : Tangled) : Type 0 where
   pub are_there : fits files roles ≡ true
   pub ground : IsGroundAt files roles tangled.ground
   pub kept : KeepsJust (project_of (web_at files roles)) tangled.ground.store tangled.kept

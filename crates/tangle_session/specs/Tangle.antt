@@ -4,7 +4,7 @@ use Rattle.std.specs.Map.{lookup}
 use Rattle.std.specs.Str.{bytes_eq}
 use Rattle.tangle_lines.specs.Faults.{Finding}
 use Rattle.tangle_files.specs.Lines.{FileTable}
-use Rattle.tangle_files.specs.Roles.{RoleNames}
+use Rattle.tangle_files.specs.Roles.{RolesRead}
 use Rattle.tangle_session.specs.Faults.{AreFaults}
 use Rattle.tangle_session.specs.Files.{source_at, web_at, written_outputs}
 
@@ -13,7 +13,7 @@ pub record Tangling : Type 0 where
   pub faults : List Finding
   pub outputs : List (List ℕ × List ℕ)
 
-module _ (files : FileTable) (roles : RoleNames) where
+module _ (files : FileTable) (roles : RolesRead) where
   -- the output files, in order
   abbrev pub outputs_of : List (List ℕ × List ℕ)
   outputs_of = written_outputs (web_at files roles) roles.out
@@ -27,6 +27,6 @@ module _ (files : FileTable) (roles : RoleNames) where
   AreFaultsOf faults = AreFaults (source_at files roles) (web_at files roles) roles.out faults
 
 -- what tangling of the files gives
-pub record IsTanglingOf (files : FileTable) (roles : RoleNames) (tangling : Tangling) : Type 0 where
+pub record IsTanglingOf (files : FileTable) (roles : RolesRead) (tangling : Tangling) : Type 0 where
   pub faults : AreFaultsOf files roles tangling.faults
   pub outputs : tangling.outputs ≡ outputs_of files roles

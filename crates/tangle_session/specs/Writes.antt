@@ -3,7 +3,7 @@ use Rattle.std.specs.Prelude.{◌≡◌, ℕ, List, [], ◌∷◌, ◌++◌, if�
 use Rattle.std.specs.Str.{bytes_eq}
 use Rattle.tangle_files.specs.Bytes.{line_feed}
 use Rattle.tangle_files.specs.Lines.{FileTable}
-use Rattle.tangle_files.specs.Roles.{RoleNames}
+use Rattle.tangle_files.specs.Roles.{RolesRead}
 use Rattle.tangle_lines.specs.Reading.{SourceRead}
 use Rattle.tangle_files.specs.declared.refusal.Refusal.{Refusal}
 use Rattle.tangle_files.specs.declared.refusal.Refusal.TheVariants as refusal
@@ -38,7 +38,7 @@ pub record IsTrueOutput (source : SourceRead) (web : WebRead) (output : OutputRe
   pub true_to_lines : IsTrueToLines source web (title_of_node (table_of web).names output.node) text
 
 -- the output file of this name, and its bytes, which are true to the lines of the source
-pub record IsTrueFile (files : FileTable) (roles : RoleNames) (name : List ℕ) : Type 0 where
+pub record IsTrueFile (files : FileTable) (roles : RolesRead) (name : List ℕ) : Type 0 where
   pub output : OutputRead
   pub named : find (λ o. bytes_eq name o.name) (outputs (web_at files roles) (table_of (web_at files roles)) roles.out) ≡ Some output
   pub bytes : List ℕ

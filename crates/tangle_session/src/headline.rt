@@ -4,7 +4,7 @@ ghost use Rattle.std.specs.Prelude.{◌≡◌, [], List, length, zip};
 ghost use Rattle.std.specs.Prelude.{IfOk, IfSome, IfNone, IsOkUnless, Err};
 ghost use Rattle.std.specs.Vec.{vec_capacity};
 ghost use Rattle.tangle_files.specs.Lines.{FileTable};
-ghost use Rattle.tangle_files.specs.Roles.{RoleNames};
+ghost use Rattle.tangle_files.specs.Roles.{RolesRead};
 ghost use Rattle.tangle_files.specs.declared.refusal.Refusal.TheVariants.{NoMemory as no_memory};
 ghost use Rattle.tangle_session.specs.Headline.{Call, History, ShowsLastWork, ShowsPlainTangling};
 ghost use Rattle.tangle_session.specs.Headline.{accepted, edited_all};
@@ -38,7 +38,7 @@ fn edit_each(
     requires empty { answers.items ≡ [] }
     requires room { vec_capacity answers ≡ length edits.now }
     ensures answered { length result.items ≡ length edits.now }
-    ensures history { (files : FileTable) (roles : RoleNames) → History files roles [] session.old
+    ensures history { (files : FileTable) (roles : RolesRead) → History files roles [] session.old
         → History files roles (zip edits.now result.items) session.new }
 {
     for edit in edits {
@@ -84,11 +84,11 @@ pub fn start_and_edit(
 /// tangling gives for the files of the start with just the accepted edits made, whatever edits
 /// brought the session here.
 pub fn ask_all<'a, S: Sink>(session: &'a Session, name: &[u8], sink: &mut S) -> Shown<'a>
-    ensures tangled { (files : FileTable) (roles : RoleNames) (calls : List Call)
+    ensures tangled { (files : FileTable) (roles : RolesRead) (calls : List Call)
         → History files roles calls session.now
         → ShowsPlainTangling (edited_all files (accepted calls)) roles name.now
         (S.stream sink.old) (S.stream sink.new) result }
-    ensures work { (files : FileTable) (roles : RoleNames) (calls : List Call)
+    ensures work { (files : FileTable) (roles : RolesRead) (calls : List Call)
         → History files roles calls session.now
         → ShowsLastWork files roles (accepted calls) result }
 {

@@ -4,7 +4,7 @@ ghost use Rattle.std.specs.List.{IsDistinct};
 ghost use Rattle.std.specs.Str.{bytes_eq};
 ghost use Rattle.tangle_lines.specs.Faults.{Finding};
 ghost use Rattle.tangle_files.specs.Lines.{FileTable};
-ghost use Rattle.tangle_files.specs.Roles.{RoleNames};
+ghost use Rattle.tangle_files.specs.Roles.{RolesRead};
 ghost use Rattle.tangle_scan.specs.Web.{WebRead};
 ghost use Rattle.tangle_names.specs.NameTable.{table_of};
 ghost use Rattle.tangle_expansion.specs.declared.nodes.Node.{Node};
@@ -24,7 +24,7 @@ use tangle_names::names_are_the_full_names;
 
 /// Tangling gives one thing: which faults and which outputs is determined by the files and the roles.
 pub fn tangling_is_one()
-    ensures { (files : FileTable) (roles : RoleNames) (a b : Tangling)
+    ensures { (files : FileTable) (roles : RolesRead) (a b : Tangling)
         → IsTanglingOf files roles a → IsTanglingOf files roles b → a ≡ b }
 {
     graph_faults_are_one_list();
@@ -32,8 +32,8 @@ pub fn tangling_is_one()
 
 /// No two output files have one name: each is found by its own.
 pub fn outputs_are_found_by_their_names()
-    ensures distinct { (files : FileTable) (roles : RoleNames) → IsDistinct bytes_eq (map (λ output. output.0) (outputs_of files roles)) }
-    ensures found { (files : FileTable) (roles : RoleNames) (name bytes : List ℕ)
+    ensures distinct { (files : FileTable) (roles : RolesRead) → IsDistinct bytes_eq (map (λ output. output.0) (outputs_of files roles)) }
+    ensures found { (files : FileTable) (roles : RolesRead) (name bytes : List ℕ)
         → Contains (outputs_of files roles) (name, bytes) → output_at files roles name ≡ Some bytes }
 {
     names_resolve_inside();
@@ -42,7 +42,7 @@ pub fn outputs_are_found_by_their_names()
 
 /// No output file reaches a name that contains itself. The main file reaches what the program reaches.
 pub fn no_output_reaches_a_cycle()
-    ensures { (files : FileTable) (roles : RoleNames) (output : OutputRead) (other : Title)
+    ensures { (files : FileTable) (roles : RolesRead) (output : OutputRead) (other : Title)
         → Contains (outputs (web_at files roles) (table_of (web_at files roles)) roles.out) output
         → Reaches (project_of (web_at files roles)) (title_of_node (table_of (web_at files roles)).names output.node) other
         → ¬ (ContainsItself (project_of (web_at files roles)) other) }
@@ -53,7 +53,7 @@ pub fn no_output_reaches_a_cycle()
 
 /// Each name that contains itself has its fault, at its first occurrence.
 pub fn self_containing_names_are_told()
-    ensures { (files : FileTable) (roles : RoleNames) (faults : List Finding) (name : List ℕ)
+    ensures { (files : FileTable) (roles : RolesRead) (faults : List Finding) (name : List ℕ)
         → AreFaultsOf files roles faults → ContainsItself (project_of (web_at files roles)) (Named name)
         → IsToldSelfContaining (web_at files roles) name faults }
 {

@@ -3,7 +3,7 @@ ghost use Rattle.std.specs.Prelude.{◌≡◌, [], true, None, find, IfOk};
 ghost use Rattle.std.specs.Option.{option_copied};
 ghost use Rattle.std.specs.Str.{bytes_eq};
 ghost use Rattle.tangle_files.specs.Edited.{edited};
-ghost use Rattle.tangle_files.specs.Roles.{RoleNames, fits};
+ghost use Rattle.tangle_files.specs.Roles.{RolesRead, fits};
 ghost use Rattle.tangle_session.specs.Edits.{session_refusal};
 ghost use Rattle.tangle_session.specs.Files.{web_at};
 ghost use Rattle.tangle_session.specs.Sessions.{Holds, IsGroundAt, ListsAffected};
@@ -56,12 +56,12 @@ fn expand_over(
     ground: Ground,
     mut work: Work,
 ) -> Result<Tangled, NoMemory>
-    requires held { (roles : RoleNames) × Holds old.now.files roles old.now × IsGroundAt files roles ground }
+    requires held { (roles : RolesRead) × Holds old.now.files roles old.now × IsGroundAt files roles ground }
     requires unbegun { work ≡ [] }
     ensures files { IfOk result (λ new. new.files ≡ files) }
-    ensures held { (roles : RoleNames) → Holds old.now.files roles old.now → IsGroundAt files roles ground → fits files roles ≡ true
+    ensures held { (roles : RolesRead) → Holds old.now.files roles old.now → IsGroundAt files roles ground → fits files roles ≡ true
         → IfOk result (λ new. Holds new.files roles new) }
-    ensures work { (roles : RoleNames) → Holds old.now.files roles old.now → IsGroundAt files roles ground
+    ensures work { (roles : RolesRead) → Holds old.now.files roles old.now → IsGroundAt files roles ground
         → IfOk result (λ new. ListsAffected (web_at old.now.files roles) (web_at new.files roles) new.work) }
 {
     let kept = expand_again(

@@ -2,10 +2,11 @@ use Rattle.std.proofs.Common.{ap, sym, None}
 use Rattle.tangle_names.specs.NameTable.{table_of}
 use Rattle.tangle_expansion.specs.Limits.{levels}
 use Rattle.tangle_expansion.specs.Numbers.{numbers_of, text}
+use Rattle.tangle_files.specs.declared.marks.MarkMode.TheVariants.{Full}
 use Rattle.tangle_expansion.proofs.laws.texts_are_true_to_lines.Goals as goal
 
 pub returns : goal.returns
 returns c = λ source web node own. record {
-  written = ap (text (numbers_of web (table_of web))) (sym (c.texts_stand_at_their_places.ensures.parts source web (table_of web) levels node));
+  written = ap (text (numbers_of web (table_of web) Full)) (sym (c.texts_stand_at_their_places.ensures.parts source web (table_of web) levels node));
   places = c.texts_stand_at_their_places.ensures.places source web levels node None own;
 }

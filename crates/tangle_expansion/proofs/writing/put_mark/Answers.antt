@@ -1,7 +1,13 @@
-use Rattle.tangle_expansion.proofs.PutLemmas.{puts_then}
+use Rattle.std.proofs.Common.{◌≡◌, ◌∙◌, sym}
+use Rattle.tangle_files.specs.declared.marks.MarkMode.TheVariants.{Full, Bare}
 use Rattle.tangle_expansion.proofs.writing.put_mark.Goals as goal
 
-pub returns : goal.returns
-returns g c =
-    rw (← c.format.ensures.text, ← c.as_bytes.ensures.value, ← c.file_name.ensures)
-    (puts_then _ _ _ _ _ _ _ _ (puts_then _ _ _ _ _ _ _ _ (puts_then _ _ _ _ _ _ _ _ (puts_then _ _ _ _ _ _ _ _ c.put-opened.ensures c.put-numbered.ensures) c.put-quoted.ensures) c.put-named.ensures) c.put.ensures)
+pub returns-in-Full : goal.returns-in-Full
+returns-in-Full g c =
+    let full : c.args.numbers.now.marks ≡ Full = sym c.marks.ensures ∙ c.in-Full.is in
+    rw (full, ← c.file_name.ensures) c.put_full_mark.ensures
+
+pub returns-in-Bare : goal.returns-in-Bare
+returns-in-Bare g c =
+    let bare : c.args.numbers.now.marks ≡ Bare = sym c.marks.ensures ∙ c.in-Bare.is in
+    rw bare c.put.ensures

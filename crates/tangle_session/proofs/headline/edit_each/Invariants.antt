@@ -1,6 +1,6 @@
 use Rattle.std.proofs.Common.{◌≡◌, [], length, take, zip, vec_capacity, vec_len}
 use Rattle.tangle_files.specs.Lines.{FileTable}
-use Rattle.tangle_files.specs.Roles.{RoleNames}
+use Rattle.tangle_files.specs.Roles.{RolesRead}
 use Rattle.tangle_session.specs.Headline.{History}
 use Rattle.tangle_session.proofs.headline.edit_each.Given as goal
 
@@ -10,6 +10,6 @@ invariant-loop-edit l = record {
   counted : vec_len l.answers ≡ l.edit-index;
   answered : length l.answers.items ≡ l.edit-index;
   room : vec_capacity l.answers ≡ length l.edits;
-  history : (files : FileTable) (roles : RoleNames) → History files roles [] l.fn.session
+  history : (files : FileTable) (roles : RolesRead) → History files roles [] l.fn.session
       → History files roles (zip (take l.edit-index l.edits) l.answers.items) l.session;
 }
