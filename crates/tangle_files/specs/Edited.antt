@@ -5,8 +5,8 @@ use Rattle.std.specs.Map.{set_value, remove_entry}
 use Rattle.std.specs.Str.{bytes_eq}
 use Rattle.tangle_files.specs.declared.edits.Edit.{Edit}
 use Rattle.tangle_files.specs.declared.edits.Edit.TheVariants.{Insert, Remove, Replace, Create, Discard, Marks}
-use Rattle.tangle_files.specs.declared.marks.MarkMode.{MarkMode}
 use Rattle.tangle_files.specs.Lines.{FileTable, lines_of, trimmed}
+use Rattle.tangle_files.specs.Roles.{RolesRead}
 
 -- the lines with new ones in place of those between two places
 abbrev pub spliced : List (List ℕ) → ℕ → List (List ℕ) → ℕ → List (List ℕ)
@@ -26,17 +26,17 @@ edited files (Create file) = files ++ (file.items, []) ∷ []
 edited files (Discard file) = remove_entry (bytes_eq file.items) files
 edited files (Marks mode) = files
 
--- how line marks are written after an edit
-abbrev pub edited_marks : MarkMode → Edit → MarkMode
-edited_marks marks (Marks mode) = mode
-edited_marks marks _ = marks
-
 -- the files after a list of edits, each made on what the earlier ones left
 abbrev pub edited_all : FileTable → List Edit → FileTable
 edited_all files [] = files
 edited_all files (edit ∷ edits) = edited_all (edited files edit) edits
 
--- and how line marks are then written
-abbrev pub marks_after : MarkMode → List Edit → MarkMode
-marks_after marks [] = marks
-marks_after marks (edit ∷ edits) = marks_after (edited_marks marks edit) edits
+-- the roles after an edit: the one that sets how line marks are written changes that alone
+abbrev pub edited_roles : RolesRead → Edit → RolesRead
+edited_roles roles (Marks mode) = record roles { marks = mode }
+edited_roles roles _ = roles
+
+-- the roles after a list of edits
+abbrev pub roles_after : RolesRead → List Edit → RolesRead
+roles_after roles [] = roles
+roles_after roles (edit ∷ edits) = roles_after (edited_roles roles edit) edits

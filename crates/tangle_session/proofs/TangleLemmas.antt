@@ -62,6 +62,11 @@ lists_titles old new store nodes is names_are lists = record {
   );
 }
 
+-- a web whose shapes are what they were affects no node
+pub expands_nothing : (web : WebRead) (nodes : List Node) → ListsAffected web web nodes → nodes ≡ []
+expands_nothing web [] lists = refl
+expands_nothing web (node ∷ nodes) lists = absurd (((lists.just node).0 (0, omega arith, refl)).1.changed refl)
+
 -- why a session is not to be started
 
 some_where : {X : Type 0} (b : Bool) (x : X) → is_some (cond b (Some x) None) ≡ b

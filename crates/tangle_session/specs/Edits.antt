@@ -1,14 +1,16 @@
--- Why an edit is refused in a session.
-use Rattle.std.specs.Prelude.{ℕ, List, Bool, false, ◌||◌, Option, None}
-use Rattle.std.specs.Option.{option_map_or}
+-- Why an edit, or a list of edits, is refused in a session.
+use Rattle.std.specs.Prelude.{ℕ, ◌+◌, List, [], ◌∷◌, Bool, false, ◌||◌, Option, None, Some}
+use Rattle.std.specs.Option.{option_map, option_map_or}
 use Rattle.std.specs.Str.{bytes_eq}
+use Rattle.tangle_files.specs.Edited.{edited}
 use Rattle.tangle_files.specs.Edits.{edit_refusal, or_else, refusal_if}
 use Rattle.tangle_files.specs.Lines.{FileTable}
 use Rattle.tangle_files.specs.Roles.{RolesRead}
 use Rattle.tangle_files.specs.declared.edits.Edit.{Edit}
-use Rattle.tangle_files.specs.declared.edits.Edit.TheVariants.{Insert, Remove, Replace, Create, Discard}
+use Rattle.tangle_files.specs.declared.edits.Edit.TheVariants.{Insert, Remove, Replace, Create, Discard, Marks}
 use Rattle.tangle_files.specs.declared.refusal.Refusal.{Refusal}
-use Rattle.tangle_files.specs.declared.refusal.Refusal.TheVariants.{RoleFile}
+use Rattle.tangle_files.specs.declared.refusal.Refusal.TheVariants.{NoMemory, RoleFile}
+use Rattle.tangle_session.specs.declared.refusing.ListRefusal.{ListRefusal}
 
 -- the file of this name is the web or the change file
 abbrev pub has_role : RolesRead → List ℕ → Bool
@@ -21,7 +23,33 @@ role_refusal roles (Insert file at text) = None
 role_refusal roles (Remove file at) = None
 role_refusal roles (Replace file at text) = None
 role_refusal roles (Create file) = None
+role_refusal roles (Marks mode) = None
 
--- The first refusal that applies to an edit. Files refuse to discard only what is no name or isn't there, which comes before the role.
+-- The first refusal that applies to an edit. Files refuse to discard only what is no name or isn't
+-- there, which comes before the role.
 abbrev pub session_refusal : FileTable → RolesRead → Edit → Option Refusal
 session_refusal files roles edit = or_else (edit_refusal files edit) (role_refusal roles edit)
+
+-- the refusal of the first edit of a list
+abbrev pub of_first : Refusal → ListRefusal
+of_first refusal = record { at = 0; refusal = refusal }
+
+-- the same refusal, in a list with one more edit in front
+abbrev pub one_later : ListRefusal → ListRefusal
+one_later refused = record { at = refused.at + 1; refusal = refused.refusal }
+
+-- the refusal of the first edit, if it has one, else that of the edits behind it
+abbrev pub first_refused : Option Refusal → Option ListRefusal → Option ListRefusal
+first_refused (Some refusal) behind = Some (of_first refusal)
+first_refused None behind = option_map one_later behind
+
+-- The first refusal that applies to a list of edits, each made on what the earlier ones left. No
+-- edit changes the names that have roles.
+abbrev pub list_refusal : FileTable → RolesRead → List Edit → Option ListRefusal
+list_refusal files roles [] = None
+list_refusal files roles (edit ∷ edits) =
+    first_refused (session_refusal files roles edit) (list_refusal (edited files edit) roles edits)
+
+-- out of memory is no edit's own refusal: it has the number 0
+abbrev pub list_memory : ListRefusal
+list_memory = of_first NoMemory

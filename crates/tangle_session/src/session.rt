@@ -1,16 +1,17 @@
 //! A started session.
-ghost use Rattle.std.specs.Prelude.{◌≡◌, length, map, IfOk, OnOk, OnErr, IfSome, IfNone, IsOkUnless, Err};
+ghost use Rattle.std.specs.Prelude.{◌≡◌, ◌⊎◌, [], length, map, IfOk, OnOk, OnErr, IfSome, IfNone, IsOkUnless, Err};
 ghost use Rattle.std.specs.Option.{option_map};
 ghost use Rattle.tangle_files.specs.declared.refusal.Refusal.TheVariants.{NoMemory as no_memory};
 ghost use Rattle.tangle_session.specs.Files.{web_at};
 ghost use Rattle.tangle_files.specs.Edited.{edited};
-ghost use Rattle.tangle_session.specs.Edits.{has_role, role_refusal, session_refusal};
+ghost use Rattle.tangle_session.specs.Edits.{edited_all, list_memory, list_refusal, session_refusal};
 ghost use Rattle.tangle_session.specs.Sessions.{ListsAffected, ListsExpandable, start_refusal};
 ghost use Rattle.tangle_session.specs.Tangle.{AreFaultsOf, output_at, outputs_of};
 ghost use Rattle.tangle_session.specs.Writes.{IsTrueFile, WritesOutput};
 
 use crate::ground::Ground;
 use crate::outputs::OutputNames;
+use crate::refusing::{ListRefusal, refusal_to_apply};
 use crate::tangling::{Tangled, tangle_again};
 use std::alloc::Global;
 use std::marker::Model;
@@ -52,44 +53,6 @@ pub(crate) fn refusal_to_start(files: &Files, roles: &Roles) -> Option<Refusal>
     } else {
         Some(Refusal::NoWeb)
     }
-}
-
-/// Whether the file of this name is the web or the change file.
-fn has_role(roles: &Roles, name: &[u8]) -> bool
-    ensures { result ≡ has_role roles.now name.now }
-{
-    if name == roles.web() {
-        return true;
-    }
-    match roles.change() {
-        Some(change) => name == change,
-        None => false,
-    }
-}
-
-/// Why a file with a role is not to be discarded.
-fn refusal_of_role(roles: &Roles, edit: &Edit) -> Option<Refusal>
-    ensures { result ≡ role_refusal roles.now edit.now }
-{
-    match edit {
-        Edit::Discard { file } => {
-            if has_role(roles, file) {
-                return Some(Refusal::RoleFile);
-            }
-            None
-        }
-        _ => None,
-    }
-}
-
-/// Why an edit is refused in a session, but for want of memory. Only a file that is there, and has a role, is refused for that.
-fn refusal_to_apply(files: &Files, roles: &Roles, edit: &Edit) -> Option<Refusal>
-    ensures { result ≡ session_refusal files.now roles.now edit.now }
-{
-    if let Some(refusal) = files.refusal_to_edit(edit) {
-        return Some(refusal);
-    }
-    refusal_of_role(roles, edit)
 }
 
 impl Session {
@@ -153,7 +116,41 @@ impl Session {
             return Err(refusal);
         }
         let work = Work::new(self.alloc);
-        let next = tangle_again(self.alloc, &self.tangled, &self.roles, edit, work)?;
+        match self.change(std::slice::from_ref(edit), work) {
+            Ok(()) => Ok(()),
+            Err(refused) => Err(refused.refusal),
+        }
+    }
+
+    /// Makes a list of edits, each on what the earlier ones left, and then tangles the project once.
+    ///
+    /// # Errors
+    ///
+    /// That of the first edit that is refused, with its number from 0 on; or `NoMemory` with the number 0, which may come before such an
+    /// edit is met; and then nothing changes.
+    pub fn apply_all(&mut self, edits: &[Edit]) -> Result<(), ListRefusal>
+        ensures files { OnOk result (self.new.files ≡ edited_all self.old.files edits.now) }
+        ensures roles { OnOk result (self.new.roles ≡ self.old.roles) }
+        ensures work { OnOk result (ListsAffected (web_at self.old.files self.old.roles) (web_at self.new.files self.new.roles) self.new.work) }
+        ensures refused { IfSome (list_refusal self.old.files self.old.roles edits.now) (λ refused. (result ≡ Err refused) ⊎ (result ≡ Err list_memory)) }
+        ensures only { IfNone (list_refusal self.old.files self.old.roles edits.now) (IsOkUnless result list_memory) }
+        ensures err { OnErr result (self.new ≡ self.old) }
+    {
+        let work = Work::new(self.alloc);
+        self.change(edits, work)
+    }
+
+    /// Makes the edits, all or none. The work has no node yet.
+    fn change(&mut self, edits: &[Edit], work: Work) -> Result<(), ListRefusal>
+        requires { work ≡ [] }
+        ensures files { OnOk result (self.new.files ≡ edited_all self.old.files edits.now) }
+        ensures roles { OnOk result (self.new.roles ≡ self.old.roles) }
+        ensures work { OnOk result (ListsAffected (web_at self.old.files self.old.roles) (web_at self.new.files self.new.roles) self.new.work) }
+        ensures refused { IfSome (list_refusal self.old.files self.old.roles edits.now) (λ refused. (result ≡ Err refused) ⊎ (result ≡ Err list_memory)) }
+        ensures only { IfNone (list_refusal self.old.files self.old.roles edits.now) (IsOkUnless result list_memory) }
+        ensures err { OnErr result (self.new ≡ self.old) }
+    {
+        let next = tangle_again(self.alloc, &self.tangled, &self.roles, edits, work)?;
         self.tangled = next;
         Ok(())
     }

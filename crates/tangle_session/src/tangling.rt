@@ -37,15 +37,22 @@ impl Tangled {
     }
 }
 
-/// A copy of the files, after an edit that they don't refuse.
-fn edited_copy(files: &Files, edit: &Edit) -> Result<Files, NoMemory>
-    ensures { IfOk result (λ copy. copy ≡ edited files.now edit.now) }
+/// A copy of the files in which the edits are made, each on what the earlier ones left.
+fn edited_copy(files: &Files, roles: &Roles, edits: &[Edit]) -> Result<Files, ListRefusal>
+    ensures made { IfOk result (λ copy. copy ≡ edited_all files.now edits.now) }
+    ensures taken { OnOk result (list_refusal files.now roles.now edits.now ≡ None) }
+    ensures refused { IfErr result (λ refused. (list_refusal files.now roles.now edits.now ≡ Some refused) ⊎ (refused ≡ list_memory)) }
 {
     let mut copy = files.copy()?;
-    match copy.edit(edit) {
-        Ok(()) => Ok(copy),
-        Err(_) => Err(NoMemory),
+    for (at, edit) in edits.iter().enumerate() {
+        if let Some(refusal) = refusal_to_apply(&copy, roles, edit) {
+            return Err(ListRefusal { at, refusal });
+        }
+        if copy.edit(edit).is_err() {
+            return Err(ListRefusal::from(NoMemory));
+        }
     }
+    Ok(copy)
 }
 
 /// What is held with this ground of the files, over the expansions that were kept. The work has no node yet.
@@ -81,23 +88,25 @@ fn expand_over(
     })
 }
 
-/// What is held after an edit that isn't refused: the files are tangled anew, over the expansions that are kept. The work has no node yet;
-/// what is expanded is noted there.
+/// What is held after a list of edits: the files are tangled anew, over the expansions that are kept. The work has no node yet; what is
+/// expanded is noted there.
 pub(crate) fn tangle_again(
     alloc: Global,
     old: &Tangled,
     roles: &Roles,
-    edit: &Edit,
+    edits: &[Edit],
     work: Work,
-) -> Result<Tangled, NoMemory>
+) -> Result<Tangled, ListRefusal>
     requires held { Holds old.now.files roles.now old.now }
-    requires taken { None ≡ session_refusal old.now.files roles.now edit.now }
     requires unbegun { work ≡ [] }
-    ensures files { IfOk result (λ new. new.files ≡ edited old.now.files edit.now) }
+    ensures files { IfOk result (λ new. new.files ≡ edited_all old.now.files edits.now) }
     ensures held { IfOk result (λ new. Holds new.files roles.now new) }
     ensures work { IfOk result (λ new. ListsAffected (web_at old.now.files roles.now) (web_at new.files roles.now) new.work) }
+    ensures taken { OnOk result (list_refusal old.now.files roles.now edits.now ≡ None) }
+    ensures refused { IfErr result (λ refused. (list_refusal old.now.files roles.now edits.now ≡ Some refused) ⊎ (refused ≡ list_memory)) }
 {
-    let files = edited_copy(&old.files, edit)?;
+    let files = edited_copy(&old.files, roles, edits)?;
     let ground = Ground::build(alloc, &files, roles)?;
-    expand_over(alloc, old, files, ground, work)
+    let next = expand_over(alloc, old, files, ground, work)?;
+    Ok(next)
 }

@@ -1,0 +1,68 @@
+//! Why an edit is refused in a session.
+ghost use Rattle.std.specs.Prelude.{◌≡◌};
+ghost use Rattle.tangle_session.specs.Edits.{has_role, list_memory, role_refusal, session_refusal};
+
+use tangle_lines::{Edit, Files, NoMemory, Refusal, Roles};
+
+/// Why a list of edits is refused: the number of the first edit that is refused, from 0, and its
+/// refusal. Out of memory has the number 0, whichever edit ran out of it.
+#[derive(Clone, Copy, Debug, PartialEq, Eq)]
+pub struct ListRefusal {
+    /// How many edits of the list are in front of it.
+    pub at: usize,
+    /// Why it is refused.
+    pub refusal: Refusal,
+}
+
+impl From<NoMemory> for ListRefusal {
+    ghost use Rattle.std.specs.Prelude.{◌≡◌};
+    ghost use Rattle.tangle_session.specs.Edits.{list_memory};
+
+    ghost from_gives = { λ _ e. e ≡ list_memory };
+
+    fn from(_: NoMemory) -> Self {
+        ListRefusal {
+            at: 0,
+            refusal: Refusal::NoMemory,
+        }
+    }
+}
+
+/// Whether the file of this name is the web or the change file.
+fn has_role(roles: &Roles, name: &[u8]) -> bool
+    ensures { result ≡ has_role roles.now name.now }
+{
+    if name == roles.web() {
+        return true;
+    }
+    match roles.change() {
+        Some(change) => name == change,
+        None => false,
+    }
+}
+
+/// Why a file with a role is not to be discarded.
+fn refusal_of_role(roles: &Roles, edit: &Edit) -> Option<Refusal>
+    ensures { result ≡ role_refusal roles.now edit.now }
+{
+    match edit {
+        Edit::Discard { file } => {
+            if has_role(roles, file) {
+                return Some(Refusal::RoleFile);
+            }
+            None
+        }
+        _ => None,
+    }
+}
+
+/// Why an edit is refused in a session, but for lack of memory. Only a file that is there, and has
+/// a role, is refused for that.
+pub(crate) fn refusal_to_apply(files: &Files, roles: &Roles, edit: &Edit) -> Option<Refusal>
+    ensures { result ≡ session_refusal files.now roles.now edit.now }
+{
+    if let Some(refusal) = files.refusal_to_edit(edit) {
+        return Some(refusal);
+    }
+    refusal_of_role(roles, edit)
+}
