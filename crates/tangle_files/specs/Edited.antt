@@ -40,3 +40,8 @@ edited_roles roles _ = roles
 abbrev pub roles_after : RolesRead → List Edit → RolesRead
 roles_after roles [] = roles
 roles_after roles (edit ∷ edits) = roles_after (edited_roles roles edit) edits
+
+-- the edits of several lists, in order
+abbrev pub joined : List (List Edit) → List Edit
+joined [] = []
+joined (edits ∷ lists) = edits ++ joined lists

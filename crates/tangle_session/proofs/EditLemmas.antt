@@ -1,20 +1,21 @@
 -- The web and the change file are there after an edit that is not refused.
-use Rattle.std.proofs.Common.{◌+◌, ◌≡◌, ◌∙◌, ◌||◌, ℕ, Bool, true, false, cond, List, [], ◌∷◌, ◌++◌, Option, None, Some, refl, ap, sym}
+use Rattle.std.proofs.Common.{◌+◌, ◌≡◌, ◌∙◌, ◌||◌, ℕ, Bool, true, false, cond, List, [], ◌∷◌, ◌++◌, Option, None, Some, refl, ap, sym, arith}
 use Rattle.std.specs.Prelude.{is_some, IfSome, IfNone}
 use Rattle.std.specs.Map.{lookup, set_value, remove_entry}
 use Rattle.std.specs.Option.{option_map, option_map_or}
 use Rattle.std.specs.Str.{bytes_eq}
 use Rattle.std.proofs.lemmas.Bool.{and_parts, and_from}
 use Rattle.std.proofs.lemmas.Slice.Eq.{bytes_eq-Decides}
-use Rattle.tangle_files.specs.Edited.{edited, with_lines_changed}
+use Rattle.tangle_files.specs.Edited.{edited, edited_all, with_lines_changed}
 use Rattle.tangle_files.specs.Edits.{edit_refusal, or_else, refusal_if}
 use Rattle.tangle_files.specs.Lines.{FileTable, lines_of}
 use Rattle.tangle_files.specs.Roles.{RolesRead, fits, is_there, is_there_if_any}
 use Rattle.tangle_files.specs.declared.edits.Edit.{Edit}
-use Rattle.tangle_files.specs.declared.edits.Edit.TheVariants.{Insert, Remove, Replace, Create, Discard}
+use Rattle.tangle_files.specs.declared.edits.Edit.TheVariants.{Insert, Remove, Replace, Create, Discard, Marks}
+use Rattle.tangle_files.specs.declared.marks.MarkMode.{MarkMode}
 use Rattle.tangle_files.specs.declared.refusal.Refusal.{Refusal}
 use Rattle.tangle_files.specs.declared.refusal.Refusal.TheVariants.{RoleFile}
-use Rattle.tangle_session.specs.Edits.{edited_all, has_role, list_refusal_from, refused_at, role_refusal, session_refusal}
+use Rattle.tangle_session.specs.Edits.{first_refused, has_role, list_refusal, of_first, one_later, role_refusal, session_refusal}
 use Rattle.tangle_session.specs.declared.refusing.ListRefusal.{ListRefusal}
 use Rattle.tangle_session.proofs.TangleLemmas.{there_is}
 
@@ -95,6 +96,7 @@ Spares (Remove file at) other = Unit {0}
 Spares (Replace file at text) other = Unit {0}
 Spares (Create file) other = Unit {0}
 Spares (Discard file) other = bytes_eq file.items other ≡ false
+Spares (Marks mode) other = Unit {0}
 
 lines_stay : (files : FileTable) (edit : Edit) (other : List ℕ) → is_some (lines_of files other) ≡ true → Spares edit other → is_some (lines_of (edited files edit) other) ≡ true
 lines_stay files (Insert file at text) other h s = kept_with_changed files file.items other _ ∙ h
@@ -102,6 +104,7 @@ lines_stay files (Remove file at) other h s = kept_with_changed files file.items
 lines_stay files (Replace file at text) other h s = kept_with_changed files file.items other _ ∙ h
 lines_stay files (Create file) other h s = kept_behind files file.items other h
 lines_stay files (Discard file) other h s = kept_apart files file.items other s ∙ h
+lines_stay files (Marks mode) other h s = h
 
 stays_there : (files : FileTable) (edit : Edit) (other : List ℕ) → is_there files other ≡ true → Spares edit other → is_there (edited files edit) other ≡ true
 stays_there files edit other h s = sym (there_is (edited files edit) other) ∙ lines_stay files edit other (there_is files other ∙ h) s
@@ -114,6 +117,7 @@ spares_roles roles (Insert file at text) h = (tt, λ name e. tt)
 spares_roles roles (Remove file at) h = (tt, λ name e. tt)
 spares_roles roles (Replace file at text) h = (tt, λ name e. tt)
 spares_roles roles (Create file) h = (tt, λ name e. tt)
+spares_roles roles (Marks mode) h = (tt, λ name e. tt)
 spares_roles roles (Discard file) h =
     let parts = neither (bytes_eq file.items roles.web) (option_map_or (bytes_eq file.items) roles.change false) (not_refused (has_role roles file.items) RoleFile h) in
     (parts.0, λ name e. sym (ap (λ o. option_map_or (bytes_eq file.items) o false) e) ∙ parts.1)
@@ -129,6 +133,76 @@ fits_edited files roles edit h none =
     let spared = spares_roles roles edit (both_none (edit_refusal files edit) (role_refusal roles edit) none).1 in
     and_from (is_there (edited files edit) roles.web) (is_there_if_any (edited files edit) roles.change)
     (stays_there files edit roles.web parts.0 spared.0) (any_stays files edit roles.change parts.1 spared.1)
+
+-- where no edit of a list is refused, neither the first is, nor one of those behind it
+none_first : (first : Option Refusal) (behind : Option ListRefusal) → first_refused first behind ≡ None
+    → (None ≡ first) × (behind ≡ None)
+none_first None None h = (refl, refl)
+none_first None (Some refused) h = absurd (cc)
+none_first (Some refusal) behind h = absurd (cc)
+
+-- the web and the change file are there after a list that is not refused
+pub fits_all : (files : FileTable) (roles : RolesRead) (edits : List Edit) → fits files roles ≡ true
+    → list_refusal files roles edits ≡ None → fits (edited_all files edits) roles ≡ true
+fits_all files roles [] h none = h
+fits_all files roles (edit ∷ edits) h none =
+    let parts = none_first (session_refusal files roles edit) (list_refusal (edited files edit) roles edits) none in
+    fits_all (edited files edit) roles edits (fits_edited files roles edit h parts.0) parts.1
+
+-- a list of one edit is refused where the edit is
+pub one_refused : (o : Option Refusal) → first_refused o None ≡ option_map of_first o
+one_refused None = refl
+one_refused (Some refusal) = refl
+
+-- The first refusal of the edits that are left, where the first of them has this number.
+abbrev pub refused_at : ℕ → Option Refusal → Option ListRefusal → Option ListRefusal
+refused_at at (Some refusal) behind = Some (record { at = at; refusal = refusal })
+refused_at at None behind = behind
+
+abbrev pub refused_from : ℕ → FileTable → RolesRead → List Edit → Option ListRefusal
+refused_from at files roles [] = None
+refused_from at files roles (edit ∷ edits) =
+    refused_at at (session_refusal files roles edit) (refused_from (at + 1) (edited files edit) roles edits)
+
+abbrev later_by : ℕ → ListRefusal → ListRefusal
+later_by at refused = record { at = refused.at + at; refusal = refused.refusal }
+
+one_more : (at : ℕ) (first : Option Refusal) (behind : Option ListRefusal)
+    → refused_at at first (option_map (later_by (at + 1)) behind) ≡ option_map (later_by at) (first_refused first behind)
+one_more at (Some refusal) behind =
+    let same : at ≡ 0 + at = omega arith in ap (λ n. Some (record { at = n; refusal = refusal })) same
+one_more at None None = refl
+one_more at None (Some refused) =
+    let same : refused.at + (at + 1) ≡ (refused.at + 1) + at = omega arith in
+    ap (λ n. Some (record { at = n; refusal = refused.refusal })) same
+
+from_later : (at : ℕ) (files : FileTable) (roles : RolesRead) (edits : List Edit)
+    → refused_from at files roles edits ≡ option_map (later_by at) (list_refusal files roles edits)
+from_later at files roles [] = refl
+from_later at files roles (edit ∷ edits) =
+    ap (refused_at at (session_refusal files roles edit)) (from_later (at + 1) (edited files edit) roles edits)
+    ∙ one_more at (session_refusal files roles edit) (list_refusal (edited files edit) roles edits)
+
+later_by_none : (refused : Option ListRefusal) → option_map (later_by 0) refused ≡ refused
+later_by_none None = refl
+later_by_none (Some refused) =
+    let same : refused.at + 0 ≡ refused.at = omega arith in
+    ap (λ n. Some (record { at = n; refusal = refused.refusal })) same
+
+-- counted from 0 it is the refusal of the list
+pub from_none : (files : FileTable) (roles : RolesRead) (edits : List Edit)
+    → refused_from 0 files roles edits ≡ list_refusal files roles edits
+from_none files roles edits = from_later 0 files roles edits ∙ later_by_none (list_refusal files roles edits)
+
+-- why an edit is refused does not depend on how line marks are written
+pub refused_alike : (files : FileTable) (roles : RolesRead) (marks : MarkMode) (edit : Edit)
+    → session_refusal files (record roles { marks = marks }) edit ≡ session_refusal files roles edit
+refused_alike files roles marks (Insert file at text) = refl
+refused_alike files roles marks (Remove file at) = refl
+refused_alike files roles marks (Replace file at text) = refl
+refused_alike files roles marks (Create file) = refl
+refused_alike files roles marks (Discard file) = refl
+refused_alike files roles marks (Marks mode) = refl
 
 -- the files refuse no edit that the session doesn't
 pub files_take : (files : FileTable) (roles : RolesRead) (edit : Edit) → None ≡ session_refusal files roles edit → None ≡ edit_refusal files edit

@@ -4,6 +4,7 @@ use Rattle.tangle_lines.specs.Faults.{Finding}
 use Rattle.tangle_files.specs.Lines.{FileTable}
 use Rattle.tangle_lines.specs.Reading.{SourceRead, source_of}
 use Rattle.tangle_files.specs.Roles.{RolesRead}
+use Rattle.tangle_files.specs.declared.marks.MarkMode.{MarkMode}
 use Rattle.tangle_scan.specs.LineTruth.{PiecesStandAtTheirLines}
 use Rattle.tangle_scan.specs.Web.{WebRead, web_of}
 use Rattle.tangle_names.specs.NameTable.{table_of}
@@ -48,14 +49,14 @@ pub at_web : (files : FileTable) (roles : RolesRead) (source : SourceRead) (web 
 unfolding web_at
 at_web files roles source web e is = is ∙ ap web_of (at_source files roles source e)
 
-module _ (files : FileTable) (roles : RolesRead) (source : SourceRead) (web : WebRead) (out : List ℕ) (before after : Ground)
+module _ (files : FileTable) (roles : RolesRead) (source : SourceRead) (web : WebRead) (out : List ℕ) (marks : MarkMode) (before after : Ground)
     (source_is : source ≡ source_of files roles) (web_is : web ≡ web_of source) (out_is : out ≡ roles.out)
     (names : before.table.names ≡ (table_of web).names) (store : IsStoreOf (project_of web) before.store) (store_names : before.store.names ≡ (table_of web).names)
-    (files_are : before.store.outputs ≡ outputs web (table_of web) out) (numbers : before.numbers ≡ numbers_of web (table_of web))
+    (files_are : before.store.outputs ≡ outputs web (table_of web) out) (numbers : before.numbers ≡ numbers_of web (table_of web) marks)
     (of_names : before.faults.items ≡ (table_of web).faults) (of_graph : AreGraphFaults web (table_of web) out before.store.faults)
     (truth : PiecesStandAtTheirLines source web) (others : after ≡ record before { faults = after.faults; store = record before.store { faults = [] } })
     (list : after.faults.items ≡ source.faults ++ (web.faults ++ (before.faults.items ++ before.store.faults))) where
-  made : IsGroundOf source web out (record before { faults = after.faults; store = record before.store { faults = [] } })
+  made : IsGroundOf source web out marks (record before { faults = after.faults; store = record before.store { faults = [] } })
   made = record {
     names = names;
     store = faults_apart (project_of web) before.store [] store;
@@ -70,9 +71,16 @@ module _ (files : FileTable) (roles : RolesRead) (source : SourceRead) (web : We
     line_truth = truth;
   }
 
-  pub grounds : IsGroundAt files roles after
+  -- neither the source nor the web depends on how line marks are written
+  pub grounds : IsGroundAt files (record roles { marks = marks }) after
   grounds =
-      subst (λ s. IsGroundOf s (web_at files roles) roles.out after) (at_source files roles source source_is)
-      (subst (λ w. IsGroundOf source w roles.out after) (at_web files roles source web source_is web_is)
-      (subst (λ o. IsGroundOf source web o after) out_is
-      (subst (IsGroundOf source web out) (sym others) made)))
+      let to : RolesRead = record roles { marks = marks } in
+      subst (λ s. IsGroundOf s (web_at files to) roles.out marks after) (at_source files to source source_is)
+      (subst (λ w. IsGroundOf source w roles.out marks after) (at_web files to source web source_is web_is)
+      (subst (λ o. IsGroundOf source web o marks after) out_is
+      (subst (IsGroundOf source web out marks) (sym others) made)))
+
+-- a ground whose line marks are written as the roles say is theirs
+pub ground_of : (files : FileTable) (roles : RolesRead) (marks : MarkMode) (ground : Ground) → marks ≡ roles.marks
+    → IsGroundAt files (record roles { marks = marks }) ground → IsGroundAt files roles ground
+ground_of files roles marks ground same is = subst (λ m. IsGroundAt files (record roles { marks = m }) ground) same is

@@ -1,46 +1,66 @@
 -- What a history leaves: the files with the accepted edits made, and what is shown of them.
-use Rattle.std.proofs.Common.{◌≡◌, ◌∙◌, ℕ, List, [], ◌∷◌, ◌++◌, length, map, refl, ap, sym, subst, arith}
-use Rattle.std.specs.Prelude.{Option, None, Some, Ok, Err, Result, option_map, unwrap_or, zip, IfNone, IfSome, IsOkUnless, OnErr, OnOk}
+use Rattle.std.proofs.Common.{◌≡◌, ◌∙◌, ℕ, List, [], ◌∷◌, ◌++◌, length, map, refl, ap, sym, subst, arith, inl, inr, append_assoc, append-nil}
+use Rattle.std.specs.Prelude.{◌⊎◌, Option, None, Some, Ok, Err, Result, option_map, unwrap_or, zip, IfNone, IfSome, IsOkUnless, OnErr, OnOk}
+use Rattle.std.specs.Global.{Global}
+use Rattle.std.specs.declared.vec.Vec.{Vec}
 use Rattle.tangle_streams.specs.Streams.{Stream}
-use Rattle.tangle_files.specs.Edited.{edited}
+use Rattle.tangle_files.specs.Edited.{edited, edited_all, edited_roles, joined, roles_after}
 use Rattle.tangle_files.specs.Lines.{FileTable}
 use Rattle.tangle_files.specs.Roles.{RolesRead}
 use Rattle.tangle_files.specs.declared.edits.Edit.{Edit}
 use Rattle.tangle_files.specs.declared.refusal.Refusal.{Refusal}
 use Rattle.tangle_files.specs.declared.refusal.Refusal.TheVariants.{NoMemory}
-use Rattle.tangle_session.specs.Edits.{session_refusal}
+use Rattle.tangle_files.specs.declared.marks.MarkMode.TheVariants.{Full}
+use Rattle.tangle_session.specs.Edits.{list_memory, list_refusal, of_first, session_refusal}
 use Rattle.tangle_lines.specs.Reading.{source_of}
 use Rattle.tangle_scan.specs.Web.{web_of}
 use Rattle.tangle_names.specs.NameTable.{table_of}
 use Rattle.tangle_expansion.specs.declared.nodes.Node.{Node}
 use Rattle.tangle_session.specs.Files.{source_at, web_at}
-use Rattle.tangle_session.specs.Headline.{Call, History, Started, Edited, IsAnswered, ListsLastExpanded, IsPlainTangling, NoOutputReachesACycle, EachCycleIsReported, ShowsPlainTangling, ShowsLastWork, accepted, edited_all}
-use Rattle.tangle_session.specs.Sessions.{ListsAffected, SessionRead}
+use Rattle.tangle_session.specs.Headline.{Call, History, Started, Edited, IsAnswered, ListsLastExpanded, ByStart, ByLast, IsPlainTangling}
+use Rattle.tangle_session.specs.Headline.{NoOutputReachesACycle, EachCycleIsReported, ShowsPlainTangling, ShowsLastWork}
+use Rattle.tangle_session.specs.Headline.{accepted, edits_of, files_after, roles_with, web_after}
+use Rattle.tangle_session.specs.Sessions.{AreMade, ListsAffected, SessionRead}
 use Rattle.tangle_session.specs.Tangle.{AreFaultsOf, output_at, outputs_of}
 use Rattle.tangle_session.specs.Writes.{IsTrueFile, WritesOutput}
+use Rattle.tangle_session.specs.declared.headline.Edits.{Edits}
+use Rattle.tangle_session.specs.declared.headline.Edits.TheVariants.{Single, Several}
 use Rattle.tangle_session.specs.declared.headline.Shown.{Shown}
+use Rattle.tangle_session.specs.declared.refusing.ListRefusal.{ListRefusal}
 
 -- one call more
 
-accepted_one : (edit : Edit) (done : Unit {0}) (calls : List Call) → accepted (calls ++ (edit, Ok done) ∷ []) ≡ accepted calls ++ edit ∷ []
-accepted_one edit done [] = refl
-accepted_one edit done ((e, Ok d) ∷ calls) = ap (λ l. e ∷ l) (accepted_one edit done calls)
-accepted_one edit done ((e, Err r) ∷ calls) = accepted_one edit done calls
+accepted_one : (edits : Edits) (done : Unit {0}) (calls : List Call)
+    → accepted (calls ++ (edits, Ok done) ∷ []) ≡ accepted calls ++ edits_of edits ∷ []
+accepted_one edits done [] = refl
+accepted_one edits done ((e, Ok d) ∷ calls) = ap (λ l. edits_of e ∷ l) (accepted_one edits done calls)
+accepted_one edits done ((e, Err r) ∷ calls) = accepted_one edits done calls
 
-accepted_none : (edit : Edit) (refusal : Refusal) (calls : List Call) → accepted (calls ++ (edit, Err refusal) ∷ []) ≡ accepted calls
-accepted_none edit refusal [] = refl
-accepted_none edit refusal ((e, Ok d) ∷ calls) = ap (λ l. e ∷ l) (accepted_none edit refusal calls)
-accepted_none edit refusal ((e, Err r) ∷ calls) = accepted_none edit refusal calls
+accepted_none : (edits : Edits) (refused : ListRefusal) (calls : List Call)
+    → accepted (calls ++ (edits, Err refused) ∷ []) ≡ accepted calls
+accepted_none edits refused [] = refl
+accepted_none edits refused ((e, Ok d) ∷ calls) = ap (λ l. edits_of e ∷ l) (accepted_none edits refused calls)
+accepted_none edits refused ((e, Err r) ∷ calls) = accepted_none edits refused calls
 
-edited_more : (files : FileTable) (edits : List Edit) (edit : Edit) → edited_all files (edits ++ edit ∷ []) ≡ edited (edited_all files edits) edit
-edited_more files [] edit = refl
-edited_more files (e ∷ edits) edit = edited_more (edited files e) edits edit
+files_then : (files : FileTable) (first then : List Edit) → edited_all files (first ++ then) ≡ edited_all (edited_all files first) then
+files_then files [] then = refl
+files_then files (edit ∷ first) then = files_then (edited files edit) first then
 
-expanded_more : (files : FileTable) (roles : RolesRead) (edits : List Edit) (edit : Edit) (nodes : List Node)
-    → ListsAffected (web_at (edited_all files edits) roles) (web_at (edited (edited_all files edits) edit) roles) nodes → ListsLastExpanded files roles (edits ++ edit ∷ []) nodes
-expanded_more files roles [] edit nodes h = h
-expanded_more files roles (e ∷ []) edit nodes h = h
-expanded_more files roles (e ∷ f ∷ edits) edit nodes h = expanded_more (edited files e) roles (f ∷ edits) edit nodes h
+roles_then : (roles : RolesRead) (first then : List Edit) → roles_after roles (first ++ then) ≡ roles_after (roles_after roles first) then
+roles_then roles [] then = refl
+roles_then roles (edit ∷ first) then = roles_then (edited_roles roles edit) first then
+
+joined_one : (lists : List (List Edit)) (edits : List Edit) → joined (lists ++ edits ∷ []) ≡ joined lists ++ edits
+joined_one [] edits = append-nil edits
+joined_one (first ∷ lists) edits = ap (λ l. first ++ l) (joined_one lists edits) ∙ sym (append_assoc first (joined lists) edits)
+
+files_more : (files : FileTable) (lists : List (List Edit)) (edits : List Edit)
+    → files_after files (lists ++ edits ∷ []) ≡ edited_all (files_after files lists) edits
+files_more files lists edits = ap (edited_all files) (joined_one lists edits) ∙ files_then files (joined lists) edits
+
+roles_more : (roles : RolesRead) (lists : List (List Edit)) (edits : List Edit)
+    → roles_with roles (lists ++ edits ∷ []) ≡ roles_after (roles_with roles lists) edits
+roles_more roles lists edits = ap (roles_after roles) (joined_one lists edits) ∙ roles_then roles (joined lists) edits
 
 pub zip_more : {X Y : Type 0} (xs : List X) (ys : List Y) (x : X) (y : Y) → length xs ≡ length ys → zip (xs ++ x ∷ []) (ys ++ y ∷ []) ≡ zip xs ys ++ (x, y) ∷ []
 zip_more [] [] x y e = refl
@@ -50,55 +70,103 @@ zip_more (a ∷ xs) (b ∷ ys) x y e = ap (λ l. (a, b) ∷ l) (zip_more xs ys x
 
 -- what a history leaves
 
-pub record Stands (files : FileTable) (roles : RolesRead) (edits : List Edit) (session : SessionRead) : Type 0 where
-  pub files_are : session.files ≡ edited_all files edits
-  pub roles_are : session.roles ≡ roles
-  pub expanded : ListsLastExpanded files roles edits session.work
+pub record Stands (files : FileTable) (roles : RolesRead) (lists : List (List Edit)) (session : SessionRead) : Type 0 where
+  pub files_are : session.files ≡ files_after files lists
+  pub roles_are : session.roles ≡ roles_with roles lists
+  pub expanded : ListsLastExpanded files roles session.work lists
 
-stands_edited : (files : FileTable) (roles : RolesRead) (calls : List Call) (before after : SessionRead) (edit : Edit) (answer : Result (Unit {0}) Refusal)
-    → Stands files roles (accepted calls) before → IsAnswered before edit answer after → Stands files roles (accepted (calls ++ (edit, answer) ∷ [])) after
-stands_edited files roles calls before after edit (Ok done) stands is =
-    let now : after.files ≡ edited (edited_all files (accepted calls)) edit = is.1 ∙ ap (λ fs. edited fs edit) stands.files_are in
-    let same : after.roles ≡ roles = is.2 ∙ stands.roles_are in
-    let from = subst (λ fs. ListsAffected (web_at fs before.roles) (web_at after.files after.roles) after.work) stands.files_are is.3 in
-    let by = subst (λ rs. ListsAffected (web_at (edited_all files (accepted calls)) rs) (web_at after.files after.roles) after.work) stands.roles_are from in
-    let to = subst (λ fs. ListsAffected (web_at (edited_all files (accepted calls)) roles) (web_at fs after.roles) after.work) now by in
-    let all = subst (λ rs. ListsAffected (web_at (edited_all files (accepted calls)) roles) (web_at (edited (edited_all files (accepted calls)) edit) rs) after.work) same to in
-    subst (λ edits. Stands files roles edits after) (sym (accepted_one edit done calls)) (record {
-      files_are = now ∙ sym (edited_more files (accepted calls) edit);
-      roles_are = same;
-      expanded = expanded_more files roles (accepted calls) edit after.work all;
-    })
-stands_edited files roles calls before after edit (Err refusal) stands is =
-    subst (λ edits. Stands files roles edits after) (sym (accepted_none edit refusal calls)) (subst (λ s. Stands files roles (accepted calls) s) (sym is.1) stands)
+stands_made : (files : FileTable) (roles : RolesRead) (lists : List (List Edit)) (before after : SessionRead) (edits : List Edit)
+    → Stands files roles lists before → AreMade before edits after → Stands files roles (lists ++ edits ∷ []) after
+stands_made files roles lists before after edits stands are =
+    let files_now : after.files ≡ files_after files (lists ++ edits ∷ []) =
+        are.files ∙ ap (λ fs. edited_all fs edits) stands.files_are ∙ sym (files_more files lists edits) in
+    let roles_now : after.roles ≡ roles_with roles (lists ++ edits ∷ []) =
+        are.roles ∙ ap (λ rs. roles_after rs edits) stands.roles_are ∙ sym (roles_more roles lists edits) in
+    let web_before : web_at before.files before.roles ≡ web_after files roles lists =
+        ap (λ fs. web_at fs before.roles) stands.files_are ∙ ap (web_at (files_after files lists)) stands.roles_are in
+    let web_now : web_at after.files after.roles ≡ web_after files roles (lists ++ edits ∷ []) =
+        ap (λ fs. web_at fs after.roles) files_now ∙ ap (web_at (files_after files (lists ++ edits ∷ []))) roles_now in
+    record {
+      files_are = files_now;
+      roles_are = roles_now;
+      expanded = ByLast lists edits
+          (subst (λ web. ListsAffected (web_after files roles lists) web after.work) web_now
+          (subst (λ web. ListsAffected web (web_at after.files after.roles) after.work) web_before are.work));
+    }
+
+stands_edited : (files : FileTable) (roles : RolesRead) (calls : List Call) (before after : SessionRead) (edits : Edits) (answer : Result (Unit {0}) ListRefusal)
+    → Stands files roles (accepted calls) before → IsAnswered before edits answer after → Stands files roles (accepted (calls ++ (edits, answer) ∷ [])) after
+stands_edited files roles calls before after (Single edit) (Ok done) stands is =
+    subst (λ lists. Stands files roles lists after) (sym (accepted_one (Single edit) done calls))
+    (stands_made files roles (accepted calls) before after (edit ∷ []) stands is.1)
+stands_edited files roles calls before after (Several edits) (Ok done) stands is =
+    subst (λ lists. Stands files roles lists after) (sym (accepted_one (Several edits) done calls))
+    (stands_made files roles (accepted calls) before after edits.items stands is.1)
+stands_edited files roles calls before after (Single edit) (Err refused) stands is =
+    subst (λ lists. Stands files roles lists after) (sym (accepted_none (Single edit) refused calls))
+    (subst (λ s. Stands files roles (accepted calls) s) (sym is.1) stands)
+stands_edited files roles calls before after (Several edits) (Err refused) stands is =
+    subst (λ lists. Stands files roles lists after) (sym (accepted_none (Several edits) refused calls))
+    (subst (λ s. Stands files roles (accepted calls) s) (sym is.1) stands)
 
 pub stands : {files : FileTable} {roles : RolesRead} {calls : List Call} {session : SessionRead} → History files roles calls session → Stands files roles (accepted calls) session
-stands {files = files} {roles = roles} (Started {session = session} none same_files same_roles work) = record { files_are = same_files; roles_are = same_roles; expanded = work }
-stands {files = files} {roles = roles} (Edited {calls = calls} {after = after} before edit answer history is) =
-    stands_edited files roles calls before after edit answer (stands history) is
+stands {files = files} {roles = roles} (Started {session = session} none same_files same_roles work) =
+    record { files_are = same_files; roles_are = same_roles; expanded = ByStart work }
+stands {files = files} {roles = roles} (Edited {calls = calls} {after = after} before edits answer history is) =
+    stands_edited files roles calls before after edits answer (stands history) is
 
--- a step, from what an edit's clauses say
+-- a step, from what the clauses of the calls say
 
-pub is_answered : (before after : SessionRead) (edit : Edit) (answer : Result (Unit {0}) Refusal)
-    → OnOk answer (after.files ≡ edited before.files edit) → OnOk answer (after.roles ≡ before.roles)
-    → OnOk answer (ListsAffected (web_at before.files before.roles) (web_at after.files after.roles) after.work)
-    → IfSome (session_refusal before.files before.roles edit) (λ refusal. answer ≡ Err refusal)
+no_refusal : (o : Option Refusal) (done : Unit {0}) → IfSome o (λ refusal. Ok done ≡ Err refusal) → o ≡ None
+no_refusal None done h = refl
+no_refusal (Some refusal) done h = absurd (cc)
+
+first_reason : (o : Option Refusal) (refusal : Refusal) (answer : Result (Unit {0}) Refusal) → answer ≡ Err refusal
+    → IfSome o (λ r. answer ≡ Err r) → IfNone o (IsOkUnless answer NoMemory) → refusal ≡ unwrap_or o NoMemory
+first_reason None refusal answer is h only = memory answer is only
+  where
+    memory : (a : Result (Unit {0}) Refusal) → a ≡ Err refusal → IsOkUnless a NoMemory → refusal ≡ NoMemory
+    memory (Ok done) is only = absurd (cc)
+    memory (Err other) is only = cc
+first_reason (Some r) refusal answer is h only = cc
+
+pub one_made : (before after : SessionRead) (edit : Edit) (done : Unit {0})
+    → after.files ≡ edited before.files edit → after.roles ≡ edited_roles before.roles edit
+    → ListsAffected (web_at before.files before.roles) (web_at after.files after.roles) after.work
+    → IfSome (session_refusal before.files before.roles edit) (λ refusal. Ok done ≡ Err refusal)
+    → IsAnswered before (Single edit) (Ok done) after
+one_made before after edit done files roles work refused =
+    (no_refusal (session_refusal before.files before.roles edit) done refused, record { files = files; roles = roles; work = work })
+
+pub one_refused : (before after : SessionRead) (edit : Edit) (refusal : Refusal) (answer : Result (Unit {0}) Refusal) → answer ≡ Err refusal
+    → IfSome (session_refusal before.files before.roles edit) (λ r. answer ≡ Err r)
     → IfNone (session_refusal before.files before.roles edit) (IsOkUnless answer NoMemory)
-    → OnErr answer (after ≡ before) → IsAnswered before edit answer after
-is_answered before after edit (Ok done) files roles work refused only err =
-    (no_refusal (session_refusal before.files before.roles edit) refused, files, roles, work)
-  where
-    no_refusal : (o : Option Refusal) → IfSome o (λ refusal. Ok done ≡ Err refusal) → o ≡ None
-    no_refusal None h = refl
-    no_refusal (Some refusal) h = absurd (cc)
-is_answered before after edit (Err refusal) files roles work refused only err = (first (session_refusal before.files before.roles edit) refused only, err)
-  where
-    told : Result (Unit {0}) Refusal
-    told = Err refusal
+    → after ≡ before → IsAnswered before (Single edit) (Err (of_first refusal)) after
+one_refused before after edit refusal answer is refused only same =
+    (ap of_first (first_reason (session_refusal before.files before.roles edit) refusal answer is refused only), same)
 
-    first : (o : Option Refusal) → IfSome o (λ r. told ≡ Err r) → IfNone o (IsOkUnless told NoMemory) → refusal ≡ unwrap_or o NoMemory
-    first None h only = only
-    first (Some r) h only = cc
+pub several_answered : (before after : SessionRead) (edits : Vec Edit Global) (answer : Result (Unit {0}) ListRefusal)
+    → OnOk answer (after.files ≡ edited_all before.files edits.items) → OnOk answer (after.roles ≡ roles_after before.roles edits.items)
+    → OnOk answer (ListsAffected (web_at before.files before.roles) (web_at after.files after.roles) after.work)
+    → IfSome (list_refusal before.files before.roles edits.items) (λ refused. (answer ≡ Err refused) ⊎ (answer ≡ Err list_memory))
+    → IfNone (list_refusal before.files before.roles edits.items) (IsOkUnless answer list_memory)
+    → OnErr answer (after ≡ before) → IsAnswered before (Several edits) answer after
+several_answered before after edits (Ok done) files roles work refused only err =
+    (none (list_refusal before.files before.roles edits.items) refused, record { files = files; roles = roles; work = work })
+  where
+    none : (o : Option ListRefusal) → IfSome o (λ refused. (Ok done ≡ Err refused) ⊎ (Ok done ≡ Err list_memory)) → o ≡ None
+    none None h = refl
+    none (Some refused) h = elim h [ | inl h ↦ absurd (cc) | inr h ↦ absurd (cc) ]
+several_answered before after edits (Err refused) files roles work refused_for only err =
+    (reason (list_refusal before.files before.roles edits.items) refused_for only, err)
+  where
+    told : Result (Unit {0}) ListRefusal
+    told = Err refused
+
+    reason : (o : Option ListRefusal) → IfSome o (λ r. (told ≡ Err r) ⊎ (told ≡ Err list_memory)) → IfNone o (IsOkUnless told list_memory)
+        → (o ≡ Some refused) ⊎ (refused ≡ list_memory)
+    reason None h only = inr only
+    reason (Some r) h only = elim h [ | inl is ↦ inl (cc) | inr is ↦ inr (cc) ]
 
 -- why a start is refused
 
@@ -137,7 +205,7 @@ module _ (name : List ℕ) (old new : Stream) (shown : Shown) where
     pub names : shown.names ≡ map (λ file. file.0) (outputs_of s.files s.roles)
     pub size : shown.size ≡ option_map length (output_at s.files s.roles name)
     pub written : WritesOutput (output_at s.files s.roles name) old new shown.written
-    pub line_truth : OnOk shown.written (IsTrueFile s.files s.roles name)
+    pub line_truth : s.roles.marks ≡ Full → OnOk shown.written (IsTrueFile s.files s.roles name)
     pub faults : AreFaultsOf s.files s.roles shown.faults.now
     pub no_cycle : NoOutputReachesACycle (web_at s.files s.roles) (table_of (web_at s.files s.roles)) s.roles.out
     pub cycles : EachCycleIsReported (web_at s.files s.roles) (table_of (web_at s.files s.roles)) shown.faults.now
@@ -157,10 +225,10 @@ module _ (name : List ℕ) (old new : Stream) (shown : Shown) where
   }
 
   pub shows : (s : SessionRead) → Answers s → (files : FileTable) (roles : RolesRead) (calls : List Call) → History files roles calls s
-      → ShowsPlainTangling (edited_all files (accepted calls)) roles name old new shown
+      → ShowsPlainTangling (files_after files (accepted calls)) (roles_with roles (accepted calls)) name old new shown
   shows s answers files roles calls history =
       let at = stands history in
-      subst (λ rs. ShowsPlainTangling (edited_all files (accepted calls)) rs name old new shown) at.roles_are
+      subst (λ rs. ShowsPlainTangling (files_after files (accepted calls)) rs name old new shown) at.roles_are
       (subst (λ fs. ShowsPlainTangling fs s.roles name old new shown) at.files_are (shows_now s answers))
 
   pub shows_work : (s : SessionRead) → shown.work ≡ length s.work → (files : FileTable) (roles : RolesRead) (calls : List Call) → History files roles calls s

@@ -13,6 +13,7 @@ use Rattle.std.proofs.lemmas.Map.Views.{lookup-from_Contains}
 use Rattle.std.proofs.lemmas.Slice.Eq.{bytes_eq-Decides}
 use Rattle.tangle_files.specs.Lines.{FileTable}
 use Rattle.tangle_files.specs.Roles.{RolesRead}
+use Rattle.tangle_files.specs.declared.marks.MarkMode.{MarkMode}
 use Rattle.tangle_scan.specs.Web.{WebRead}
 use Rattle.tangle_names.specs.NameTable.{TableRead, table_of}
 use Rattle.tangle_expansion.specs.Outputs.{OutputRead}
@@ -94,9 +95,10 @@ module _ (web : WebRead) (table : TableRead) (resolves : ResolvesInside table) (
       by true = AllPairs-cons (λ a b. a ≢ b) out (map name_of (map (named_file table) ids)) main_apart named_once
       by false = named_once
 
-pub names_distinct : (web : WebRead) → ResolvesInside (table_of web) → IsDistinct bytes_eq (table_of web).names → (out : List ℕ) → IsDistinct bytes_eq (map (λ o. o.0) (written_outputs web out))
-names_distinct web resolves distinct out =
-    subst (IsDistinct bytes_eq) (names_written web (outputs web (table_of web) out))
+pub names_distinct : (web : WebRead) → ResolvesInside (table_of web) → IsDistinct bytes_eq (table_of web).names → (marks : MarkMode) (out : List ℕ)
+    → IsDistinct bytes_eq (map (λ o. o.0) (written_outputs web marks out))
+names_distinct web resolves distinct marks out =
+    subst (IsDistinct bytes_eq) (names_written web marks (outputs web (table_of web) out))
     (IsDistinct-from_AllPairs bytes_eq-Decides (map (λ o. o.name) (outputs web (table_of web) out)) (names_once web (table_of web) resolves distinct out))
 
 pub found_by_name : (files : FileTable) (roles : RolesRead) → IsDistinct bytes_eq (map (λ o. o.0) (outputs_of files roles)) → (name bytes : List ℕ) → Contains (outputs_of files roles) (name, bytes)

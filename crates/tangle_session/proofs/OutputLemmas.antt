@@ -6,6 +6,7 @@ use Rattle.std.specs.Option.{option_map}
 use Rattle.std.specs.Str.{bytes_eq}
 use Rattle.std.proofs.lemmas.List.{drop_all}
 use Rattle.std.proofs.lemmas.List.Elements.{All-append, All-cons, All-nil, All-contains, All-filter, filter_passes, Contains-append_cases, Contains-push_cases}
+use Rattle.tangle_files.specs.declared.marks.MarkMode.{MarkMode}
 use Rattle.tangle_scan.specs.Web.{WebRead}
 use Rattle.tangle_names.specs.declared.Resolved.{Resolved}
 use Rattle.tangle_names.specs.declared.Resolved.TheVariants as resolved
@@ -104,7 +105,7 @@ module _ (web : WebRead) (table : TableRead) (resolves : ResolvesInside table) (
 
 -- The text of an output that fits is ready to be written, and is what its node expands to.
 module _ (web : WebRead) (store : StoreRead) (kept : Kept) (is : IsStoreOf (project_of web) store) (names_are : store.names ≡ (table_of web).names)
-    (keeps : KeepsJust (project_of web) store kept) (output : OutputRead) (fit : IsFit (project_of web) (table_of web).names output) where
+    (keeps : KeepsJust (project_of web) store kept) (marks : MarkMode) (output : OutputRead) (fit : IsFit (project_of web) (table_of web).names output) where
   titled : title_in_store store output.node ≡ title_of_node (table_of web).names output.node
   titled = ap (λ l. title_of_node l output.node) names_are
 
@@ -134,22 +135,24 @@ module _ (web : WebRead) (store : StoreRead) (kept : Kept) (is : IsStoreOf (proj
       by true e = subst (λ o. length (unwrap_or o []) ≤ heaviest) (sym (kept_there e)) (law (project_of web) (title_of_node (table_of web).names output.node) (fit.there e))
       by false e = subst (λ o. length (unwrap_or o []) ≤ heaviest) (sym (kept_none e)) (omega arith)
 
-  pub same_text : output_text (numbers_of web (table_of web)) kept output ≡ output_bytes web output
+  pub same_text : output_text (numbers_of web (table_of web) marks) kept output ≡ output_bytes web marks output
   same_text = by output.has_piece refl
     where
-      by : (b : Bool) → output.has_piece ≡ b → file_text (numbers_of web (table_of web)) output.has_macros output.has_piece (node_parts kept output.node) ≡ output_bytes web output
-      by true e = ap (λ o. file_text (numbers_of web (table_of web)) output.has_macros output.has_piece (unwrap_or o [])) (kept_there e)
+      by : (b : Bool) → output.has_piece ≡ b → file_text (numbers_of web (table_of web) marks) output.has_macros output.has_piece (node_parts kept output.node) ≡ output_bytes web marks output
+      by true e = ap (λ o. file_text (numbers_of web (table_of web) marks) output.has_macros output.has_piece (unwrap_or o [])) (kept_there e)
       by false e =
-          ap (λ p. file_text (numbers_of web (table_of web)) output.has_macros p (node_parts kept output.node)) e
-          ∙ ap (λ p. file_text (numbers_of web (table_of web)) output.has_macros p (flat_of (project_of web) (title_of_node (table_of web).names output.node))) (sym e)
+          ap (λ p. file_text (numbers_of web (table_of web) marks) output.has_macros p (node_parts kept output.node)) e
+          ∙ ap (λ p. file_text (numbers_of web (table_of web) marks) output.has_macros p (flat_of (project_of web) (title_of_node (table_of web).names output.node))) (sym e)
 
 -- the bytes of a name are those of the output that is found by it
-pub look_up : (web : WebRead) (name : List ℕ) (os : List OutputRead) → lookup (bytes_eq name) (map (written web) os) ≡ option_map (output_bytes web) (find (λ o. bytes_eq name o.name) os)
-look_up web name [] = refl
-look_up web name (o ∷ os) = by (bytes_eq name o.name) (look_up web name os)
+pub look_up : (web : WebRead) (marks : MarkMode) (name : List ℕ) (os : List OutputRead)
+    → lookup (bytes_eq name) (map (written web marks) os) ≡ option_map (output_bytes web marks) (find (λ o. bytes_eq name o.name) os)
+look_up web marks name [] = refl
+look_up web marks name (o ∷ os) = by (bytes_eq name o.name) (look_up web marks name os)
   where
-    by : (b : Bool) → lookup (bytes_eq name) (map (written web) os) ≡ option_map (output_bytes web) (find (λ o. bytes_eq name o.name) os)
-        → cond b (Some (output_bytes web o)) (lookup (bytes_eq name) (map (written web) os)) ≡ option_map (output_bytes web) (cond b (Some o) (find (λ o. bytes_eq name o.name) os))
+    by : (b : Bool) → lookup (bytes_eq name) (map (written web marks) os) ≡ option_map (output_bytes web marks) (find (λ o. bytes_eq name o.name) os)
+        → cond b (Some (output_bytes web marks o)) (lookup (bytes_eq name) (map (written web marks) os))
+            ≡ option_map (output_bytes web marks) (cond b (Some o) (find (λ o. bytes_eq name o.name) os))
     by true e = refl
     by false e = e
 
@@ -176,6 +179,6 @@ pub find_end : {X : Type 0} (p : X → Bool) (xs : List X) (i : ℕ) → length 
 find_end p xs i h sofar = sym (ap (find p) (drop_all i xs h)) ∙ sofar
 
 -- the names of the outputs as they are written
-pub names_written : (web : WebRead) (os : List OutputRead) → map (λ o. o.name) os ≡ map (λ o. o.0) (map (written web) os)
-names_written web [] = refl
-names_written web (o ∷ os) = ap (λ l. o.name ∷ l) (names_written web os)
+pub names_written : (web : WebRead) (marks : MarkMode) (os : List OutputRead) → map (λ o. o.name) os ≡ map (λ o. o.0) (map (written web marks) os)
+names_written web marks [] = refl
+names_written web marks (o ∷ os) = ap (λ l. o.name ∷ l) (names_written web marks os)

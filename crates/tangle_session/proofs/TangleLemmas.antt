@@ -11,6 +11,8 @@ use Rattle.tangle_lines.specs.Reading.{SourceRead}
 use Rattle.tangle_files.specs.Roles.{RolesRead, is_there, is_there_if_any, fits}
 use Rattle.tangle_files.specs.declared.refusal.Refusal.TheVariants.{NoWeb, NoChange}
 use Rattle.tangle_files.specs.declared.refusal.Refusal.TheVariants as refusal
+use Rattle.tangle_files.specs.declared.marks.MarkMode.{MarkMode}
+use Rattle.tangle_files.specs.declared.marks.MarkMode.TheVariants.{Full}
 use Rattle.tangle_scan.specs.LineTruth.{PiecesStandAtTheirLines}
 use Rattle.tangle_scan.specs.Web.{WebRead}
 use Rattle.tangle_names.specs.NameTable.{table_of}
@@ -61,6 +63,12 @@ lists_titles old new store nodes is names_are lists = record {
         subst (Contains nodes) same at.2),
   );
 }
+
+-- the web does not depend on how line marks are written
+pub same_web : (files : FileTable) (roles : RolesRead) (marks : MarkMode)
+    → web_at files (record roles { marks = marks }) ≡ web_at files roles
+unfolding web_at source_at
+same_web files roles marks = refl
 
 -- a web whose shapes are what they were affects no node
 pub expands_nothing : (web : WebRead) (nodes : List Node) → ListsAffected web web nodes → nodes ≡ []
@@ -129,17 +137,17 @@ module _ (files : FileTable) (roles : RolesRead) (tangled : Tangled) (hold : Hol
   abbrev named : OutputRead → Bool
   named o = bytes_eq name o.name
 
-  looked_up : output_at files roles name ≡ option_map (output_bytes (web_at files roles)) (find named tangled.ground.store.outputs)
+  looked_up : output_at files roles name ≡ option_map (output_bytes (web_at files roles) roles.marks) (find named tangled.ground.store.outputs)
   looked_up =
-      look_up (web_at files roles) name (outputs (web_at files roles) (table_of (web_at files roles)) roles.out)
-      ∙ ap (λ os. option_map (output_bytes (web_at files roles)) (find named os)) (sym hold.ground.outputs_are)
+      look_up (web_at files roles) roles.marks name (outputs (web_at files roles) (table_of (web_at files roles)) roles.out)
+      ∙ ap (λ os. option_map (output_bytes (web_at files roles) roles.marks) (find named os)) (sym hold.ground.outputs_are)
 
   pub none_at : find named tangled.ground.store.outputs ≡ None → output_at files roles name ≡ None
-  none_at e = looked_up ∙ ap (option_map (output_bytes (web_at files roles))) e
+  none_at e = looked_up ∙ ap (option_map (output_bytes (web_at files roles) roles.marks)) e
 
   module _ (output : OutputRead) (found : find named tangled.ground.store.outputs ≡ Some output) where
-    pub some_at : output_at files roles name ≡ Some (output_bytes (web_at files roles) output)
-    some_at = looked_up ∙ ap (option_map (output_bytes (web_at files roles))) found
+    pub some_at : output_at files roles name ≡ Some (output_bytes (web_at files roles) roles.marks output)
+    some_at = looked_up ∙ ap (option_map (output_bytes (web_at files roles) roles.marks)) found
 
     found_there : find named (outputs (web_at files roles) (table_of (web_at files roles)) roles.out) ≡ Some output
     found_there = ap (find named) (sym hold.ground.outputs_are) ∙ found
@@ -151,22 +159,23 @@ module _ (files : FileTable) (roles : RolesRead) (tangled : Tangled) (hold : Hol
           (found_in named (outputs (web_at files roles) (table_of (web_at files roles)) roles.out) output found_there)
 
       pub is_ready : ((p : Project) (t : Title) → IsExpandableNode p t → length (flat_of p t) ≤ heaviest) → IsReady output tangled.kept
-      is_ready law = ready (web_at files roles) tangled.ground.store tangled.kept hold.ground.store hold.ground.store_names hold.kept output fit law
+      is_ready law = ready (web_at files roles) tangled.ground.store tangled.kept hold.ground.store hold.ground.store_names hold.kept roles.marks output fit law
 
-      pub text_is : output_text tangled.ground.numbers tangled.kept output ≡ output_bytes (web_at files roles) output
+      pub text_is : output_text tangled.ground.numbers tangled.kept output ≡ output_bytes (web_at files roles) roles.marks output
       text_is =
           ap (λ n. output_text n tangled.kept output) hold.ground.numbers
-          ∙ same_text (web_at files roles) tangled.ground.store tangled.kept hold.ground.store hold.ground.store_names hold.kept output fit
+          ∙ same_text (web_at files roles) tangled.ground.store tangled.kept hold.ground.store hold.ground.store_names hold.kept roles.marks output fit
 
-    pub truth_at : ((source : SourceRead) (web : WebRead) (node : Title) → PiecesStandAtTheirLines source web → IsTrueToLines source web node (text (numbers_of web (table_of web)) (flat_of (project_of web) node)))
-        → IsTrueFile files roles name
-    truth_at law = record {
+    pub truth_at : ((source : SourceRead) (web : WebRead) (node : Title) → PiecesStandAtTheirLines source web
+            → IsTrueToLines source web node (text (numbers_of web (table_of web) Full) (flat_of (project_of web) node)))
+        → roles.marks ≡ Full → IsTrueFile files roles name
+    truth_at law full = record {
       output = output;
       named = found_there;
-      bytes = output_bytes (web_at files roles) output;
-      are_its = some_at;
+      bytes = output_bytes (web_at files roles) Full output;
+      are_its = some_at ∙ ap (λ m. Some (output_bytes (web_at files roles) m output)) full;
       true_to_lines = record {
-        text = text (numbers_of (web_at files roles) (table_of (web_at files roles))) (flat_of (project_of (web_at files roles)) (title_of_node (table_of (web_at files roles)).names output.node));
+        text = text (numbers_of (web_at files roles) (table_of (web_at files roles)) Full) (flat_of (project_of (web_at files roles)) (title_of_node (table_of (web_at files roles)).names output.node));
         made = refl;
         true_to_lines = law (source_at files roles) (web_at files roles) (title_of_node (table_of (web_at files roles)).names output.node) hold.ground.line_truth;
       };

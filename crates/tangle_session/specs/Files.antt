@@ -1,6 +1,7 @@
 -- The web of files with roles, and the output files that a web has.
 use Rattle.std.specs.Prelude.{ℕ, List, map}
 use Rattle.tangle_files.specs.Lines.{FileTable}
+use Rattle.tangle_files.specs.declared.marks.MarkMode.{MarkMode}
 use Rattle.tangle_files.specs.Roles.{RolesRead}
 use Rattle.tangle_lines.specs.Reading.{SourceRead, source_of}
 use Rattle.tangle_scan.specs.Web.{WebRead, web_of}
@@ -26,14 +27,16 @@ module _ (web : WebRead) where
   abbrev pub project_of : Project
   project_of = project web (table_of web)
 
-  -- the bytes of an output file of a web
-  abbrev pub output_bytes : OutputRead → List ℕ
-  output_bytes output = file_text (numbers_of web (table_of web)) output.has_macros output.has_piece
-      (flat_of project_of (title_of_node (table_of web).names output.node))
+  module _ (marks : MarkMode) where
+    -- the bytes of an output file of a web whose line marks are written so
+    abbrev pub output_bytes : OutputRead → List ℕ
+    output_bytes output =
+        file_text (numbers_of web (table_of web) marks) output.has_macros output.has_piece
+        (flat_of project_of (title_of_node (table_of web).names output.node))
 
-  abbrev pub written : OutputRead → List ℕ × List ℕ
-  written output = (output.name, output_bytes output)
+    abbrev pub written : OutputRead → List ℕ × List ℕ
+    written output = (output.name, output_bytes output)
 
-  -- the output files of a web with a main file of this name, in order: each a name and its bytes
-  abbrev pub written_outputs : List ℕ → List (List ℕ × List ℕ)
-  written_outputs out = map written (outputs web (table_of web) out)
+    -- the output files of a web with a main file of this name, in order: each a name and its bytes
+    abbrev pub written_outputs : List ℕ → List (List ℕ × List ℕ)
+    written_outputs out = map written (outputs web (table_of web) out)

@@ -1,29 +1,32 @@
 -- The headline on one page: a session that was edited shows what plain tangling gives.
 --
--- A project is started, edits are handed to it one after another, and it is asked. It shows the
--- output files and the faults that plain tangling gives for the files with just the accepted edits
--- made, whatever was accepted and refused on the way. No output file reaches a name that contains
--- itself, and each such name has its fault.
+-- A project is started, edits of its web, include and change files and of its setting for line marks
+-- are handed to it, one by one or several as one list, and it is asked. It shows the output files
+-- and the faults that plain tangling gives for the files and the setting with just the accepted
+-- edits made, whatever was accepted and refused on the way; a refused edit changes nothing. No
+-- output file reaches a name that contains itself, and each such name has its fault.
 --
 -- Below are plain tangling (1), a history of edits (2), and what is shown at its end (3). The calls
 -- that promise it:
--- - `start_and_edit` starts a session and hands it any list of edits. These edits, each with the
---   answer that was given, are a `History`, and it ends with the session that is given.
+-- - `start_and_edit` starts a session and hands it any edits. These edits, each with the answer that
+--   was given, are a `History`, and it ends with the session that is given.
 -- - `ask_all` asks a session everything. At the end of any `History` it `ShowsPlainTangling` of the
---   files of the start with the accepted edits made, and it `ShowsLastWork`.
+--   files and roles of the start with the accepted edits made, and it `ShowsLastWork`.
 -- - `run_retangle` of `ctangle_cli` answers a script. The edits of a script, each with its answer,
 --   are a `History`, by `the_answers_of_a_script_are_a_history`.
 -- Text that only moves affects no node: `moved_text_expands_nothing`, over `Moves.antt`.
-use Rattle.std.specs.Prelude.{◌≡◌, ◌++◌, ◌∷◌, [], ℕ, List, length, map, Contains, None, option_map}
+use Rattle.std.specs.Prelude.{◌≡◌, ◌⊎◌, ◌++◌, ◌∷◌, [], ℕ, List, length, map, Contains}
+use Rattle.std.specs.Prelude.{None, Some, option_map}
 use Rattle.std.specs.Prelude.{Result, Ok, Err, OnOk, unwrap_or}
 use Rattle.std.specs.Map.{lookup}
 use Rattle.std.specs.Str.{bytes_eq}
 use Rattle.tangle_streams.specs.Streams.{Stream}
-use Rattle.tangle_files.specs.Edited.{edited}
+use Rattle.tangle_files.specs.Edited.{edited_all, joined, roles_after}
 use Rattle.tangle_files.specs.Lines.{FileTable}
 use Rattle.tangle_files.specs.Roles.{RolesRead}
 use Rattle.tangle_files.specs.declared.edits.Edit.{Edit}
-use Rattle.tangle_files.specs.declared.refusal.Refusal.{Refusal}
+use Rattle.tangle_files.specs.declared.marks.MarkMode.{MarkMode}
+use Rattle.tangle_files.specs.declared.marks.MarkMode.TheVariants.{Full}
 use Rattle.tangle_files.specs.declared.refusal.Refusal.TheVariants.{NoMemory}
 use Rattle.tangle_lines.specs.Faults.{Finding}
 use Rattle.tangle_lines.specs.Reading.{SourceRead, source_of}
@@ -38,22 +41,25 @@ use Rattle.tangle_expansion.specs.declared.nodes.Node.{Node}
 use Rattle.tangle_graph.specs.Faults.{AreGraphFaults}
 use Rattle.tangle_graph.specs.Nodes.{title_of_node}
 use Rattle.tangle_graph.specs.Outputs.{outputs}
-use Rattle.tangle_session.specs.Edits.{session_refusal}
+use Rattle.tangle_session.specs.Edits.{list_memory, list_refusal, of_first, session_refusal}
 use Rattle.tangle_session.specs.Files.{web_at}
 use Rattle.tangle_session.specs.Laws.{IsToldSelfContaining}
-use Rattle.tangle_session.specs.Sessions.{ListsAffected, ListsExpandable}
+use Rattle.tangle_session.specs.Sessions.{AreMade, ListsAffected, ListsExpandable}
 use Rattle.tangle_session.specs.Sessions.{SessionRead, start_refusal}
 use Rattle.tangle_session.specs.Writes.{IsTrueFile, WritesOutput}
+use Rattle.tangle_session.specs.declared.headline.Edits.{Edits}
+use Rattle.tangle_session.specs.declared.headline.Edits.TheVariants.{Single, Several}
 use Rattle.tangle_session.specs.declared.headline.Shown.{Shown}
+use Rattle.tangle_session.specs.declared.refusing.ListRefusal.{ListRefusal}
 
 -- 1. Plain tangling of files. Their roles are the names of the web, of the change file, if there is
--- one, and of the main output file.
+-- one, and of the main output file, and how line marks are written.
 
 -- the bytes of an output file: all macros, if they begin it, and then what its node expands to,
 -- with section numbers and line marks
-abbrev pub output_text : WebRead → TableRead → OutputRead → List ℕ
-output_text web names output =
-    file_text (numbers_of web names) output.has_macros output.has_piece
+abbrev pub output_text : WebRead → TableRead → MarkMode → OutputRead → List ℕ
+output_text web names marks output =
+    file_text (numbers_of web names marks) output.has_macros output.has_piece
     (flat_of (project web names) (title_of_node names.names output.node))
 
 -- Each step is a function of what the steps before it gave, and of the roles; of nothing else.
@@ -71,7 +77,8 @@ pub record IsPlainTangling (files : FileTable) (roles : RolesRead)
   pub naming : names ≡ table_of web
   -- names to outputs: the main file, and then the files of `@(`, each with its name and its bytes
   pub writing : output_files ≡
-      map (λ output. (output.name, output_text web names output)) (outputs web names roles.out)
+      map (λ output. (output.name, output_text web names roles.marks output))
+      (outputs web names roles.out)
   -- and to faults: those of reading, of scanning, of names, and of what uses what, in this order
   pub of_uses : List Finding
   pub are_of_uses : AreGraphFaults web names roles.out of_uses
@@ -79,32 +86,42 @@ pub record IsPlainTangling (files : FileTable) (roles : RolesRead)
 
 -- 2. A history: edits from a start on, each with its answer.
 
--- an edit, and its answer: it is accepted (`Ok`), or refused for a reason (`Err`)
+-- one edit, or a list of edits, and its answer: it is accepted (`Ok`), or refused for a reason
+-- (`Err`), which has the number of the first edit that is refused
 abbrev pub Call : Type 0
-Call = Edit × Result (Unit {0}) Refusal
+Call = Edits × Result (Unit {0}) ListRefusal
 
--- the edits that were accepted, in order
-abbrev pub accepted : List Call → List Edit
+abbrev pub edits_of : Edits → List Edit
+edits_of (Single edit) = edit ∷ []
+edits_of (Several edits) = edits.items
+
+-- the edits of each call that was accepted, in order
+abbrev pub accepted : List Call → List (List Edit)
 accepted [] = []
-accepted ((edit, Ok done) ∷ calls) = edit ∷ accepted calls
-accepted ((edit, Err refusal) ∷ calls) = accepted calls
+accepted ((edits, Ok done) ∷ calls) = edits_of edits ∷ accepted calls
+accepted ((edits, Err refused) ∷ calls) = accepted calls
 
--- the files with these edits made, each on what the earlier ones left
-abbrev pub edited_all : FileTable → List Edit → FileTable
-edited_all files [] = files
-edited_all files (edit ∷ edits) = edited_all (edited files edit) edits
+-- the files and the roles with these edits made, each on what the earlier ones left
+abbrev pub files_after : FileTable → List (List Edit) → FileTable
+files_after files lists = edited_all files (joined lists)
 
--- Between these two states of a session an edit was answered so. It is accepted only where no
--- refusal applies to it, and just the nodes that it affects are expanded. It is refused for the
--- first reason that applies or, where none does, since memory ran out; then nothing changes.
-abbrev pub IsAnswered : SessionRead → Edit → Result (Unit {0}) Refusal → SessionRead → Type 0
-IsAnswered before edit (Ok done) after =
-    (session_refusal before.files before.roles edit ≡ None)
-    × (after.files ≡ edited before.files edit)
-    × (after.roles ≡ before.roles)
-    × ListsAffected (web_at before.files before.roles) (web_at after.files after.roles) after.work
-IsAnswered before edit (Err refusal) after =
-    (refusal ≡ unwrap_or (session_refusal before.files before.roles edit) NoMemory)
+abbrev pub roles_with : RolesRead → List (List Edit) → RolesRead
+roles_with roles lists = roles_after roles (joined lists)
+
+-- Between these two states of a session one edit, or a list of edits, was answered so. It is accepted
+-- only where no refusal applies to it. It is refused for the first reason that applies or, where
+-- none does, out of memory, which may come before any other reason is found in a list; then nothing
+-- changes.
+abbrev pub IsAnswered : SessionRead → Edits → Result (Unit {0}) ListRefusal → SessionRead → Type 0
+IsAnswered before (Single edit) (Ok done) after =
+    (session_refusal before.files before.roles edit ≡ None) × AreMade before (edit ∷ []) after
+IsAnswered before (Single edit) (Err refused) after =
+    (refused ≡ of_first (unwrap_or (session_refusal before.files before.roles edit) NoMemory))
+    × (after ≡ before)
+IsAnswered before (Several edits) (Ok done) after =
+    (list_refusal before.files before.roles edits.items ≡ None) × AreMade before edits.items after
+IsAnswered before (Several edits) (Err refused) after =
+    ((list_refusal before.files before.roles edits.items ≡ Some refused) ⊎ (refused ≡ list_memory))
     × (after ≡ before)
 
 -- The session was started with these files and roles, which expanded each node that can be
@@ -115,12 +132,12 @@ pub data History (files : FileTable) (roles : RolesRead) : List Call → Session
       → ListsExpandable (web_at files roles) session.work
       → History files roles [] session
   Edited : {calls : List Call} {after : SessionRead}
-      (before : SessionRead) (edit : Edit) (answer : Result (Unit {0}) Refusal)
-      → History files roles calls before → IsAnswered before edit answer after
-      → History files roles (calls ++ (edit, answer) ∷ []) after
+      (before : SessionRead) (edits : Edits) (answer : Result (Unit {0}) ListRefusal)
+      → History files roles calls before → IsAnswered before edits answer after
+      → History files roles (calls ++ (edits, answer) ∷ []) after
 
--- 3. What is shown at the end of a history. Below, `files` are those of the start with the accepted
--- edits made; no history is in what is shown.
+-- 3. What is shown at the end of a history. Below, `files` and `roles` are those of the start with
+-- the accepted edits made; no history is in what is shown.
 
 -- no output file reaches a name that contains itself; the main file reaches what the program does
 abbrev pub NoOutputReachesACycle : WebRead → TableRead → List ℕ → Type 0
@@ -151,25 +168,30 @@ pub record ShowsPlainTangling (files : FileTable) (roles : RolesRead) (name : Li
   -- its bytes were written, or the first so many of them and the writer failed; where there is no
   -- such file, nothing was written, and it is refused
   pub written : WritesOutput (lookup (bytes_eq name) output_files) old new shown.written
-  -- where all are written, each byte of a word, sign, text or code is on the line that the compiler
-  -- counts as its own, but for those behind a line end that a text or a join took, up to the next
-  -- line end or mark
-  pub line_truth : OnOk shown.written (IsTrueFile files roles name)
+  -- where all are written, with line marks in full, each byte of a word, sign, text or code is on the
+  -- line that the compiler counts as its own, but for those behind a line end that a text or a join
+  -- took, up to the next line end or mark
+  pub line_truth : roles.marks ≡ Full → OnOk shown.written (IsTrueFile files roles name)
   pub no_cycle : NoOutputReachesACycle plain.web plain.names roles.out
   pub cycles : EachCycleIsReported plain.web plain.names shown.faults.now
 
--- the nodes that the last of these edits affected; without an edit, those that can be expanded
-abbrev pub ListsLastExpanded : FileTable → RolesRead → List Edit → List Node → Type 0
-ListsLastExpanded files roles [] nodes = ListsExpandable (web_at files roles) nodes
-ListsLastExpanded files roles (edit ∷ []) nodes =
-    ListsAffected (web_at files roles) (web_at (edited files edit) roles) nodes
-ListsLastExpanded files roles (edit ∷ next ∷ edits) nodes =
-    ListsLastExpanded (edited files edit) roles (next ∷ edits) nodes
+-- the web of the files with these edits made
+abbrev pub web_after : FileTable → RolesRead → List (List Edit) → WebRead
+web_after files roles lists = web_at (files_after files lists) (roles_with roles lists)
 
--- The count that is shown is that of these nodes. Here the files are those of the start, and the
--- edits those that were accepted.
-pub record ShowsLastWork (files : FileTable) (roles : RolesRead) (edits : List Edit)
+-- the nodes that the last call affected; before the first call, those that can be expanded
+pub data ListsLastExpanded (files : FileTable) (roles : RolesRead) (nodes : List Node) :
+    List (List Edit) → Type 0 where
+  ByStart : ListsExpandable (web_at files roles) nodes → ListsLastExpanded files roles nodes []
+  ByLast : (earlier : List (List Edit)) (last : List Edit)
+      → ListsAffected (web_after files roles earlier)
+          (web_after files roles (earlier ++ last ∷ [])) nodes
+      → ListsLastExpanded files roles nodes (earlier ++ last ∷ [])
+
+-- The count that is shown is that of these nodes. Here the files and the roles are those of the
+-- start, and the edits those of the calls that were accepted.
+pub record ShowsLastWork (files : FileTable) (roles : RolesRead) (lists : List (List Edit))
     (shown : Shown) : Type 0 where
   pub nodes : List Node
-  pub expanded : ListsLastExpanded files roles edits nodes
+  pub expanded : ListsLastExpanded files roles nodes lists
   pub counted : shown.work ≡ length nodes

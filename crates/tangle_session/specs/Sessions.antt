@@ -1,7 +1,10 @@
 -- What a session shows, and what it holds besides.
 use Rattle.std.specs.Prelude.{◌≡◌, ◌≢◌, ◌↔◌, ℕ, true, List, None, Some, Option, AllPairs, Contains, if◌then◌else◌}
+use Rattle.tangle_files.specs.Edited.{edited_all, roles_after}
 use Rattle.tangle_files.specs.Lines.{FileTable}
 use Rattle.tangle_files.specs.Roles.{RolesRead, fits, is_there, is_there_if_any}
+use Rattle.tangle_files.specs.declared.edits.Edit.{Edit}
+use Rattle.tangle_files.specs.declared.marks.MarkMode.{MarkMode}
 use Rattle.tangle_lines.specs.Reading.{SourceRead}
 use Rattle.tangle_files.specs.declared.refusal.Refusal.{Refusal}
 use Rattle.tangle_files.specs.declared.refusal.Refusal.TheVariants.{NoWeb, NoChange}
@@ -44,19 +47,29 @@ pub record ListsAffected (old new : WebRead) (nodes : List Node) : Type 0 where
   pub just : (node : Node) → Contains nodes node
       ↔ (IsNodeOf (table_of new).names node × IsAffected levels heaviest (project_of old) (project_of new) (title_of_node (table_of new).names node))
 
--- The ground is what the web of a source makes, for a main file of this name: its names, its store and its numbers, and the faults.
-pub record IsGroundOf (source : SourceRead) (web : WebRead) (out : List ℕ) (ground : Ground) : Type 0 where
+-- Between these two states of a session a list of edits was made, each on what the earlier ones
+-- left. Just the nodes that the whole list affects were expanded.
+pub record AreMade (before : SessionRead) (edits : List Edit) (after : SessionRead) : Type 0 where
+  pub files : after.files ≡ edited_all before.files edits
+  pub roles : after.roles ≡ roles_after before.roles edits
+  pub work : ListsAffected (web_at before.files before.roles) (web_at after.files after.roles) after.work
+
+-- The ground is what the web of a source makes, for a main file of this name and line marks that
+-- are written so: its names, its store and its numbers, and the faults.
+pub record IsGroundOf (source : SourceRead) (web : WebRead) (out : List ℕ) (marks : MarkMode)
+    (ground : Ground) : Type 0 where
   pub names : ground.table.names ≡ (table_of web).names
   pub store : IsStoreOf (project_of web) ground.store
   pub store_names : ground.store.names ≡ (table_of web).names
   pub outputs_are : ground.store.outputs ≡ outputs web (table_of web) out
-  pub numbers : ground.numbers ≡ numbers_of web (table_of web)
+  pub numbers : ground.numbers ≡ numbers_of web (table_of web) marks
   pub faults : AreFaults source web out ground.faults.items
   pub line_truth : PiecesStandAtTheirLines source web
 
 -- the ground is what the files make
 abbrev pub IsGroundAt : FileTable → RolesRead → Ground → Type 0
-IsGroundAt files roles ground = IsGroundOf (source_at files roles) (web_at files roles) roles.out ground
+IsGroundAt files roles ground =
+    IsGroundOf (source_at files roles) (web_at files roles) roles.out roles.marks ground
 
 -- What is held is what the files make, with what each expandable node expands to; and the web and the change file are there.
 pub record Holds (files : FileTable) (roles : RolesRead) (tangled : Tangled) : Type 0 where

@@ -16,7 +16,7 @@ pub record Tangling : Type 0 where
 module _ (files : FileTable) (roles : RolesRead) where
   -- the output files, in order
   abbrev pub outputs_of : List (List ℕ × List ℕ)
-  outputs_of = written_outputs (web_at files roles) roles.out
+  outputs_of = written_outputs (web_at files roles) roles.marks roles.out
 
   -- the bytes of the output file of this name
   abbrev pub output_at : List ℕ → Option (List ℕ)

@@ -4,6 +4,7 @@ use Rattle.std.specs.Str.{bytes_eq}
 use Rattle.tangle_files.specs.Bytes.{line_feed}
 use Rattle.tangle_files.specs.Lines.{FileTable}
 use Rattle.tangle_files.specs.Roles.{RolesRead}
+use Rattle.tangle_files.specs.declared.marks.MarkMode.TheVariants.{Full}
 use Rattle.tangle_lines.specs.Reading.{SourceRead}
 use Rattle.tangle_files.specs.declared.refusal.Refusal.{Refusal}
 use Rattle.tangle_files.specs.declared.refusal.Refusal.TheVariants as refusal
@@ -29,12 +30,14 @@ abbrev pub WritesOutput : Option (List ℕ) → Stream → Stream → Result ℕ
 WritesOutput None old new result = (result ≡ Err refusal.NoOutput) × (new ≡ old)
 WritesOutput (Some bytes) old new result = WritesOut old new bytes result
 
--- The bytes of an output are the macros, if they begin it, and the text of its node and a line feed, if the node has a piece; and each
--- byte of a word, sign, quoted text, verbatim text or ASCII code in that text that is in no stretch stands at the compiler's place that
--- is its own.
+-- Where line marks are written in full, the bytes of an output are the macros, if they begin it, and
+-- the text of its node and a line feed, if the node has a piece; and each byte of a word, sign,
+-- quoted text, verbatim text or ASCII code in that text that is in no stretch is at the compiler's
+-- place that is its own.
 pub record IsTrueOutput (source : SourceRead) (web : WebRead) (output : OutputRead) (bytes : List ℕ) : Type 0 where
   pub text : List ℕ
-  pub made : bytes ≡ front_text (numbers_of web (table_of web)) output.has_macros ++ (if output.has_piece then text ++ line_feed ∷ [] else [])
+  pub made : bytes ≡ front_text (numbers_of web (table_of web) Full) output.has_macros
+      ++ (if output.has_piece then text ++ line_feed ∷ [] else [])
   pub true_to_lines : IsTrueToLines source web (title_of_node (table_of web).names output.node) text
 
 -- the output file of this name, and its bytes, which are true to the lines of the source

@@ -12,7 +12,7 @@ ghost use Rattle.tangle_session.specs.Sessions.{IsGroundAt};
 use std::alloc::Global;
 use tangle_expansion::Numbers;
 use tangle_graph::Store;
-use tangle_lines::{Fault, Files, NoMemory, Roles, read_source};
+use tangle_lines::{Fault, Files, MarkMode, NoMemory, Roles, read_source};
 use tangle_names::NameTable;
 use tangle_scan::{Web, scan};
 
@@ -26,19 +26,25 @@ pub(crate) struct Ground {
 }
 
 impl Ground {
-    /// What a web is made into, for a main file of this name. The faults are those of names as yet; the store has those of the graph.
-    fn of_web(alloc: Global, web: &Web, out: &[u8]) -> Result<Ground, NoMemory>
+    /// What a web is made into, for a main file of this name and line marks that are written so. The
+    /// faults are those of names as yet; the store has those of the graph.
+    fn of_web(
+        alloc: Global,
+        web: &Web,
+        out: &[u8],
+        marks: MarkMode,
+    ) -> Result<Ground, NoMemory>
         ensures names { IfOk result (λ made. made.table.names ≡ (table_of web.now).names) }
         ensures store { IfOk result (λ made. IsStoreOf (project_of web.now) made.store) }
         ensures store_names { IfOk result (λ made. made.store.names ≡ (table_of web.now).names) }
         ensures outputs { IfOk result (λ made. made.store.outputs ≡ outputs web.now (table_of web.now) out.now) }
-        ensures numbers { IfOk result (λ made. made.numbers ≡ numbers_of web.now (table_of web.now)) }
+        ensures numbers { IfOk result (λ made. made.numbers ≡ numbers_of web.now (table_of web.now) marks) }
         ensures of_names { IfOk result (λ made. made.faults.items ≡ (table_of web.now).faults) }
         ensures of_graph { IfOk result (λ made. AreGraphFaults web.now (table_of web.now) out.now made.store.faults) }
     {
         let mut table = NameTable::build(alloc, web)?;
         let store = Store::build(alloc, web, &table, out)?;
-        let numbers = Numbers::build(alloc, web, &store)?;
+        let numbers = Numbers::build(alloc, web, &store, marks)?;
         let faults = table.take_faults();
         Ok(Ground {
             table,
@@ -65,14 +71,21 @@ impl Ground {
         Ok(())
     }
 
-    /// Reads and scans the files, which have the web and the change file that is named.
-    pub(crate) fn build(alloc: Global, files: &Files, roles: &Roles) -> Result<Ground, NoMemory>
+    /// Reads and scans the files, which have the web and the change file that is named. Line marks
+    /// are to be written so, whatever the roles say.
+    pub(crate) fn build(
+        alloc: Global,
+        files: &Files,
+        roles: &Roles,
+        marks: MarkMode,
+    ) -> Result<Ground, NoMemory>
         requires { fits files.now roles.now ≡ true }
-        ensures { IfOk result (λ made. IsGroundAt files.now roles.now made) }
+        ensures { IfOk result (λ made.
+            IsGroundAt files.now (record roles.now { marks = marks }) made) }
     {
         let source = read_source(alloc, files, roles)?;
         let web = scan(alloc, &source)?;
-        let mut ground = Ground::of_web(alloc, &web, roles.out())?;
+        let mut ground = Ground::of_web(alloc, &web, roles.out(), marks)?;
         let of_web = web.into_faults();
         let of_source = source.into_faults();
         ground.join_faults(of_source, of_web)?;

@@ -6,12 +6,14 @@ ghost use Rattle.std.specs.Vec.{vec_capacity};
 ghost use Rattle.tangle_files.specs.Lines.{FileTable};
 ghost use Rattle.tangle_files.specs.Roles.{RolesRead};
 ghost use Rattle.tangle_files.specs.declared.refusal.Refusal.TheVariants.{NoMemory as no_memory};
-ghost use Rattle.tangle_session.specs.Headline.{Call, History, ShowsLastWork, ShowsPlainTangling};
-ghost use Rattle.tangle_session.specs.Headline.{accepted, edited_all};
+ghost use Rattle.tangle_session.specs.Headline.{Call, History, IsAnswered};
+ghost use Rattle.tangle_session.specs.Headline.{ShowsLastWork, ShowsPlainTangling};
+ghost use Rattle.tangle_session.specs.Headline.{accepted, files_after, roles_with};
 ghost use Rattle.tangle_session.specs.Sessions.{start_refusal};
 
 use crate::laws::{no_output_reaches_a_cycle, self_containing_names_are_told};
 use crate::outputs::OutputNames;
+use crate::refusing::ListRefusal;
 use crate::session::{Session, refusal_to_start};
 use std::alloc::Global;
 use tangle_lines::{Edit, Fault, Files, Refusal, Roles, Sink};
@@ -29,25 +31,47 @@ pub struct Shown<'a> {
     pub work: u64,
 }
 
-/// Hands edits to a session, one after another, and adds to the list how each was answered.
+/// What is handed to a session at once.
+#[derive(Drop)]
+pub enum Edits {
+    /// One edit.
+    Single(Edit),
+    /// A list of edits, as an editor hands over all edits of a save: all are made, or none is.
+    Several(Vec<Edit>),
+}
+
+/// Hands one edit, or a list of edits, to a session. The refusal of one edit has the number 0.
+fn hand_over(session: &mut Session, edits: &Edits) -> Result<(), ListRefusal>
+    ensures { IsAnswered session.old edits.now result session.new }
+{
+    match edits {
+        Edits::Single(edit) => match session.apply(edit) {
+            Ok(()) => Ok(()),
+            Err(refusal) => Err(ListRefusal { at: 0, refusal }),
+        },
+        Edits::Several(edits) => session.apply_all(edits),
+    }
+}
+
+/// Hands edits to a session, one call after another, and adds to the list how each was answered.
 fn edit_each(
     session: &mut Session,
-    edits: &[Edit],
-    mut answers: Vec<Result<(), Refusal>>,
-) -> Vec<Result<(), Refusal>>
+    edits: &[Edits],
+    mut answers: Vec<Result<(), ListRefusal>>,
+) -> Vec<Result<(), ListRefusal>>
     requires empty { answers.items ≡ [] }
     requires room { vec_capacity answers ≡ length edits.now }
     ensures answered { length result.items ≡ length edits.now }
     ensures history { (files : FileTable) (roles : RolesRead) → History files roles [] session.old
         → History files roles (zip edits.now result.items) session.new }
 {
-    for edit in edits {
-        answers.push_reserved(session.apply(edit));
+    for call in edits {
+        answers.push_reserved(hand_over(session, call));
     }
     answers
 }
 
-/// Starts a session and hands it edits, one after another: the session, and how each edit was
+/// Starts a session and hands it edits, one call after another: the session, and how each call was
 /// answered.
 ///
 /// # Errors
@@ -58,8 +82,8 @@ pub fn start_and_edit(
     alloc: Global,
     files: Files,
     roles: Roles,
-    edits: &[Edit],
-) -> Result<(Session, Vec<Result<(), Refusal>>), (Files, Roles, Refusal)>
+    edits: &[Edits],
+) -> Result<(Session, Vec<Result<(), ListRefusal>>), (Files, Roles, Refusal)>
     ensures answered { IfOk result (λ made. length made.1.items ≡ length edits.now) }
     ensures history { IfOk result (λ made.
         History files roles (zip edits.now made.1.items) made.0) }
@@ -81,12 +105,13 @@ pub fn start_and_edit(
 }
 
 /// Asks a session everything, and writes the output file of this name. What is shown is what plain
-/// tangling gives for the files of the start with just the accepted edits made, whatever edits
-/// brought the session here.
+/// tangling gives for the files and roles of the start with just the accepted edits made, whatever
+/// edits brought the session here.
 pub fn ask_all<'a, S: Sink>(session: &'a Session, name: &[u8], sink: &mut S) -> Shown<'a>
     ensures tangled { (files : FileTable) (roles : RolesRead) (calls : List Call)
         → History files roles calls session.now
-        → ShowsPlainTangling (edited_all files (accepted calls)) roles name.now
+        → ShowsPlainTangling (files_after files (accepted calls))
+        (roles_with roles (accepted calls)) name.now
         (S.stream sink.old) (S.stream sink.new) result }
     ensures work { (files : FileTable) (roles : RolesRead) (calls : List Call)
         → History files roles calls session.now

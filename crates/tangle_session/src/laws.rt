@@ -1,10 +1,14 @@
 //! Laws of tangling, which hold of all files.
-ghost use Rattle.std.specs.Prelude.{◌≡◌, ℕ, List, [], Contains, Some, map};
+ghost use Rattle.std.specs.Prelude.{◌≡◌, ℕ, List, [], ◌∷◌, Contains, Some, map};
 ghost use Rattle.std.specs.List.{IsDistinct};
+ghost use Rattle.std.specs.Option.{option_map};
 ghost use Rattle.std.specs.Str.{bytes_eq};
 ghost use Rattle.tangle_lines.specs.Faults.{Finding};
+ghost use Rattle.tangle_files.specs.Edited.{edited, edited_all, edited_roles, roles_after};
 ghost use Rattle.tangle_files.specs.Lines.{FileTable};
 ghost use Rattle.tangle_files.specs.Roles.{RolesRead};
+ghost use Rattle.tangle_files.specs.declared.edits.Edit.{Edit};
+ghost use Rattle.tangle_files.specs.declared.marks.MarkMode.{MarkMode};
 ghost use Rattle.tangle_scan.specs.Web.{WebRead};
 ghost use Rattle.tangle_names.specs.NameTable.{table_of};
 ghost use Rattle.tangle_expansion.specs.declared.nodes.Node.{Node};
@@ -13,6 +17,7 @@ ghost use Rattle.tangle_expansion.specs.Shapes.{Title, Named, Reaches, ContainsI
 ghost use Rattle.tangle_graph.specs.Nodes.{title_of_node};
 ghost use Rattle.tangle_graph.specs.Outputs.{outputs};
 ghost use Rattle.tangle_session.specs.Tangle.{Tangling, AreFaultsOf, IsTanglingOf, output_at, outputs_of};
+ghost use Rattle.tangle_session.specs.Edits.{list_refusal, of_first, session_refusal};
 ghost use Rattle.tangle_session.specs.Files.{project_of, web_at};
 ghost use Rattle.tangle_session.specs.Laws.{IsToldSelfContaining};
 ghost use Rattle.tangle_session.specs.Moves.{HaveSameShapes, IsMoved};
@@ -66,4 +71,27 @@ pub fn self_containing_names_are_told()
 pub fn moved_text_expands_nothing()
     ensures nothing { (old new : WebRead) (nodes : List Node) → HaveSameShapes old new → ListsAffected old new nodes → nodes ≡ [] }
     ensures moved { (old new : WebRead) → IsMoved old new → HaveSameShapes old new }
+{}
+
+/// A list of one edit leaves what the edit leaves, and is refused where the edit is.
+pub fn one_edit_is_a_list()
+    ensures files { (files : FileTable) (edit : Edit)
+        → edited_all files (edit ∷ []) ≡ edited files edit }
+    ensures roles { (roles : RolesRead) (edit : Edit)
+        → roles_after roles (edit ∷ []) ≡ edited_roles roles edit }
+    ensures refused { (files : FileTable) (roles : RolesRead) (edit : Edit)
+        → list_refusal files roles (edit ∷ [])
+        ≡ option_map of_first (session_refusal files roles edit) }
+{}
+
+/// What leaves the web as it was expands nothing. How line marks are written changes neither the web
+/// nor why an edit is refused.
+pub fn what_leaves_the_web_expands_nothing()
+    ensures nothing { (web : WebRead) (nodes : List Node) → ListsAffected web web nodes
+        → nodes ≡ [] }
+    ensures marks { (files : FileTable) (roles : RolesRead) (marks : MarkMode)
+        → web_at files (record roles { marks = marks }) ≡ web_at files roles }
+    ensures refusals { (files : FileTable) (roles : RolesRead) (marks : MarkMode) (edit : Edit)
+        → session_refusal files (record roles { marks = marks }) edit
+        ≡ session_refusal files roles edit }
 {}

@@ -2,9 +2,10 @@
 ghost use Rattle.std.specs.Prelude.{◌≡◌, ◌⊎◌, [], length, map, IfOk, OnOk, OnErr, IfSome, IfNone, IsOkUnless, Err};
 ghost use Rattle.std.specs.Option.{option_map};
 ghost use Rattle.tangle_files.specs.declared.refusal.Refusal.TheVariants.{NoMemory as no_memory};
+ghost use Rattle.tangle_files.specs.declared.marks.MarkMode.TheVariants.{Full};
 ghost use Rattle.tangle_session.specs.Files.{web_at};
-ghost use Rattle.tangle_files.specs.Edited.{edited};
-ghost use Rattle.tangle_session.specs.Edits.{edited_all, list_memory, list_refusal, session_refusal};
+ghost use Rattle.tangle_files.specs.Edited.{edited, edited_all, edited_roles, roles_after};
+ghost use Rattle.tangle_session.specs.Edits.{list_memory, list_refusal, session_refusal};
 ghost use Rattle.tangle_session.specs.Sessions.{ListsAffected, ListsExpandable, start_refusal};
 ghost use Rattle.tangle_session.specs.Tangle.{AreFaultsOf, output_at, outputs_of};
 ghost use Rattle.tangle_session.specs.Writes.{IsTrueFile, WritesOutput};
@@ -12,7 +13,7 @@ ghost use Rattle.tangle_session.specs.Writes.{IsTrueFile, WritesOutput};
 use crate::ground::Ground;
 use crate::outputs::OutputNames;
 use crate::refusing::{ListRefusal, refusal_to_apply};
-use crate::tangling::{Tangled, tangle_again};
+use crate::tangling::{Tangled, marks_after, tangle_again};
 use std::alloc::Global;
 use std::marker::Model;
 use tangle_affected::expand_all;
@@ -77,7 +78,7 @@ impl Session {
         if let Some(refusal) = refusal_to_start(&files, &roles) {
             return Err((files, roles, refusal));
         }
-        let ground = match Ground::build(alloc, &files, &roles) {
+        let ground = match Ground::build(alloc, &files, &roles, roles.marks()) {
             Ok(ground) => ground,
             Err(_) => return Err((files, roles, Refusal::NoMemory)),
         };
@@ -97,60 +98,77 @@ impl Session {
         }
     }
 
-    /// Makes an edit of the files, and tangles them anew. Just those nodes are expanded that can be expanded and reach one whose shape isn't
-    /// what it was, each once; of the others the expansions are kept. The new state is built beside the old one and takes its place at once.
+    /// Makes an edit of the files, or sets how line marks are written, and tangles the project anew.
+    /// Just those nodes are expanded that can be expanded and reach one whose shape isn't what it
+    /// was, each once; of the others the expansions are kept. The new state is built beside the old
+    /// one and takes its place at once. What is left is what [`Session::apply_all`] leaves for a
+    /// list of this edit alone.
     ///
     /// # Errors
     ///
-    /// That of [`Files::refusal_to_edit`] if there is one, else `RoleFile` where the web or the change file is to be discarded, else
-    /// `NoMemory` where a growth was refused; and then nothing changes.
+    /// That of [`Files::refusal_to_edit`] if there is one, else `RoleFile` where the web or the
+    /// change file is to be discarded, else `NoMemory` where an allocation was refused; and then
+    /// nothing changes.
     pub fn apply(&mut self, edit: &Edit) -> Result<(), Refusal>
         ensures files { OnOk result (self.new.files ≡ edited self.old.files edit.now) }
-        ensures roles { OnOk result (self.new.roles ≡ self.old.roles) }
-        ensures work { OnOk result (ListsAffected (web_at self.old.files self.old.roles) (web_at self.new.files self.new.roles) self.new.work) }
-        ensures refused { IfSome (session_refusal self.old.files self.old.roles edit.now) (λ refusal. result ≡ Err refusal) }
-        ensures only { IfNone (session_refusal self.old.files self.old.roles edit.now) (IsOkUnless result no_memory) }
+        ensures roles { OnOk result (self.new.roles ≡ edited_roles self.old.roles edit.now) }
+        ensures work { OnOk result (ListsAffected (web_at self.old.files self.old.roles)
+            (web_at self.new.files self.new.roles) self.new.work) }
+        ensures refused { IfSome (session_refusal self.old.files self.old.roles edit.now)
+            (λ refusal. result ≡ Err refusal) }
+        ensures only { IfNone (session_refusal self.old.files self.old.roles edit.now)
+            (IsOkUnless result no_memory) }
         ensures err { OnErr result (self.new ≡ self.old) }
     {
         if let Some(refusal) = refusal_to_apply(&self.tangled.files, &self.roles, edit) {
             return Err(refusal);
         }
         let work = Work::new(self.alloc);
-        match self.change(std::slice::from_ref(edit), work) {
+        match self.make(std::slice::from_ref(edit), work) {
             Ok(()) => Ok(()),
             Err(refused) => Err(refused.refusal),
         }
     }
 
     /// Makes a list of edits, each on what the earlier ones left, and then tangles the project once.
+    /// Just those nodes are expanded that can be expanded and reach one whose shape isn't what it
+    /// was before the list, each once: none, if the list is empty.
     ///
     /// # Errors
     ///
-    /// That of the first edit that is refused, with its number from 0 on; or `NoMemory` with the number 0, which may come before such an
-    /// edit is met; and then nothing changes.
+    /// That of the first edit that is refused, with its number from 0; or `NoMemory` with the number
+    /// 0, which may come before such an edit is met; and then nothing changes.
     pub fn apply_all(&mut self, edits: &[Edit]) -> Result<(), ListRefusal>
         ensures files { OnOk result (self.new.files ≡ edited_all self.old.files edits.now) }
-        ensures roles { OnOk result (self.new.roles ≡ self.old.roles) }
-        ensures work { OnOk result (ListsAffected (web_at self.old.files self.old.roles) (web_at self.new.files self.new.roles) self.new.work) }
-        ensures refused { IfSome (list_refusal self.old.files self.old.roles edits.now) (λ refused. (result ≡ Err refused) ⊎ (result ≡ Err list_memory)) }
-        ensures only { IfNone (list_refusal self.old.files self.old.roles edits.now) (IsOkUnless result list_memory) }
+        ensures roles { OnOk result (self.new.roles ≡ roles_after self.old.roles edits.now) }
+        ensures work { OnOk result (ListsAffected (web_at self.old.files self.old.roles)
+            (web_at self.new.files self.new.roles) self.new.work) }
+        ensures refused { IfSome (list_refusal self.old.files self.old.roles edits.now) (λ refused.
+            (result ≡ Err refused) ⊎ (result ≡ Err list_memory)) }
+        ensures only { IfNone (list_refusal self.old.files self.old.roles edits.now)
+            (IsOkUnless result list_memory) }
         ensures err { OnErr result (self.new ≡ self.old) }
     {
         let work = Work::new(self.alloc);
-        self.change(edits, work)
+        self.make(edits, work)
     }
 
     /// Makes the edits, all or none. The work has no node yet.
-    fn change(&mut self, edits: &[Edit], work: Work) -> Result<(), ListRefusal>
+    fn make(&mut self, edits: &[Edit], work: Work) -> Result<(), ListRefusal>
         requires { work ≡ [] }
         ensures files { OnOk result (self.new.files ≡ edited_all self.old.files edits.now) }
-        ensures roles { OnOk result (self.new.roles ≡ self.old.roles) }
-        ensures work { OnOk result (ListsAffected (web_at self.old.files self.old.roles) (web_at self.new.files self.new.roles) self.new.work) }
-        ensures refused { IfSome (list_refusal self.old.files self.old.roles edits.now) (λ refused. (result ≡ Err refused) ⊎ (result ≡ Err list_memory)) }
-        ensures only { IfNone (list_refusal self.old.files self.old.roles edits.now) (IsOkUnless result list_memory) }
+        ensures roles { OnOk result (self.new.roles ≡ roles_after self.old.roles edits.now) }
+        ensures work { OnOk result (ListsAffected (web_at self.old.files self.old.roles)
+            (web_at self.new.files self.new.roles) self.new.work) }
+        ensures refused { IfSome (list_refusal self.old.files self.old.roles edits.now) (λ refused.
+            (result ≡ Err refused) ⊎ (result ≡ Err list_memory)) }
+        ensures only { IfNone (list_refusal self.old.files self.old.roles edits.now)
+            (IsOkUnless result list_memory) }
         ensures err { OnErr result (self.new ≡ self.old) }
     {
-        let next = tangle_again(self.alloc, &self.tangled, &self.roles, edits, work)?;
+        let marks = marks_after(&self.roles, edits);
+        let next = tangle_again(self.alloc, &self.tangled, &self.roles, edits, marks, work)?;
+        self.roles.set_marks(marks);
         self.tangled = next;
         Ok(())
     }
@@ -179,9 +197,10 @@ impl Session {
         }
     }
 
-    /// Writes the output file of this name: how many bytes it has. At Ok each byte of a word, a sign, a quoted or verbatim text or an ASCII
-    /// code stands at the compiler's place that is its own, but for those behind a line end that a quoted text or a join took, up to the
-    /// next line end or mark.
+    /// Writes the output file of this name: how many bytes it has. At Ok, and where line marks are
+    /// written in full, each byte of a word, a sign, a quoted or verbatim text or an ASCII code is at
+    /// the compiler's place that is its own, but for those behind a line end that a quoted text or a
+    /// join took, up to the next line end or mark.
     ///
     /// # Errors
     ///
@@ -189,7 +208,8 @@ impl Session {
     /// after the first `n` bytes of the file.
     pub fn write_output<S: Sink>(&self, name: &[u8], sink: &mut S) -> Result<u128, Refusal>
         ensures written { WritesOutput (output_at self.now.files self.now.roles name.now) (S.stream sink.old) (S.stream sink.new) result }
-        ensures line_truth { OnOk result (IsTrueFile self.now.files self.now.roles name.now) }
+        ensures line_truth { self.now.roles.marks ≡ Full
+            → OnOk result (IsTrueFile self.now.files self.now.roles name.now) }
     {
         names_resolve_inside();
         expandable_nodes_are_light();

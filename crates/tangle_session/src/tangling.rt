@@ -1,18 +1,19 @@
 //! Files with what tangling makes of them: what a session holds besides its roles.
-ghost use Rattle.std.specs.Prelude.{◌≡◌, [], true, None, find, IfOk};
+ghost use Rattle.std.specs.Prelude.{◌≡◌, ◌⊎◌, [], true, None, Some, find, IfErr, IfOk, OnOk};
 ghost use Rattle.std.specs.Option.{option_copied};
 ghost use Rattle.std.specs.Str.{bytes_eq};
-ghost use Rattle.tangle_files.specs.Edited.{edited};
+ghost use Rattle.tangle_files.specs.Edited.{edited_all, roles_after};
 ghost use Rattle.tangle_files.specs.Roles.{RolesRead, fits};
-ghost use Rattle.tangle_session.specs.Edits.{session_refusal};
+ghost use Rattle.tangle_session.specs.Edits.{list_memory, list_refusal};
 ghost use Rattle.tangle_session.specs.Files.{web_at};
 ghost use Rattle.tangle_session.specs.Sessions.{Holds, IsGroundAt, ListsAffected};
 
 use crate::ground::Ground;
+use crate::refusing::{ListRefusal, refusal_to_apply};
 use std::alloc::Global;
 use tangle_affected::expand_again;
 use tangle_expansion::{Kept, Output, Work};
-use tangle_lines::{Edit, Files, NoMemory, Roles};
+use tangle_lines::{Edit, Files, MarkMode, NoMemory, Roles};
 
 /// Files that are tangled: their ground, the expansions, and which nodes were expanded for them.
 #[derive(Drop)]
@@ -26,7 +27,8 @@ pub(crate) struct Tangled {
 impl Tangled {
     /// The output file of this name, if there is one.
     pub(crate) fn find_output(&self, name: &[u8]) -> Option<&Output>
-        ensures { option_copied result ≡ find (λ output. bytes_eq name.now output.name) self.now.ground.store.outputs }
+        ensures { option_copied result
+            ≡ find (λ output. bytes_eq name.now output.name) self.now.ground.store.outputs }
     {
         for output in self.ground.store.outputs() {
             if name == output.name() {
@@ -37,11 +39,25 @@ impl Tangled {
     }
 }
 
+/// How line marks are written after a list of edits: as the last edit that sets it says.
+pub(crate) fn marks_after(roles: &Roles, edits: &[Edit]) -> MarkMode
+    ensures { record roles.now { marks = result } ≡ roles_after roles.now edits.now }
+{
+    let mut marks = roles.marks();
+    for edit in edits {
+        if let Edit::Marks { mode } = edit {
+            marks = *mode;
+        }
+    }
+    marks
+}
+
 /// A copy of the files in which the edits are made, each on what the earlier ones left.
 fn edited_copy(files: &Files, roles: &Roles, edits: &[Edit]) -> Result<Files, ListRefusal>
     ensures made { IfOk result (λ copy. copy ≡ edited_all files.now edits.now) }
     ensures taken { OnOk result (list_refusal files.now roles.now edits.now ≡ None) }
-    ensures refused { IfErr result (λ refused. (list_refusal files.now roles.now edits.now ≡ Some refused) ⊎ (refused ≡ list_memory)) }
+    ensures refused { IfErr result (λ refused.
+        (list_refusal files.now roles.now edits.now ≡ Some refused) ⊎ (refused ≡ list_memory)) }
 {
     let mut copy = files.copy()?;
     for (at, edit) in edits.iter().enumerate() {
@@ -55,7 +71,8 @@ fn edited_copy(files: &Files, roles: &Roles, edits: &[Edit]) -> Result<Files, Li
     Ok(copy)
 }
 
-/// What is held with this ground of the files, over the expansions that were kept. The work has no node yet.
+/// What is held with this ground of the files, over the expansions that were kept. The work has no
+/// node yet.
 fn expand_over(
     alloc: Global,
     old: &Tangled,
@@ -63,13 +80,16 @@ fn expand_over(
     ground: Ground,
     mut work: Work,
 ) -> Result<Tangled, NoMemory>
-    requires held { (roles : RolesRead) × Holds old.now.files roles old.now × IsGroundAt files roles ground }
+    requires held { (before after : RolesRead)
+        × Holds old.now.files before old.now × IsGroundAt files after ground }
     requires unbegun { work ≡ [] }
     ensures files { IfOk result (λ new. new.files ≡ files) }
-    ensures held { (roles : RolesRead) → Holds old.now.files roles old.now → IsGroundAt files roles ground → fits files roles ≡ true
-        → IfOk result (λ new. Holds new.files roles new) }
-    ensures work { (roles : RolesRead) → Holds old.now.files roles old.now → IsGroundAt files roles ground
-        → IfOk result (λ new. ListsAffected (web_at old.now.files roles) (web_at new.files roles) new.work) }
+    ensures held { (before after : RolesRead) → Holds old.now.files before old.now
+        → IsGroundAt files after ground → fits files after ≡ true
+        → IfOk result (λ new. Holds new.files after new) }
+    ensures work { (before after : RolesRead) → Holds old.now.files before old.now
+        → IsGroundAt files after ground → IfOk result (λ new.
+        ListsAffected (web_at old.now.files before) (web_at new.files after) new.work) }
 {
     let kept = expand_again(
         alloc,
@@ -88,25 +108,31 @@ fn expand_over(
     })
 }
 
-/// What is held after a list of edits: the files are tangled anew, over the expansions that are kept. The work has no node yet; what is
-/// expanded is noted there.
+/// What is held after a list of edits, after which line marks are written so: the files are tangled
+/// anew, over the expansions that are kept. The work has no node yet; what is expanded is noted
+/// there.
 pub(crate) fn tangle_again(
     alloc: Global,
     old: &Tangled,
     roles: &Roles,
     edits: &[Edit],
+    marks: MarkMode,
     work: Work,
 ) -> Result<Tangled, ListRefusal>
     requires held { Holds old.now.files roles.now old.now }
     requires unbegun { work ≡ [] }
     ensures files { IfOk result (λ new. new.files ≡ edited_all old.now.files edits.now) }
-    ensures held { IfOk result (λ new. Holds new.files roles.now new) }
-    ensures work { IfOk result (λ new. ListsAffected (web_at old.now.files roles.now) (web_at new.files roles.now) new.work) }
+    ensures held { IfOk result (λ new.
+        Holds new.files (record roles.now { marks = marks }) new) }
+    ensures work { IfOk result (λ new. ListsAffected (web_at old.now.files roles.now)
+        (web_at new.files (record roles.now { marks = marks })) new.work) }
     ensures taken { OnOk result (list_refusal old.now.files roles.now edits.now ≡ None) }
-    ensures refused { IfErr result (λ refused. (list_refusal old.now.files roles.now edits.now ≡ Some refused) ⊎ (refused ≡ list_memory)) }
+    ensures refused { IfErr result (λ refused.
+        (list_refusal old.now.files roles.now edits.now ≡ Some refused)
+        ⊎ (refused ≡ list_memory)) }
 {
     let files = edited_copy(&old.files, roles, edits)?;
-    let ground = Ground::build(alloc, &files, roles)?;
+    let ground = Ground::build(alloc, &files, roles, marks)?;
     let next = expand_over(alloc, old, files, ground, work)?;
     Ok(next)
 }

@@ -5,11 +5,11 @@ use Rattle.tangle_session.specs.Headline.{History}
 use Rattle.tangle_session.proofs.headline.edit_each.Given as goal
 
 -- the edits so far are a history, each with its answer, and the others' answers have room
-abbrev pub invariant-loop-edit : goal.invariant-loop-edit
-invariant-loop-edit l = record {
-  counted : vec_len l.answers ≡ l.edit-index;
-  answered : length l.answers.items ≡ l.edit-index;
+abbrev pub invariant-loop-call : goal.invariant-loop-call
+invariant-loop-call l = record {
+  counted : vec_len l.answers ≡ l.call-index;
+  answered : length l.answers.items ≡ l.call-index;
   room : vec_capacity l.answers ≡ length l.edits;
   history : (files : FileTable) (roles : RolesRead) → History files roles [] l.fn.session
-      → History files roles (zip (take l.edit-index l.edits) l.answers.items) l.session;
+      → History files roles (zip (take l.call-index l.edits) l.answers.items) l.session;
 }

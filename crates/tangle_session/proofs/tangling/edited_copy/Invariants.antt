@@ -1,10 +1,12 @@
 use Rattle.std.proofs.Common.{◌≡◌, drop}
-use Rattle.tangle_session.specs.Edits.{edited_all, list_refusal, list_refusal_from}
+use Rattle.tangle_files.specs.Edited.{edited_all}
+use Rattle.tangle_session.specs.Edits.{list_refusal}
+use Rattle.tangle_session.proofs.EditLemmas.{refused_from}
 use Rattle.tangle_session.proofs.tangling.edited_copy.Given as goal
 
 -- the edits that are left make of the copy what all make of the files, and are refused like all
 abbrev pub invariant-loop-at : goal.invariant-loop-at
 invariant-loop-at l = record {
   made : edited_all l.copy (drop l.at l.edits) ≡ edited_all l.files l.edits;
-  refused : list_refusal_from l.at l.copy l.roles (drop l.at l.edits) ≡ list_refusal l.files l.roles l.edits;
+  refused : refused_from l.at l.copy l.roles (drop l.at l.edits) ≡ list_refusal l.files l.roles l.edits;
 }

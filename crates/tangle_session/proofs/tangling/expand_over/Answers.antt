@@ -4,29 +4,37 @@ use Rattle.tangle_session.proofs.TangleLemmas.{lists_titles}
 use Rattle.tangle_session.proofs.tangling.expand_over.Goals as goal
 
 pub expand_again-requires-clause-old_table : goal.expand_again-requires-clause-old_table
-expand_again-requires-clause-old_table c = c.requires.held.1.ground.names ∙ sym c.requires.held.1.ground.store_names
+expand_again-requires-clause-old_table c = c.requires.held.2.ground.names ∙ sym c.requires.held.2.ground.store_names
 
 pub expand_again-requires-clause-new_table : goal.expand_again-requires-clause-new_table
-expand_again-requires-clause-new_table c = c.requires.held.2.names ∙ sym c.requires.held.2.store_names
+expand_again-requires-clause-new_table c = c.requires.held.3.names ∙ sym c.requires.held.3.store_names
 
 pub expand_again-requires-clause-change : goal.expand_again-requires-clause-change
 expand_again-requires-clause-change c = (
-  record { old = project_of (web_at c.args.old.now.files c.requires.held.0); new = project_of (web_at c.args.files c.requires.held.0) },
-  record { before = c.requires.held.1.ground.store; after = c.requires.held.2.store; expansions = c.requires.held.1.kept },
+  record {
+    old = project_of (web_at c.args.old.now.files c.requires.held.0);
+    new = project_of (web_at c.args.files c.requires.held.1);
+  },
+  record {
+    before = c.requires.held.2.ground.store;
+    after = c.requires.held.3.store;
+    expansions = c.requires.held.2.kept;
+  },
 )
 
 pub returns-clause-held : goal.returns-clause-held
-returns-clause-held c = λ roles held ground fit. record {
+returns-clause-held c = λ before after held ground fit. record {
   are_there = fit;
   ground = ground;
-  kept = c.in_ok-kept.ensures.kept (record { old = project_of (web_at c.args.old.now.files roles); new = project_of (web_at c.args.files roles) })
+  kept = c.in_ok-kept.ensures.kept
+      (record { old = project_of (web_at c.args.old.now.files before); new = project_of (web_at c.args.files after) })
       (record { before = held.ground.store; after = ground.store; expansions = held.kept });
 }
 
 pub returns-clause-work : goal.returns-clause-work
-returns-clause-work c = λ roles held ground.
-    let old = web_at c.args.old.now.files roles in
-    let new = web_at c.args.files roles in
+returns-clause-work c = λ before after held ground.
+    let old = web_at c.args.old.now.files before in
+    let new = web_at c.args.files after in
     let made = c.in_ok-kept.ensures.work (record { old = project_of old; new = project_of new })
     (record { before = held.ground.store; after = ground.store; expansions = held.kept }) in
     let listed = lists_titles old new c.args.ground.store made.0 ground.store ground.store_names made.2 in

@@ -1,24 +1,29 @@
 use Rattle.std.proofs.Common.{◌≡◌, ◌∙◌, true, subst, sym}
-use Rattle.tangle_files.specs.Roles.{fits}
+use Rattle.tangle_files.specs.Roles.{RolesRead, fits}
 use Rattle.tangle_session.proofs.EditLemmas.{fits_all}
 use Rattle.tangle_session.proofs.tangling.tangle_again.Goals as goal
 
 pub build-requires : goal.build-requires
 build-requires c =
     subst (λ fs. fits fs c.args.roles.now ≡ true) (sym c.in_ok-files.ensures.made)
-    (fits_all 0 c.args.old.now.files c.args.roles.now c.args.edits.now c.requires.held.are_there c.in_ok-files.ensures.taken)
+    (fits_all c.args.old.now.files c.args.roles.now c.args.edits.now c.requires.held.are_there c.in_ok-files.ensures.taken)
 
 pub expand_over-requires-clause-held : goal.expand_over-requires-clause-held
-expand_over-requires-clause-held c = (c.args.roles.now, c.requires.held, c.in_ok-ground.ensures)
+expand_over-requires-clause-held c =
+    let after : RolesRead = record c.args.roles.now { marks = c.args.marks } in
+    (c.args.roles.now, after, c.requires.held, c.in_ok-ground.ensures)
 
 pub returns-clause-files : goal.returns-clause-files
 returns-clause-files c = c.in_ok-next.ensures.files ∙ c.in_ok-files.ensures.made
 
 pub returns-clause-held : goal.returns-clause-held
 returns-clause-held c =
-    c.in_ok-next.ensures.held c.args.roles.now c.requires.held c.in_ok-ground.ensures
+    let after : RolesRead = record c.args.roles.now { marks = c.args.marks } in
+    c.in_ok-next.ensures.held c.args.roles.now after c.requires.held c.in_ok-ground.ensures
     (subst (λ fs. fits fs c.args.roles.now ≡ true) (sym c.in_ok-files.ensures.made)
-    (fits_all 0 c.args.old.now.files c.args.roles.now c.args.edits.now c.requires.held.are_there c.in_ok-files.ensures.taken))
+    (fits_all c.args.old.now.files c.args.roles.now c.args.edits.now c.requires.held.are_there c.in_ok-files.ensures.taken))
 
 pub returns-clause-work : goal.returns-clause-work
-returns-clause-work c = c.in_ok-next.ensures.work c.args.roles.now c.requires.held c.in_ok-ground.ensures
+returns-clause-work c =
+    let after : RolesRead = record c.args.roles.now { marks = c.args.marks } in
+    c.in_ok-next.ensures.work c.args.roles.now after c.requires.held c.in_ok-ground.ensures

@@ -8,6 +8,6 @@ returns c =
     let told = c.in_ok-ground.ensures in
     let joined = c.in_ok-join_faults.ensures in
     let list = joined.faults ∙ (λ i. c.into_faults-of_source.ensures i ++ (c.into_faults-of_web.ensures i ++ (before.faults.items ++ before.store.faults))) in
-    grounds c.args.files.now c.args.roles.now c.in_ok-source.source c.in_ok-web.web c.out.result.now before c.join_faults.new.self
+    grounds c.args.files.now c.args.roles.now c.in_ok-source.source c.in_ok-web.web c.out.result.now c.args.marks before c.join_faults.new.self
     c.in_ok-source.ensures c.in_ok-web.ensures.web c.out.ensures told.names told.store told.store_names told.outputs told.numbers told.of_names told.of_graph
     c.in_ok-web.ensures.line_truth joined.others list

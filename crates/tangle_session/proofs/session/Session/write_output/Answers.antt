@@ -1,4 +1,5 @@
-use Rattle.std.proofs.Common.{◌∙◌, ap, refl, sym, subst}
+use Rattle.std.proofs.Common.{◌≡◌, ◌∙◌, ap, refl, sym, subst}
+use Rattle.tangle_files.specs.declared.marks.MarkMode.TheVariants.{Full}
 use Rattle.std.specs.Option.{option_copied}
 use Rattle.tangle_session.specs.Sessions.{SessionRead}
 use Rattle.tangle_session.specs.Tangle.{output_at}
@@ -25,7 +26,8 @@ returns-in-Ok-clause-line_truth g c =
     let s = c.self.inside in
     let name = c.args.name.now in
     let found = sym c.find_output.ensures ∙ ap option_copied c.in-Some.is in
-    subst (λ (r : SessionRead). IsTrueFile r.files r.roles name) c.self.view_is (truth_at s.tangled.files s.roles s.tangled c.self.invariant name c.in-Some.output.now found c.texts_are_true_to_lines.ensures)
+    subst (λ (r : SessionRead). r.roles.marks ≡ Full → IsTrueFile r.files r.roles name) c.self.view_is
+    (truth_at s.tangled.files s.roles s.tangled c.self.invariant name c.in-Some.output.now found c.texts_are_true_to_lines.ensures)
 
 pub returns-in-Err-clause-written : goal.returns-in-Err-clause-written
 returns-in-Err-clause-written g c =
