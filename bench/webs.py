@@ -125,8 +125,10 @@ def many_names(sections, names):
 
 
 def named_files(count):
-    """A program, and so many named files, each of one part of one line."""
+    """A program, and so many named files in no order, each of one part of one line."""
+    numbers = list(range(count))
+    random.Random(count).shuffle(numbers)
     made = ['@ The program.', '@c', 'main();']
-    for number in range(count):
+    for number in numbers:
         made += ['@ @(file%05d.h@>=' % number, 'part();']
     return made
