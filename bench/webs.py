@@ -47,7 +47,7 @@ def change_file(lines, count):
 def names(count, as_names=True):
     """A web that defines so many names, and uses each by an abbreviation.
 
-    Without names the same text stands in control texts.
+    Without names the same text is in control texts.
     """
     opener = '@<' if as_names else '@^'
     head = '@>=' if as_names else '@>@c'
@@ -57,15 +57,16 @@ def names(count, as_names=True):
     made += ['%sPart %07d...@>' % (opener, number) for number in numbers]
     random.Random(count + 1).shuffle(numbers)
     for number in numbers:
-        made += ['@ %sPart %07d of a long list of parts%s' % (opener, number, head), 'part(%d);' % number]
+        made += ['@ %sPart %07d of a long list of parts%s' % (opener, number, head),
+                 'part(%d);' % number]
     return made
 
 
 def named_program(lines, parts=1000, files=10, tail=''):
     """A program of so many lines in parts with names, which the program and named files use.
 
-    There are at most so many parts, and each tenth begins a named file or the program: it uses those behind it.
-    The tail stands at the end of each name but a file's; dots make it an abbreviation.
+    There are at most so many parts, and each tenth begins a named file or the program: it uses
+    those behind it. The tail is the end of each name but a file's; dots make it an abbreviation.
     """
     size = max(16, lines // parts)
     made, bodies = [], []
@@ -84,15 +85,17 @@ def named_program(lines, parts=1000, files=10, tail=''):
 
 
 def leaves(lines, names, groups=30, tail=''):
-    """A program of so many lines and names: it uses groups, and each group uses leaves, which use nothing.
+    """A program of so many lines and names: it uses groups, and these leaves, which use nothing.
 
-    The tail stands at the end of each leaf's name; dots make it an abbreviation.
+    The tail is the end of each leaf's name; dots make it an abbreviation.
     """
     count = names - groups
-    made = ['@ The program uses each group.', '@c'] + ['@<Group %d@>' % group for group in range(groups)]
+    made = ['@ The program uses each group.', '@c']
+    made += ['@<Group %d@>' % group for group in range(groups)]
     for group in range(groups):
         made += ['@ Group %d.' % group, '@<Group %d@>=' % group]
-        made += ['@<Leaf %d of the program%s@>' % (number, tail) for number in range(group, count, groups)]
+        members = range(group, count, groups)
+        made += ['@<Leaf %d of the program%s@>' % (number, tail) for number in members]
     code = [line for line in c_program(2 * lines, '') if line and not line.startswith(('@', 'The'))]
     left = lines - len(made)
     for number in range(count):
@@ -103,7 +106,7 @@ def leaves(lines, names, groups=30, tail=''):
 
 
 def names_in(lines):
-    """The abbreviations that stand alone in their lines, uses and definitions, as often as they stand there."""
+    """The abbreviations that are alone in their lines, uses and definitions, as often as there."""
     return [line[2:line.index('@>')] for line in lines if line.startswith('@<') and '...@>' in line]
 
 
@@ -118,4 +121,14 @@ def many_names(sections, names):
     made += ['@<Name %05d@>' % number for number in range(names)]
     for number in range(sections - 1):
         made += ['@ @<Name %05d@>=' % (number % names), 'part(%d);' % number]
+    return made
+
+
+def named_files(count):
+    """A program, and so many named files in no order, each of one part of one line."""
+    numbers = list(range(count))
+    random.Random(count).shuffle(numbers)
+    made = ['@ The program.', '@c', 'main();']
+    for number in numbers:
+        made += ['@ @(file%05d.h@>=' % number, 'part();']
     return made

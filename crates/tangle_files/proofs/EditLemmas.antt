@@ -1,13 +1,14 @@
 -- The table of files after an edit.
-use Rattle.std.proofs.Common.{◌≡◌, ℕ, Bool, true, false, cond, List, [], ◌∷◌, map, refl, sym, ap, ◌∙◌, None, Some, IfSome, subst}
+use Rattle.std.proofs.Common.{◌≡◌, ℕ, ◌+◌, ◌<◌, Bool, true, false, cond, List, [], ◌∷◌, ◌++◌, take, length, set, map, refl, sym, ap, ◌∙◌, None, Some, IfSome, subst}
 use Rattle.std.specs.Map.{lookup, set_value, remove_entry}
 use Rattle.std.specs.Str.{bytes_eq}
 use Rattle.std.specs.declared.vec.Vec.{Vec}
 use Rattle.std.specs.Global.{Global}
+use Rattle.std.proofs.lemmas.List.{append_assoc, take-append-drop, take-set, drop-set}
 use Rattle.std.proofs.lemmas.Map.Steps.{set_value_same}
 use Rattle.tangle_files.specs.Lines.{lines_of}
 use Rattle.tangle_files.specs.Table.{SharedLines, Table, file_of, files_of}
-use Rattle.tangle_files.specs.Edited.{with_lines_changed}
+use Rattle.tangle_files.specs.Edited.{spliced, with_lines_changed}
 use Rattle.tangle_files.proofs.TableLemmas.{lines_of-entries}
 
 map-set_value : (name : List ℕ) (es : List (Vec ℕ Global × SharedLines)) (w : SharedLines)
@@ -38,11 +39,19 @@ files_of-written old new name v w change found is written =
     rw (lines_of-found old name v found)
     (ap (map file_of) written ∙ map-set_value name old.entries w ∙ ap (set_value (bytes_eq name) (files_of old)) is)
 
--- lines that are written to their own place change nothing
-pub files_of-same : (old new : Table) (name : List ℕ) (v : SharedLines)
-    → Some v ≡ lookup (λ k. bytes_eq name k.items) old.entries
-    → new.entries ≡ set_value (λ k. bytes_eq name k.items) old.entries v → files_of new ≡ files_of old
-files_of-same old new name v found written = ap (map file_of) (written ∙ set_value_same (λ k. bytes_eq name k.items) old.entries v (sym found))
+-- the same lines that are written to the place of others change nothing
+pub files_of-same : (old new : Table) (name : List ℕ) (v w : SharedLines)
+    → Some v ≡ lookup (λ k. bytes_eq name k.items) old.entries → w.value.items ≡ v.value.items
+    → new.entries ≡ set_value (λ k. bytes_eq name k.items) old.entries w → files_of new ≡ files_of old
+files_of-same old new name v w found is written =
+    ap (map file_of) written ∙ map-set_value name old.entries w ∙ ap (set_value (bytes_eq name) (files_of old)) is
+    ∙ set_value_same (bytes_eq name) (files_of old) v.value.items (lines_of-found old name v found)
+
+-- a line that is set stands in place of the old one
+pub spliced-set : (lines : List (List ℕ)) (start : ℕ) (line : List ℕ) → start < length lines → set lines start line ≡ spliced lines start (line ∷ []) (start + 1)
+spliced-set lines start line inside =
+    sym (take-append-drop start (set lines start line)) ∙ (λ i. take-set lines start line i ++ drop-set lines start line inside i)
+    ∙ sym (append_assoc (take start lines) (line ∷ []) _)
 
 -- what holds of the lines of a file holds of those that were found
 pub of-found : (t : Table) (name : List ℕ) (v : SharedLines) (P : List (List ℕ) → Type 0)

@@ -1,5 +1,5 @@
 //! The table of files after an edit.
-ghost use Rattle.std.specs.Prelude.{◌≡◌, ◌≤◌, ◌++◌, [], ◌∷◌, None, false, length, IfOk, IfSome, OnErr, OnOk};
+ghost use Rattle.std.specs.Prelude.{◌≡◌, ◌≤◌, ◌+◌, ◌++◌, [], ◌∷◌, None, false, length, IfOk, IfSome, OnErr, OnOk};
 ghost use Rattle.std.specs.Option.{option_to_list};
 ghost use Rattle.std.specs.Map.{remove_entry};
 ghost use Rattle.std.specs.Str.{bytes_eq};
@@ -16,8 +16,8 @@ use indexmap::IndexMap;
 use std::alloc::{AllocError, Global};
 use std::rc::Rc;
 
-/// Makes an edit that is not refused. Of a file that is edited a new list of lines is made; the lines of all others
-/// stay where they are.
+/// Makes an edit that is not refused. A list of lines that another table shares is made anew for the edited file, and
+/// one that no other has is changed where it is.
 pub(crate) fn make_edit(
     table: &mut IndexMap<Vec<u8>, Rc<Vec<Line>>>,
     edit: &Edit,
@@ -56,7 +56,7 @@ fn line_of_text(alloc: Global, text: &[u8]) -> Result<Line, AllocError>
     Ok(Line::new(shared, 0, bytes.len() as u16))
 }
 
-/// Puts a line, or none, in place of those between two places, in the file of this name.
+/// Puts a line, or none, in place of the line between two places, or of none, in the file of this name.
 fn change_lines(
     table: &mut IndexMap<Vec<u8>, Rc<Vec<Line>>>,
     file: &[u8],
@@ -64,17 +64,66 @@ fn change_lines(
     line: Option<Line>,
     end: usize,
 ) -> Result<(), AllocError>
-    requires { IfSome (lines_of (files_of table.old) file.now) (λ lines. (start ≤ length lines) × (end ≤ length lines)) }
+    requires places { (start ≤ end) × (end ≤ start + 1) }
+    requires within { IfSome (lines_of (files_of table.old) file.now) (λ lines. end ≤ length lines) }
     ensures ok { OnOk result (files_of table.new ≡ with_lines_changed (files_of table.old) file.now (λ lines. spliced lines start (option_to_list line) end)) }
     ensures err { OnErr result (files_of table.new ≡ files_of table.old) }
 {
-    let alloc = *table.allocator();
     match table.get_mut(file) {
-        Some(shared) => {
+        Some(shared) => splice_shared(shared, start, line, end),
+        None => Ok(()),
+    }
+}
+
+/// Puts a line, or none, in place of the line between two places, or of none. A list that another table shares stays
+/// as it is, and a new one is made.
+fn splice_shared(
+    shared: &mut Rc<Vec<Line>>,
+    start: usize,
+    line: Option<Line>,
+    end: usize,
+) -> Result<(), AllocError>
+    requires places { (start ≤ end) × (end ≤ start + 1) }
+    requires within { end ≤ length shared.old.value.items }
+    ensures ok { OnOk result (shared.new.value.items ≡ spliced shared.old.value.items start (option_to_list line) end) }
+    ensures err { OnErr result (shared.new.value.items ≡ shared.old.value.items) }
+{
+    let alloc = *shared.allocator();
+    match Rc::get_mut(shared) {
+        Some(lines) => splice_in_place(lines, start, line, end),
+        None => {
             let lines = splice(alloc, shared.as_slice(), start, line, end)?;
             *shared = Rc::new(alloc, lines)?;
+            Ok(())
         }
-        None => {}
+    }
+}
+
+/// The same in a list that has no other owner.
+fn splice_in_place(
+    lines: &mut Vec<Line>,
+    start: usize,
+    line: Option<Line>,
+    end: usize,
+) -> Result<(), AllocError>
+    requires places { (start ≤ end) × (end ≤ start + 1) }
+    requires within { end ≤ length lines.old.items }
+    ensures ok { OnOk result (lines.new.items ≡ spliced lines.old.items start (option_to_list line) end) }
+    ensures err { OnErr result (lines.new.items ≡ lines.old.items) }
+{
+    match line {
+        Some(line) => {
+            if start == end {
+                lines.insert(start, line)?;
+            } else {
+                lines[start] = line;
+            }
+        }
+        None => {
+            if start < end {
+                let _ = lines.remove(start);
+            }
+        }
     }
     Ok(())
 }
