@@ -89,7 +89,8 @@ fn lay_part(
     line: u32,
     tokens: &[Token],
 ) -> Result<bool, NoMemory>
-    ensures items { OnOk result (items.new.items ≡ rules.part_items source.now.lines line tokens.now) }
+    ensures items { OnOk result (items.new.items
+        ≡ rules.part_items source.now.lines line tokens.now) }
     ensures rare { IfOk result (λ rare. rare ≡ list_any passes.is_rare tokens.now) }
 {
     let rare = lay_plain_part(source, items, line, tokens)?;
@@ -100,15 +101,16 @@ fn lay_part(
 }
 
 /// The items of a C part whose head ends on a line, and whether some of its tokens are rare.
-// They are laid where they stay, in room for an item of each token: a part has few more, and what is
-// left of the room is given back.
+// They are laid where they stay, in room for an item of each token: a part has few more, and what
+// is left of the room is given back.
 fn part_items(
     alloc: Global,
     source: &Source,
     line: u32,
     tokens: &[Token],
 ) -> Result<(Vec<Item>, bool), NoMemory>
-    ensures items { IfOk result (λ r. r.0.items ≡ rules.part_items source.now.lines line tokens.now) }
+    ensures items { IfOk result (λ r. r.0.items
+        ≡ rules.part_items source.now.lines line tokens.now) }
     ensures rare { IfOk result (λ r. r.1 ≡ list_any passes.is_rare tokens.now) }
 {
     let mut items = Vec::with_capacity(alloc, tokens.len())?;

@@ -1,7 +1,8 @@
-//! The items of a C part that has rare tokens, in one pass. A join takes the white space and the line
-//! ends around it away, and a blank stands between a word and an ASCII constant, or two constants,
-//! that touch. Line ends are laid as they come, and a join takes back those of its run.
-ghost use Rattle.std.specs.Prelude.{◌≡◌, ◌≤◌, ◌<◌, ◌+◌, ◌^◌, ◌++◌, ◌∷◌, [], List, length, max, if◌then◌else◌, IfOk, OnOk};
+//! The items of a C part that has rare tokens, in one pass. A join takes away the white space and
+//! the line ends around it, and a blank stands between a word and an ASCII constant, or two
+//! constants, that touch. Line ends are laid as they come, and a join takes back those of its run.
+ghost use Rattle.std.specs.Prelude.{◌≡◌, ◌≤◌, ◌<◌, ◌+◌, ◌^◌, max, if◌then◌else◌, IfOk, OnOk};
+ghost use Rattle.std.specs.Prelude.{List, [], ◌∷◌, ◌++◌, length};
 ghost use Rattle.tangle_lines.specs.Reading.{Line};
 ghost use Rattle.tangle_lexer.specs.declared.tokens.Token.{Token};
 ghost use Rattle.tangle_lexer.specs.declared.tokens.Token.TheVariants as token;
@@ -130,7 +131,8 @@ fn lay_line_end(
 ) -> Result<RareLaying, NoMemory>
     requires line { at.count.line < 2 ^ 63 }
     requires start { at.start.items ≤ length items.old.items }
-    ensures laid { IfOk result (λ next. (es : List Token) → whole source.now.lines items.new.items next es
+    ensures laid { IfOk result (λ next. (es : List Token) →
+        whole source.now.lines items.new.items next es
         ≡ whole source.now.lines items.old.items at (token.LineEnd line ∷ es)) }
     ensures room { IfOk result (λ next. highest next ≤ max (2 ^ 32) (highest at + 1)) }
     ensures start { IfOk result (λ next. next.start.items ≤ length items.new.items) }
@@ -179,7 +181,8 @@ fn lay_token(
 ) -> Result<RareLaying, NoMemory>
     requires line { at.count.line < 2 ^ 63 }
     requires start { at.start.items ≤ length items.old.items }
-    ensures laid { IfOk result (λ next. (es : List Token) → whole source.now.lines items.new.items next es
+    ensures laid { IfOk result (λ next. (es : List Token) →
+        whole source.now.lines items.new.items next es
         ≡ whole source.now.lines items.old.items at (token.now ∷ es)) }
     ensures room { IfOk result (λ next. highest next ≤ max (2 ^ 32) (highest at + 1)) }
     ensures start { IfOk result (λ next. next.start.items ≤ length items.new.items) }

@@ -1,6 +1,6 @@
-//! White space between the tokens of a macro. It is put between a word and an ASCII constant, or two
-//! constants, that touch, and behind the name. Each run of joins, white space and line ends that has
-//! a join is taken out.
+//! White space between the tokens of a macro. It is put between a word and an ASCII constant, or
+//! two constants, that touch, and behind the name. Each run of joins, white space and line ends
+//! that has a join is taken out.
 ghost use Rattle.std.specs.Prelude.{◌≡◌, ◌≤◌, ◌<◌, ◌-◌, ◌+◌, ◌++◌, ◌∷◌, [], ℕ, List, length, take, drop, get_or, if◌then◌else◌, IfOk, OnOk};
 ghost use Rattle.std.specs.List.{list_any};
 ghost use Rattle.tangle_scan.specs.Rules as rules;

@@ -17,4 +17,5 @@ returns-clause-items c = λ rare.
     let none = sym c.loop-token.invariant.rare ∙ ap (list_any is_rare) done in
     laid-end lines c.loop-token.at _ _ _ done c.loop-token.invariant.rest
     ∙ (ap (λ place. items_by_place lines place (blanks false false tokens)) c.count_on.ensures.place
-    ∙ ap (λ es. items_by_place lines (place_at lines c.args.line) (blanks false false es)) (unchanged-stays tokens none))
+    ∙ ap (λ es. items_by_place lines (place_at lines c.args.line) (blanks false false es))
+    (unchanged-stays tokens none))

@@ -8,5 +8,6 @@ invariant-loop-token l = record {
   room : l.at.count.line ≤ 2 ^ 32 + l.token-index;
   plain : l.has_rare ≡ false;
   rare : list_any is_rare (drop l.token-index l.tokens) ≡ list_any is_rare l.tokens;
-  rest : l.items.items ++ items_ahead l.source.lines l.at (drop l.token-index l.tokens) ≡ items_ahead l.source.lines l.initial.at l.tokens;
+  rest : l.items.items ++ items_ahead l.source.lines l.at (drop l.token-index l.tokens)
+      ≡ items_ahead l.source.lines l.initial.at l.tokens;
 }

@@ -6,5 +6,6 @@ abbrev pub invariant-loop-token : goal.invariant-loop-token
 invariant-loop-token l = record {
   room : highest l.at ≤ 2 ^ 32 + l.token-index;
   start : l.at.start.items ≤ length l.items.items;
-  rest : whole l.source.lines l.items.items l.at (drop l.token-index l.tokens) ≡ whole l.source.lines l.initial.items.items l.initial.at l.tokens;
+  rest : whole l.source.lines l.items.items l.at (drop l.token-index l.tokens)
+      ≡ whole l.source.lines l.initial.items.items l.initial.at l.tokens;
 }

@@ -15,8 +15,10 @@ returns c =
     let at = c.loop-token.at in
     let done = drop_all c.loop-token.token-index tokens (omega arith) in
     let end = ap (spacing_from texts out at) (sym done) ∙ c.loop-token.invariant.rest in
-    let begin = spaced-begin texts c.clear.new.self.items stage.Front tokens c.clear.ensures.items in
-    let front = ap (without_joins []) (spaced-front texts (without_front_gaps (without_faults tokens))) in
+    let cleared = c.clear.new.self.items in
+    let begin = spaced-begin texts cleared stage.Front tokens c.clear.ensures.items in
+    let front = spaced-front texts (without_front_gaps (without_faults tokens)) in
     let run = spaced-end texts out at in
     c.close_run.ensures
-    ∙ (ap (λ b. if b then take at.run.start out else out) c.loop-token.invariant.run.has ∙ (sym run ∙ (end ∙ (begin ∙ front))))
+    ∙ (ap (λ b. if b then take at.run.start out else out) c.loop-token.invariant.run.has
+    ∙ (sym run ∙ (end ∙ (begin ∙ ap (without_joins []) front))))
