@@ -82,7 +82,7 @@ fn note_faults(
 }
 
 /// Lays the items of a C part whose head ends on a line, and answers whether some of its tokens are
-/// rare. Most parts have none, and the first pass is for them alone.
+/// rare. Most parts have none. Where one has, what was laid up to the first one is laid again.
 fn lay_part(
     source: &Source,
     items: &mut Vec<Item>,

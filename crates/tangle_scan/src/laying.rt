@@ -91,6 +91,7 @@ fn put_mark(items: &mut Vec<Item>, place: Origin) -> Result<Count, NoMemory>
 }
 
 /// Puts a line end, or the mark that stands for it.
+// It is inlined into both loops over the tokens of C parts, so that the count stays in registers.
 #[inline(always)]
 pub fn put_line_end(
     source: &Source,
@@ -161,6 +162,7 @@ fn put_some(items: &mut Vec<Item>, item: Option<Item>) -> Result<(), NoMemory>
 }
 
 /// Puts the item of a token, and a mark behind a use and behind the macros.
+// It is inlined for the same reason as `put_line_end`.
 #[inline(always)]
 pub fn put_item(
     source: &Source,
