@@ -12,6 +12,7 @@ test_limits() {
     test_long_name
     test_depth
     test_weight
+    test_rare_tokens
     test_graphs
 }
 
@@ -121,6 +122,16 @@ test_file_count() {
 
 measured() {
     "$room/measure" "$room/used" "$@"
+}
+
+run_timed_case() { # NAME MICROSECONDS
+    run_case "$1" "$case" measured
+    microseconds=$(cut -d ' ' -f 1 "$room/used")
+    if [ "$microseconds" -lt "$2" ]; then
+        pass
+    else
+        fail "$1" "$microseconds microseconds of the processor, not under $2"
+    fi
 }
 
 test_lines_taken() {
@@ -269,18 +280,64 @@ test_many() {
     run_case '19,500,000 bytes of C in one part' "$case"
 }
 
+# Between these two words stands nothing but what joins take away.
+wants_joined_words() {
+    printf '/*1:*/\n#line 2 "a.w"\n\nxy\n/*:1*/\n' >"$case/want/a.c"
+}
+
+# Parts with so many joins, ASCII constants and line ends that a look at all others from each takes too long.
+test_rare_tokens() {
+    begin_case a
+    {
+        printf '@ P.\n@c\nx\n'
+        repeated 40 "$(repeated 25000 '@&')
+"
+        printf 'y\n'
+    } >"$case/in/a.w"
+    wants_joined_words
+    run_timed_case 'part of 1,000,000 joins' 1000000
+
+    begin_case a
+    {
+        printf '@ P.\n@c\n'
+        repeated 100 "$(repeated 10000 "@'a'")
+"
+    } >"$case/in/a.w"
+    {
+        printf '/*1:*/\n#line 2 "a.w"\n\n'
+        repeated 100 "$(repeated 9999 '97 ')97
+"
+        printf '/*:1*/\n'
+    } >"$case/want/a.c"
+    run_timed_case 'part of 1,000,000 ASCII constants that touch' 1000000
+
+    begin_case a
+    {
+        printf '@ P.\n@c\nx@&'
+        repeated 60000 '
+'
+        printf 'y\n'
+    } >"$case/in/a.w"
+    wants_joined_words
+    run_timed_case 'join before 60,000 line ends' 1000000
+
+    begin_case a
+    {
+        printf '@ P.\n@c\nx'
+        repeated 300000 '@&
+'
+        printf 'y\n'
+    } >"$case/in/a.w"
+    wants_joined_words
+    run_timed_case 'joins and line ends in turn' 1000000
+}
+
 # Webs whose names use each other in ways that a careless tangler takes forever for, or a stack without end.
 test_graphs() {
     python3 -B "$top/tests/hostile.py" >"$room/graphs"
     while IFS= read -r graph; do
         begin_case a
         python3 -B "$top/tests/hostile.py" "$graph" "$case"
-        run_case "$graph" "$case" measured
-        microseconds=$(cut -d ' ' -f 1 "$room/used")
-        if [ "$microseconds" -lt 5000000 ]; then
-            pass
-        else
-            fail "$graph" "$microseconds microseconds, not under 5 s"
-        fi
+        run_timed_case "$graph" 5000000
     done <"$room/graphs"
 }

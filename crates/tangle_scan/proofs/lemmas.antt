@@ -2,6 +2,8 @@ pub mod TextLemmas
 pub mod Gaps
 pub mod GatheringLemmas
 pub mod LayingLemmas
+pub mod PartLemmas
+pub mod RareLemmas
 pub mod RuleLemmas
 pub mod ScanLemmas
 pub mod SpacingLemmas

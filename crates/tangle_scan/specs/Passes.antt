@@ -1,5 +1,7 @@
 -- What is still to come of the rules for items, where a pass over the tokens stands.
-use Rattle.std.specs.Prelude.{◌≡◌, ◌≤◌, ℕ, Bool, true, false, ◌||◌, not, List, [], ◌∷◌, ◌++◌, length, take, drop, if◌then◌else◌, Option, Some, None, option_to_list}
+use Rattle.std.specs.Prelude.{◌≡◌, ◌≤◌, ℕ, max, Bool, true, false, ◌||◌, not, if◌then◌else◌}
+use Rattle.std.specs.Prelude.{List, [], ◌∷◌, ◌++◌, length, take, drop}
+use Rattle.std.specs.Prelude.{Option, Some, None, option_to_list}
 use Rattle.tangle_lines.specs.declared.faults.Origin.{Origin}
 use Rattle.tangle_lexer.specs.declared.tokens.Token.{Token}
 use Rattle.tangle_lexer.specs.declared.tokens.Token.TheVariants as token
@@ -11,9 +13,16 @@ use Rattle.tangle_scan.specs.declared.spacing.Spacing.{Spacing}
 use Rattle.tangle_scan.specs.declared.laying.Before.{Before}
 use Rattle.tangle_scan.specs.declared.laying.Count.{Count}
 use Rattle.tangle_scan.specs.declared.laying.Laying.{Laying}
+use Rattle.tangle_scan.specs.declared.rare_parts.Last.{Last}
+use Rattle.tangle_scan.specs.declared.rare_parts.Last.TheVariants as last
+use Rattle.tangle_scan.specs.declared.rare_parts.RareLaying.{RareLaying}
+use Rattle.tangle_lexer.specs.declared.tokens.TextKind.TheVariants as text_kind
 use Rattle.tangle_scan.specs.declared.spacing.Stage.TheVariants as stage
 use Rattle.tangle_lines.specs.Reading.{Line, place_at}
-use Rattle.tangle_scan.specs.Rules.{has_join, without_joins, without_faults, without_front_gaps, is_gap, would_merge, may_follow_name, blanks, items_by_place, text_item, unmarked_items, next_line}
+use Rattle.tangle_scan.specs.Rules.{without_faults, without_front_gaps, may_follow_name, is_gap}
+use Rattle.tangle_scan.specs.Rules.{would_merge, is_constant, is_word_token, has_join, without_joins}
+use Rattle.tangle_scan.specs.Rules.{blanks, items_by_place, text_item, next_line, line_item}
+use Rattle.tangle_scan.specs.Rules.{count_behind, unmarked_items}
 
 -- the run at the end of a list begins in it, and its flag says whether it has a join
 pub record IsRun (out : List Token) (run : Run) : Type 0 where
@@ -105,6 +114,74 @@ count_after lines count (token.UseOf name line) = place_at lines line
 count_after lines count (token.Defs line) = place_at lines line
 count_after lines count token.QuoteBreak = next_line count
 count_after lines count e = count
+
+-- all rules in one pass over a C part that has rare tokens
+
+-- the run of joins, white space and line ends that comes next has a join
+abbrev pub joins_ahead : List Token → Bool
+joins_ahead [] = false
+joins_ahead (token.Join ∷ es) = true
+joins_ahead (token.White ∷ es) = joins_ahead es
+joins_ahead (token.LineEnd line ∷ es) = joins_ahead es
+joins_ahead (token.Fault kind line ∷ es) = joins_ahead es
+joins_ahead (e ∷ es) = false
+
+-- rule 1 for a token, by what stands last before it
+abbrev pub touches : Last → Token → Bool
+touches last.Word e = is_constant e
+touches last.Constant e = is_constant e || is_word_token e
+touches _ e = false
+
+-- a blank stands before the item of this token
+abbrev pub wants_blank : Last → Token → Bool
+wants_blank last.White e = true
+wants_blank at e = touches at e
+
+-- what stands last behind white space, and behind a token that is an item
+
+abbrev pub behind_white : Last → Last
+behind_white last.Front = last.Front
+behind_white last.Joined = last.Joined
+behind_white _ = last.White
+
+abbrev pub last_of : Token → Last
+last_of (token.Text text_kind.Word s) = last.Word
+last_of (token.Constant value line) = last.Constant
+last_of _ = last.Other
+
+abbrev pub is_joined : Last → Bool
+is_joined last.Joined = true
+is_joined _ = false
+
+-- the items that all rules give for the tokens to come, by what stands last before them and by the
+-- count of lines
+abbrev pub laid : List Line → Last → Origin → List Token → List Item
+laid lines at count [] = []
+laid lines at count (token.Fault kind line ∷ es) = laid lines at count es
+laid lines at count (token.Join ∷ es) = laid lines last.Joined count es
+laid lines at count (token.White ∷ es) = laid lines (behind_white at) count es
+laid lines at count (token.LineEnd line ∷ es) =
+    if is_joined at || joins_ahead es then laid lines last.Joined count es
+    else line_item lines count line ∷ laid lines last.Front (count_behind lines count line) es
+laid lines at count (e ∷ es) =
+    (if wants_blank at e then item.Blank ∷ [] else [])
+    ++ (items_at lines e ++ laid lines (last_of e) (count_after lines count e) es)
+
+-- line ends were laid that a join takes back
+abbrev pub takes_back : Last → List Token → Bool
+takes_back last.Front es = joins_ahead es
+takes_back _ es = false
+
+-- all items, where these were laid so far, and these tokens are to come
+unfoldable pub whole : List Line → List Item → RareLaying → List Token → List Item
+whole lines items at es =
+    if takes_back at.last es
+    then take at.start.items items ++ laid lines last.Joined (counts at.start.count) es
+    else items ++ laid lines at.last (counts at.count) es
+
+-- the higher of the counts of lines
+abbrev pub highest : RareLaying → ℕ
+highest at = max at.count.line at.start.count.line
 
 -- rule 3 and the items of a macro
 unfoldable pub unmarked_from : Before → List Token → List Item

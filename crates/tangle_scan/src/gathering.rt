@@ -11,9 +11,10 @@ ghost use Rattle.tangle_scan.specs.Web.{texts_of};
 ghost use Rattle.tangle_scan.specs.Gathering.{own_fault, nothing, gathering_with, with_head};
 
 use crate::items::Item;
-use crate::laying::{lay_macro, lay_part};
+use crate::laying::{lay_macro, lay_plain_part};
 use crate::pieces::{Macro, Piece};
-use crate::spacing::{first_byte, has_rare, macro_tokens, part_tokens};
+use crate::rare_parts::lay_rare_part;
+use crate::spacing::{first_byte, has_rare, macro_tokens};
 use std::alloc::Global;
 use std::marker::Model;
 use tangle_lexer::Token;
@@ -80,7 +81,45 @@ fn note_faults(
     Ok(())
 }
 
-/// The tokens of a part on its way to a piece or a macro. Their memory serves every part.
+/// Lays the items of a C part whose head ends on a line, and answers whether some of its tokens are
+/// rare. Most parts have none. Where one has, what was laid up to the first one is laid again.
+fn lay_part(
+    source: &Source,
+    items: &mut Vec<Item>,
+    line: u32,
+    tokens: &[Token],
+) -> Result<bool, NoMemory>
+    ensures items { OnOk result (items.new.items
+        ≡ rules.part_items source.now.lines line tokens.now) }
+    ensures rare { IfOk result (λ rare. rare ≡ list_any passes.is_rare tokens.now) }
+{
+    let rare = lay_plain_part(source, items, line, tokens)?;
+    if rare {
+        lay_rare_part(source, items, line, tokens)?;
+    }
+    Ok(rare)
+}
+
+/// The items of a C part whose head ends on a line, and whether some of its tokens are rare.
+// They are laid where they stay, in room for an item of each token: a part has few more, and what
+// is left of the room is given back.
+fn part_items(
+    alloc: Global,
+    source: &Source,
+    line: u32,
+    tokens: &[Token],
+) -> Result<(Vec<Item>, bool), NoMemory>
+    ensures items { IfOk result (λ r. r.0.items
+        ≡ rules.part_items source.now.lines line tokens.now) }
+    ensures rare { IfOk result (λ r. r.1 ≡ list_any passes.is_rare tokens.now) }
+{
+    let mut items = Vec::with_capacity(alloc, tokens.len())?;
+    let rare = lay_part(source, &mut items, line, tokens)?;
+    items.shrink_to_fit();
+    Ok((items, rare))
+}
+
+/// The tokens of a macro on their way to its items. Their memory serves every macro.
 #[derive(Drop)]
 pub struct Workspace {
     tokens: Vec<Token>,
@@ -92,45 +131,6 @@ impl Workspace {
         Workspace {
             tokens: Vec::new(alloc),
         }
-    }
-
-    /// Lays the items of a C part whose head ends on a line, and answers whether some of its tokens are rare. Most parts have none of
-    /// these, and are laid once as they are.
-    fn lay(
-        &mut self,
-        source: &Source,
-        items: &mut Vec<Item>,
-        line: u32,
-        tokens: &[Token],
-    ) -> Result<bool, NoMemory>
-        ensures items { OnOk result (items.new.items ≡ rules.part_items source.now.lines line tokens.now) }
-        ensures rare { IfOk result (λ rare. rare ≡ list_any passes.is_rare tokens.now) }
-    {
-        let rare = lay_part(source, items, line, tokens)?;
-        if !rare {
-            return Ok(rare);
-        }
-        let left = part_tokens(source, &mut self.tokens, tokens)?;
-        lay_part(source, items, line, left)?;
-        Ok(rare)
-    }
-
-    /// The items of a C part whose head ends on a line, and whether some of its tokens are rare.
-    // They are laid where they stay, in room for an item of each token: a part has few more, and what is left of the room is given back.
-    fn part_items(
-        &mut self,
-        alloc: Global,
-        source: &Source,
-        line: u32,
-        tokens: &[Token],
-    ) -> Result<(Vec<Item>, bool), NoMemory>
-        ensures items { IfOk result (λ r. r.0.items ≡ rules.part_items source.now.lines line tokens.now) }
-        ensures rare { IfOk result (λ r. r.1 ≡ list_any passes.is_rare tokens.now) }
-    {
-        let mut items = Vec::with_capacity(alloc, tokens.len())?;
-        let rare = self.lay(source, &mut items, line, tokens)?;
-        items.shrink_to_fit();
-        Ok((items, rare))
     }
 
     /// The items of a macro.
@@ -220,7 +220,6 @@ impl Gathering {
         &mut self,
         alloc: Global,
         source: &Source,
-        workspace: &mut Workspace,
         name: Option<usize>,
         line: u32,
         tokens: &[Token],
@@ -236,7 +235,7 @@ impl Gathering {
         }) }
         ensures rare { IfOk result (λ rare. rare ≡ list_any passes.is_rare tokens.now) }
     {
-        let (items, rare) = workspace.part_items(alloc, source, line, tokens)?;
+        let (items, rare) = part_items(alloc, source, line, tokens)?;
         let place = source.origin(line as usize);
         self.pieces
             .push(Piece::new(self.sections, place, name, items))?;
@@ -294,11 +293,9 @@ impl Gathering {
                 Ok(has_rare(tokens))
             }
             Token::MacroStart(line) => self.add_macro(alloc, source, workspace, line, tokens),
-            Token::UnnamedPart(line) => {
-                self.add_piece(alloc, source, workspace, None, line, tokens)
-            }
+            Token::UnnamedPart(line) => self.add_piece(alloc, source, None, line, tokens),
             Token::NamedPart(name, line) => {
-                self.add_piece(alloc, source, workspace, Some(name), line, tokens)
+                self.add_piece(alloc, source, Some(name), line, tokens)
             }
             _ => Ok(has_rare(tokens)),
         }

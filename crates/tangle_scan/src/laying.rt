@@ -1,6 +1,7 @@
-//! From the tokens that spacing leaves to items. White space between two items of a line is a blank, and other white space is
-//! dropped. A line mark stands behind each use and each `@h`, and in place of a line end where the next source line has another
-//! place than the compiler would count.
+//! From tokens to items: those of a C part without rare tokens, and those that spacing leaves of a
+//! macro. White space between two items of a line is a blank, and other white space is dropped. A
+//! line mark stands behind each use and each `@h`, and in place of a line end where the next source
+//! line has another place than the compiler would count.
 ghost use Rattle.std.specs.Prelude.{◌≡◌, ◌≤◌, ◌<◌, ◌-◌, ◌+◌, ◌^◌, ◌++◌, ◌∷◌, ◌&&◌, ◌||◌, [], ℕ, List, length, max, if◌then◌else◌, false, Option, None, Some, option_to_list, IfOk, OnOk};
 ghost use Rattle.std.specs.List.{list_any};
 ghost use Rattle.tangle_scan.specs.Rules as rules;
@@ -24,16 +25,28 @@ struct Before {
 
 /// The line that a compiler would count, by the marks and line ends so far.
 #[derive(Clone, Copy)]
-struct Count {
-    file: usize,
-    line: usize,
+pub struct Count {
+    pub file: usize,
+    pub line: usize,
 }
 
-/// How far the items were laid.
+/// How far the items of a C part were laid.
 #[derive(Clone, Copy)]
 struct Laying {
     before: Before,
     count: Count,
+}
+
+/// The count on a source line.
+pub fn count_on(source: &Source, line: u32) -> Count
+    ensures place { counts result ≡ place_at source.now.lines line }
+    ensures room { result.line < 2 ^ 32 }
+{
+    let place = source.origin(line as usize);
+    Count {
+        file: place.file as usize,
+        line: place.line as usize,
+    }
 }
 
 /// The count on the next line.
@@ -78,7 +91,9 @@ fn put_mark(items: &mut Vec<Item>, place: Origin) -> Result<Count, NoMemory>
 }
 
 /// Puts a line end, or the mark that stands for it.
-fn put_line_end(
+// It is inlined into both loops over the tokens of C parts, so that the count stays in registers.
+#[inline(always)]
+pub fn put_line_end(
     source: &Source,
     items: &mut Vec<Item>,
     count: Count,
@@ -112,7 +127,7 @@ fn put_blank(items: &mut Vec<Item>, before: Before) -> Result<(), NoMemory>
 
 /// The item that a text of a kind is.
 #[inline(always)]
-fn text_item(kind: TextKind, span: Span) -> Item
+pub fn text_item(kind: TextKind, span: Span) -> Item
     ensures { result ≡ rules.text_item kind span }
 {
     match kind {
@@ -147,7 +162,9 @@ fn put_some(items: &mut Vec<Item>, item: Option<Item>) -> Result<(), NoMemory>
 }
 
 /// Puts the item of a token, and a mark behind a use and behind the macros.
-fn put_item(
+// It is inlined for the same reason as `put_line_end`.
+#[inline(always)]
+pub fn put_item(
     source: &Source,
     items: &mut Vec<Item>,
     count: Count,
@@ -222,34 +239,34 @@ fn lay_token(
     }
 }
 
-/// Lays the items of a C part whose opening mark stands at a line, and answers whether some token is rare.
-pub fn lay_part(
+/// Lays the items of a C part whose head ends on a line, as long as no token is rare, and answers
+/// whether one is.
+pub fn lay_plain_part(
     source: &Source,
     items: &mut Vec<Item>,
     line: u32,
     tokens: &[Token],
 ) -> Result<bool, NoMemory>
-    ensures items { OnOk result (items.new.items ≡ rules.items_by_place source.now.lines (place_at source.now.lines line)
-        (rules.blanks false false tokens.now)) }
+    ensures items { IfOk result (λ rare. rare ≡ false →
+        items.new.items ≡ rules.part_items source.now.lines line tokens.now) }
     ensures rare { IfOk result (λ rare. rare ≡ list_any passes.is_rare tokens.now) }
 {
     items.clear();
-    let place = source.origin(line as usize);
     let mut has_rare = false;
     let mut at = Laying {
         before: Before {
             item: false,
             white: false,
         },
-        count: Count {
-            file: place.file as usize,
-            line: place.line as usize,
-        },
+        count: count_on(source, line),
     };
     for token in tokens {
         at = lay_token(source, items, at, token, &mut has_rare)?;
+        if has_rare {
+            return Ok(true);
+        }
     }
-    Ok(has_rare)
+    Ok(false)
 }
 
 /// Lays a token behind the items of a macro.

@@ -7,6 +7,7 @@ mod kept_bytes;
 mod laying;
 mod line_truth;
 mod pieces;
+mod rare_parts;
 mod scanning;
 mod spacing;
 mod webs;

@@ -1,5 +1,6 @@
-//! White space between the tokens of a C part or a macro. It is put between a word and an ASCII constant, or two constants, that
-//! touch, and behind the name of a macro. Each run of joins, white space and line ends that has a join is taken out.
+//! White space between the tokens of a macro. It is put between a word and an ASCII constant, or
+//! two constants, that touch, and behind the name. Each run of joins, white space and line ends
+//! that has a join is taken out.
 ghost use Rattle.std.specs.Prelude.{◌≡◌, ◌≤◌, ◌<◌, ◌-◌, ◌+◌, ◌++◌, ◌∷◌, [], ℕ, List, length, take, drop, get_or, if◌then◌else◌, IfOk, OnOk};
 ghost use Rattle.std.specs.List.{list_any};
 ghost use Rattle.tangle_scan.specs.Rules as rules;
@@ -79,7 +80,7 @@ fn add_space(out: &mut Vec<Token>, run: Run, wanted: bool) -> Result<Run, NoMemo
     Ok(run)
 }
 
-/// How far the beginning of a macro was read. A C part, which has no name, is inside from its front on.
+/// How far the beginning of a macro was read.
 #[derive(Clone, Copy)]
 enum Stage {
     /// Only white space and line ends came.
@@ -198,14 +199,11 @@ fn put_token(
     })
 }
 
-/// Spaces the tokens of a C part or a macro, which begins at this stage.
-fn space(
-    source: &Source,
-    out: &mut Vec<Token>,
-    stage: Stage,
-    tokens: &[Token],
-) -> Result<(), NoMemory>
-    ensures { OnOk result (out.new.items ≡ rules.without_joins [] (passes.with_white_space (texts_of source.now.lines) stage token.White (passes.without_skipped stage tokens.now))) }
+/// Spaces the tokens of a macro.
+fn space(source: &Source, out: &mut Vec<Token>, tokens: &[Token]) -> Result<(), NoMemory>
+    ensures { OnOk result (out.new.items ≡ rules.without_joins []
+        (rules.with_name_space (texts_of source.now.lines)
+        (rules.with_spaces (rules.without_front_gaps (rules.without_faults tokens.now))))) }
 {
     out.clear();
     let mut at = Spacing {
@@ -213,7 +211,7 @@ fn space(
             start: 0,
             has_join: false,
         },
-        stage,
+        stage: Stage::Front,
         before: Token::White,
     };
     for token in tokens {
@@ -239,18 +237,6 @@ pub fn has_rare(tokens: &[Token]) -> bool
     ensures { result ≡ list_any passes.is_rare tokens.now }
 {
     tokens.iter().any(|token| is_rare(*token))
-}
-
-/// The tokens of a C part that are left for its items.
-pub fn part_tokens<'e>(
-    source: &Source,
-    out: &'e mut Vec<Token>,
-    tokens: &[Token],
-) -> Result<&'e [Token], NoMemory>
-    ensures { IfOk result (λ left. left.now ≡ rules.without_joins [] (rules.with_spaces (rules.without_faults tokens.entry.now))) }
-{
-    space(source, out, Stage::Inside, tokens)?;
-    Ok(out.as_slice())
 }
 
 /// White space or a line end.
@@ -299,6 +285,6 @@ pub fn macro_tokens<'e>(
     if !has_rare && is_name_spaced(source, rest) {
         return Ok(rest);
     }
-    space(source, out, Stage::Front, tokens)?;
+    space(source, out, tokens)?;
     Ok(out.as_slice())
 }

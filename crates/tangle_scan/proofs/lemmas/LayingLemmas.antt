@@ -39,7 +39,7 @@ blanks-item before white token.White es other line = absurd (other refl)
 blanks-item before white (token.LineEnd line) es other end = absurd (end line refl)
 blanks-item before white _ es other end = refl
 
-items_by_place-blank : (lines : List Line) (count : Origin) (blank : Bool) (es : List Token) →
+pub items_by_place-blank : (lines : List Line) (count : Origin) (blank : Bool) (es : List Token) →
     items_by_place lines count ((if blank then token.White ∷ [] else []) ++ es) ≡ (if blank then item.Blank ∷ [] else []) ++ items_by_place lines count es
 items_by_place-blank lines count true es = refl
 items_by_place-blank lines count false es = refl

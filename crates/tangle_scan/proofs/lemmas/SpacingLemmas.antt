@@ -49,12 +49,15 @@ space-join : (texts : List (List ℕ)) (at : Stage) (e : Token) → needs_space 
 space-join texts stage.BehindName e = refl
 space-join texts _ e = refl
 
-behind-line : (texts : List (List ℕ)) (at : Stage) (line : ℕ) (es : List Token) → with_white_space texts at (token.LineEnd line) es ≡ with_white_space texts at token.White es
+pub behind-line : (texts : List (List ℕ)) (at : Stage) (line : ℕ) (es : List Token) →
+    with_white_space texts at (token.LineEnd line) es
+    ≡ with_white_space texts at token.White es
 behind-line texts at line [] = refl
 behind-line texts at line (e ∷ es) =
     ap (λ b. (if b then token.White ∷ [] else []) ++ e ∷ with_white_space texts (stage_behind at e) e es) (space-line texts at line e)
 
-behind-join : (texts : List (List ℕ)) (at : Stage) (es : List Token) → with_white_space texts at token.Join es ≡ with_white_space texts at token.White es
+pub behind-join : (texts : List (List ℕ)) (at : Stage) (es : List Token) →
+    with_white_space texts at token.Join es ≡ with_white_space texts at token.White es
 behind-join texts at [] = refl
 behind-join texts at (e ∷ es) =
     ap (λ b. (if b then token.White ∷ [] else []) ++ e ∷ with_white_space texts (stage_behind at e) e es) (space-join texts at e)

@@ -1,13 +1,8 @@
 use Rattle.std.proofs.Common.{ap, sym, ◌∙◌}
 use Rattle.tangle_scan.specs.Passes.{is_name_spaced}
-use Rattle.tangle_scan.specs.Rules.{without_faults, without_front_gaps}
 use Rattle.tangle_scan.specs.Web.{texts_of}
-use Rattle.tangle_scan.proofs.lemmas.SpacingLemmas.{spaced-front, unchanged-macro}
+use Rattle.tangle_scan.proofs.lemmas.SpacingLemmas.{unchanged-macro}
 use Rattle.tangle_scan.proofs.spacing.macro_tokens.Goals as goal
-
-pub returns : goal.returns
-returns c =
-    rw (c.as_slice.ensures.value, ← spaced-front (texts_of c.args.source.now.lines) (without_front_gaps (without_faults c.args.tokens.now))) c.in_ok-space.ensures
 
 pub returns-then-is_name_spaced : goal.returns-then-is_name_spaced
 returns-then-is_name_spaced c =

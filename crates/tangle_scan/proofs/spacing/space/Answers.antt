@@ -1,16 +1,24 @@
-use Rattle.std.proofs.Common.{take, arith, ap, sym, ◌∙◌, if◌then◌else◌}
+use Rattle.std.proofs.Common.{[], take, arith, ap, sym, ◌∙◌, if◌then◌else◌}
 use Rattle.std.proofs.lemmas.List.{drop_all}
+use Rattle.tangle_scan.specs.declared.spacing.Stage.TheVariants as stage
+use Rattle.tangle_scan.specs.Rules.{without_joins, without_faults, without_front_gaps}
 use Rattle.tangle_scan.specs.Web.{texts_of}
 use Rattle.tangle_scan.specs.Passes.{spacing_from}
-use Rattle.tangle_scan.proofs.lemmas.SpacingLemmas.{spaced-end, spaced-begin}
+use Rattle.tangle_scan.proofs.lemmas.SpacingLemmas.{spaced-end, spaced-begin, spaced-front}
 use Rattle.tangle_scan.proofs.spacing.space.Goals as goal
 
 pub returns : goal.returns
 returns c =
+    let texts = texts_of c.args.source.now.lines in
+    let tokens = c.args.tokens.now in
     let out = c.loop-token.out.items in
     let at = c.loop-token.at in
-    let done = drop_all c.loop-token.token-index c.args.tokens.now (omega arith) in
-    let end = ap (spacing_from (texts_of c.args.source.now.lines) out at) (sym done) ∙ c.loop-token.invariant.rest in
-    let begin = spaced-begin (texts_of c.args.source.now.lines) c.clear.new.self.items c.args.stage c.args.tokens.now c.clear.ensures.items in
-    let run = spaced-end (texts_of c.args.source.now.lines) out at in
-    c.close_run.ensures ∙ (ap (λ b. if b then take at.run.start out else out) c.loop-token.invariant.run.has ∙ (sym run ∙ (end ∙ begin)))
+    let done = drop_all c.loop-token.token-index tokens (omega arith) in
+    let end = ap (spacing_from texts out at) (sym done) ∙ c.loop-token.invariant.rest in
+    let cleared = c.clear.new.self.items in
+    let begin = spaced-begin texts cleared stage.Front tokens c.clear.ensures.items in
+    let front = spaced-front texts (without_front_gaps (without_faults tokens)) in
+    let run = spaced-end texts out at in
+    c.close_run.ensures
+    ∙ (ap (λ b. if b then take at.run.start out else out) c.loop-token.invariant.run.has
+    ∙ (sym run ∙ (end ∙ (begin ∙ ap (without_joins []) front))))

@@ -1,0 +1,17 @@
+use Rattle.std.proofs.Common.{arith, ap, ◌∙◌}
+use Rattle.std.proofs.lemmas.List.{drop_all}
+use Rattle.tangle_scan.specs.declared.rare_parts.Last.TheVariants as last
+use Rattle.tangle_scan.specs.Passes.{laid}
+use Rattle.tangle_scan.proofs.lemmas.RareLemmas.{laid-begin, laid-end}
+use Rattle.tangle_scan.proofs.lemmas.PartLemmas.{part-laid}
+use Rattle.tangle_scan.proofs.rare_parts.lay_rare_part.Goals as goal
+
+pub returns : goal.returns
+returns c =
+    let lines = c.args.source.now.lines in
+    let tokens = c.args.tokens.now in
+    let done = drop_all c.loop-token.token-index tokens (omega arith) in
+    laid-end lines c.loop-token.at c.loop-token.items.items _ _ done c.loop-token.invariant.rest
+    ∙ (laid-begin lines c.clear.new.self.items _ tokens c.clear.ensures.items
+    ∙ (ap (λ place. laid lines last.Front place tokens) c.count_on-count.ensures.place
+    ∙ part-laid lines c.args.line tokens))
