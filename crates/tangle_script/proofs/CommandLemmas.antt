@@ -1,5 +1,5 @@
 -- Laws of reading: lines and commands of a script that comes in pieces.
-use Rattle.std.proofs.Common.{◌≡◌, ◌∙◌, inl, inr, ℕ, ◌<◌, ◌==◌, Bool, true, false, cond, zero, suc, length, take, drop, get_or, List, [], ◌∷◌, ◌++◌, Option, Some, None, ap, subst, sym, refl, append_assoc, append-nil, arith, length-append}
+use Rattle.std.proofs.Common.{◌≡◌, ◌∙◌, inl, inr, ℕ, ◌<◌, ◌==◌, Bool, true, false, cond, zero, suc, length, take, drop, take-append-drop, get_or, List, [], ◌∷◌, ◌++◌, Option, Some, None, ap, subst, sym, refl, append_assoc, append-nil, arith, length-append}
 use Rattle.std.specs.Prelude.{⊤, nat_lt}
 use borrow.Author.Tests.{ltb-false}
 use Rattle.std.proofs.lemmas.Bool.{eq-eqb, eqb-true}
@@ -315,3 +315,11 @@ no_lines (l ∷ ls) e = absurd (omega (arith, ltb-false 0 (length (l ∷ ls)) e)
 
 pub waits_on : (p xs : List ℕ) → OnlyWaits p → nat_lt 0 (length (ended [] xs)) ≡ false → (ended_commands (p ++ xs) ≡ []) × (kept (p ++ xs) ≡ p ++ xs)
 waits_on p xs waits none = waits_more p xs waits (no_lines (ended [] xs) none)
+
+-- so in bytes of which a front waits, and what follows it has no line feed
+pub waits_in : (n : ℕ) (xs : List ℕ) → OnlyWaits (take n xs)
+    → nat_lt 0 (length (ended [] (drop n xs))) ≡ false
+    → (ended_commands xs ≡ []) × (kept xs ≡ xs)
+waits_in n xs waits none =
+    subst (λ (l : List ℕ). (ended_commands l ≡ []) × (kept l ≡ l)) (take-append-drop n xs)
+    (waits_on (take n xs) (drop n xs) waits none)

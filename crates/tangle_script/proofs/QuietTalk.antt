@@ -1,10 +1,10 @@
 -- A run that ends with status 3 though no byte was read and nothing failed is none.
-use Rattle.std.proofs.Common.{◌≡◌, ℕ, ◌<◌, Bool, true, false, List, [], ◌∷◌, ◌++◌, Option, Some, subst, ap, length, length-append, arith}
+use Rattle.std.proofs.Common.{◌≡◌, inl, inr, ℕ, ◌<◌, Bool, true, false, List, [], ◌∷◌, ◌++◌, Option, Some, subst, ap, length, length-append, arith}
 use Rattle.std.specs.Io.KnownBytes.{Consumes}
 use Rattle.tangle_script.specs.Requests.{Request}
 use Rattle.tangle_script.specs.Commands.{kept}
 use Rattle.tangle_script.specs.Script.{Talk}
-use Rattle.tangle_script.specs.Endings.{TalkEnds, status_of}
+use Rattle.tangle_script.specs.Endings.{TalkEnds, command_room, status_of}
 use Rattle.tangle_script.specs.Endings.TalkEnds.{IsAtQuit, IsAtInputEnd, IsUnread, IsTooLong, IsUnheard, IsShort}
 use Rattle.tangle_script.specs.Quiet.{IsQuiet}
 
@@ -16,7 +16,7 @@ small false = omega arith
 none_read : (script read : List ℕ) → Consumes (Some script) (Some script) read → length read ≡ 0
 none_read script read given = omega (arith, ap length given, length-append read script)
 
-no_kept : (read : List ℕ) → length read ≡ 0 → 0 < length (kept read) → ⊥
+no_kept : (read : List ℕ) → length read ≡ 0 → command_room < length (kept read) → ⊥
 no_kept [] none some = omega arith
 no_kept (b ∷ bs) none some = omega arith
 
@@ -30,5 +30,8 @@ module _ {State : Type 0} (answers : State → Request → List ℕ → State �
   talk_quiet (IsAtInputEnd read given within same over on told status) = let h = small status.0 in omega (arith, status.2)
   talk_quiet (IsUnread read given within failed on told status) = quiet.heard failed
   talk_quiet (IsTooLong read more given full same on told status) = let none = quiet_read (read ++ more ∷ []) given in omega (arith, length-append read (more ∷ []))
-  talk_quiet (IsUnheard read given within same cut status) = quiet.taken cut.failed
+  talk_quiet (IsUnheard read given within same cut status) = elim cut [
+    | inl ended ↦ quiet.taken ended.failed
+    | inr last ↦ quiet.taken last.2.failed
+  ]
   talk_quiet (IsShort read given within same some on told status) = no_kept read (quiet_read read given) some

@@ -9,11 +9,11 @@ use Rattle.tangle_script.specs.Commands.{OnlyWaits, all_commands, ended_commands
 use Rattle.tangle_script.specs.declared.answering.End.{End}
 use Rattle.tangle_script.specs.declared.answering.End.TheVariants.{Done, Failed as IsFailed}
 use Rattle.tangle_script.specs.Script.{IsCut, IsQuit, IsTold, Talk, Telling, has_quit}
-use Rattle.tangle_script.specs.Endings.{TalkEnds, script_limit}
+use Rattle.tangle_script.specs.Endings.{TalkEnds, command_room, script_limit}
 use Rattle.tangle_script.specs.Endings.TalkEnds.{IsAtQuit, IsAtInputEnd, IsUnread, IsTooLong, IsUnheard, IsShort}
-use Rattle.tangle_script.specs.Turns.{EndsAnswered, EndsBy, Holds, Probes, Stops}
+use Rattle.tangle_script.specs.Turns.{Breaks, EndsAnswered, EndsBy, Holds, Probes}
 use Rattle.tangle_script.proofs.CommandLemmas.{all_commands-kept, commands-append, kept-append, kept_waits}
-use Rattle.tangle_script.proofs.TalkLemmas.{cut_more, told_none, told_then_cut, told_then_quit, told_then_told, unquit-append}
+use Rattle.tangle_script.proofs.TalkLemmas.{told_none, told_then_cut, told_then_quit, told_then_told, unquit-append}
 
 pub Consumes-trans : (a b c : Option (List ℕ)) (xs ys : List ℕ) → Consumes a b xs → Consumes b c ys → Consumes a c (xs ++ ys)
 Consumes-trans None b c xs ys p q = tt
@@ -66,21 +66,21 @@ module _ {State : Type 0} (answers : State → Request → List ℕ → State �
     pending_is = is ∙ sym more_kept;
   }
 
-  pub stops_more : (end : End) → n + length chunk ≤ script_limit → Stops answers end a b (p ++ chunk) → EndsBy answers has_error end old (at b coming' failures')
-  stops_more Done short quit = λ status is.
-      IsAtQuit (h.read ++ chunk) more_given (omega (arith, length-append h.read chunk, h.counted)) (same ∙ h.reader_failures)
-      (subst (IsQuit answers old.telling b) (sym more_commands) (told_then_quit answers old.telling a b (ended_commands h.read) (ended_commands (p ++ chunk)) h.told h.unquit quit)) is
-  stops_more IsFailed short why =
-      let within : length (h.read ++ chunk) ≤ script_limit = omega (arith, length-append h.read chunk, h.counted) in
-      elim why [
-        | inl cut ↦
-            IsUnheard (h.read ++ chunk) more_given within (same ∙ h.reader_failures)
-            (subst (IsCut answers old.telling b) (sym (all_commands-kept (h.read ++ chunk)))
-            (cut_more answers old.telling b (ended_commands (h.read ++ chunk)) (all_commands (kept (h.read ++ chunk)))
-            (subst (IsCut answers old.telling b) (sym more_commands) (told_then_cut answers old.telling a b (ended_commands h.read) (ended_commands (p ++ chunk)) h.told h.unquit cut)))) refl
-        | inr short ↦
-            IsShort (h.read ++ chunk) more_given within (same ∙ h.reader_failures) (subst (λ l. 0 < length l) (sym more_kept) short.2) (more_unquit short.1) (more_told short.0) refl
-      ]
+  pub breaks_more : (end : End) → n + length chunk ≤ script_limit
+      → Breaks answers end a b (ended_commands (p ++ chunk))
+      → EndsBy answers has_error end old (at b coming' failures')
+  breaks_more Done short quit = λ status is.
+      IsAtQuit (h.read ++ chunk) more_given
+      (omega (arith, length-append h.read chunk, h.counted)) (same ∙ h.reader_failures)
+      (subst (IsQuit answers old.telling b) (sym more_commands)
+      (told_then_quit answers old.telling a b (ended_commands h.read) (ended_commands (p ++ chunk))
+      h.told h.unquit quit)) is
+  breaks_more IsFailed short cut =
+      IsUnheard (h.read ++ chunk) more_given
+      (omega (arith, length-append h.read chunk, h.counted)) (same ∙ h.reader_failures)
+      (inl (subst (IsCut answers old.telling b) (sym more_commands)
+      (told_then_cut answers old.telling a b (ended_commands h.read) (ended_commands (p ++ chunk))
+      h.told h.unquit cut))) refl
 
 module _ {State : Type 0} (answers : State → Request → List ℕ → State → Type 0) (has_error : State → Bool → Type 0) (old : Talk State) (a : Telling State) (coming : Option (List ℕ)) (failures : ℕ) (p : List ℕ) (n : ℕ) (h : Holds answers old (at a coming failures) p n) where
   -- the reader failed
@@ -114,16 +114,26 @@ module _ {State : Type 0} (answers : State → Request → List ℕ → State �
       IsAtInputEnd h.read h.given (omega (arith, h.counted)) h.reader_failures none h.unquit
       (subst (IsTold answers old.telling b) (sym all_read) (told_then_told answers old.telling a b (ended_commands h.read) (all_commands p) h.told told)) is
 
-  pub ends_cut : (b : Telling State) → n ≤ script_limit → IsCut answers a b (all_commands p) → TalkEnds answers has_error old (at b coming failures) 3
-  ends_cut b short cut =
+  pub ends_cut : (b : Telling State) → n ≤ script_limit → IsAtEnd coming
+      → IsCut answers a b (all_commands p) → TalkEnds answers has_error old (at b coming failures) 3
+  ends_cut b short none cut =
       IsUnheard h.read h.given (omega (arith, h.counted)) h.reader_failures
-      (subst (IsCut answers old.telling b) (sym all_read) (told_then_cut answers old.telling a b (ended_commands h.read) (all_commands p) h.told h.unquit cut)) refl
+      (inr (none, h.unquit, subst (IsCut answers old.telling b) (sym all_read)
+      (told_then_cut answers old.telling a b (ended_commands h.read) (all_commands p)
+      h.told h.unquit cut))) refl
+
+  -- no memory was left for more of one command than a run has room for
+  pub ends_short : n ≤ script_limit → command_room < length p
+      → TalkEnds answers has_error old (at a coming failures) 3
+  ends_short short long =
+      IsShort h.read h.given (omega (arith, h.counted)) h.reader_failures
+      (subst (λ (l : List ℕ). command_room < length l) h.pending_is long) h.unquit h.told refl
 
   -- what stands at the end was answered, or the writer failed in it
   pub ends_last : (b : Telling State) → n ≤ script_limit → IsAtEnd coming → (r : Result (Unit {0}) End) → IfOk r (λ _. IsTold answers a b (all_commands p)) → IfErr r (λ end. (end ≡ IsFailed) × IsCut answers a b (all_commands p))
       → MatchResult r (λ _. EndsAnswered answers has_error old (at b coming failures)) (λ end. EndsBy answers has_error end old (at b coming failures))
   ends_last b short none (Ok x) told cut = ends_told b short none told
-  ends_last b short none (Err end) told cut = subst (λ e. EndsBy answers has_error e old (at b coming failures)) (sym cut.0) (ends_cut b short cut.1)
+  ends_last b short none (Err end) told cut = subst (λ e. EndsBy answers has_error e old (at b coming failures)) (sym cut.0) (ends_cut b short none cut.1)
 
   pub waits_now : OnlyWaits p
   waits_now = subst OnlyWaits (sym h.pending_is) (kept_waits h.read)

@@ -1,5 +1,7 @@
 pub mod Requests
 pub mod Table
+pub mod Rooms
+pub mod Buffer
 pub mod Commands
 pub mod Script
 pub mod Endings

@@ -1,5 +1,5 @@
 -- A run that goes on, turn by turn, and why one ends it.
-use Rattle.std.specs.Prelude.{◌≡◌, ◌<◌, ◌⊎◌, ℕ, Bool, true, false, List, [], ◌∷◌, length, Option, None, Some}
+use Rattle.std.specs.Prelude.{◌≡◌, ℕ, Bool, true, false, List, [], ◌∷◌, length, Option, None, Some}
 use Rattle.std.specs.Io.KnownBytes.{Consumes, IsAtEnd, Keeps}
 use Rattle.tangle_streams.specs.Streams.{one_more_failure}
 use Rattle.tangle_script.specs.Requests.{Command, Request}
@@ -14,13 +14,6 @@ module _ {State : Type 0} (answers : State → Request → List ℕ → State �
   abbrev pub Breaks : End → Telling State → Telling State → List Command → Type 0
   Breaks Done old new commands = IsQuit answers old new commands
   Breaks IsFailed old new commands = IsCut answers old new commands
-
-  -- and so, or no memory was left for the bytes that are kept
-  abbrev pub Stops : End → Telling State → Telling State → List ℕ → Type 0
-  Stops Done old new bytes = IsQuit answers old new (ended_commands bytes)
-  Stops IsFailed old new bytes =
-      IsCut answers old new (ended_commands bytes)
-      ⊎ (IsTold answers old new (ended_commands bytes) × (has_quit (ended_commands bytes) ≡ false) × (0 < length (kept bytes)))
 
   -- so many bytes were read, the commands that ended in them are answered, and these bytes are kept
   pub record Holds (old now : Talk State) (pending : List ℕ) (count : ℕ) : Type 0 where

@@ -5,8 +5,8 @@
 #![tactic(auto)]
 
 mod answering;
+mod buffer;
 mod commands;
-mod pending;
 mod project;
 mod request;
 mod running;
