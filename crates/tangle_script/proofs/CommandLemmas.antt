@@ -112,10 +112,10 @@ again_lines h u ys e = ap (ended []) (append_assoc h (10 ∷ u) ys) ∙ ended_af
 pub again_rest : (h u ys : List ℕ) → ended [] h ≡ [] → unended [] ((h ++ 10 ∷ u) ++ ys) ≡ unended [] (u ++ ys)
 again_rest h u ys e = ap (unended []) (append_assoc h (10 ∷ u) ys) ∙ unended_after h (10 ∷ (u ++ ys)) e
 
-settled_head : (h : List ℕ) (ls : List (List ℕ)) → takes_text h ≡ true → settled None (h ∷ ls) ≡ settled (Some h) ls
+pub settled_head : (h : List ℕ) (ls : List (List ℕ)) → takes_text h ≡ true → settled None (h ∷ ls) ≡ settled (Some h) ls
 settled_head h ls t = ap (λ b. cond b (settled (Some h) ls) (alone h ++ settled None ls)) t
 
-waiting_head : (h : List ℕ) (ls : List (List ℕ)) → takes_text h ≡ true → waiting None (h ∷ ls) ≡ waiting (Some h) ls
+pub waiting_head : (h : List ℕ) (ls : List (List ℕ)) → takes_text h ≡ true → waiting None (h ∷ ls) ≡ waiting (Some h) ls
 waiting_head h ls t = ap (λ b. cond b (waiting (Some h) ls) (waiting None ls)) t
 
 again_settled : (w : Option (List ℕ)) (u ys : List ℕ) → Waits w → ended [] u ≡ [] → settled None (ended [] (with_head w u ++ ys)) ≡ settled w (ended u ys)
@@ -132,7 +132,7 @@ again_unended (Some l) u ys h e = again_rest l u ys h.0 ∙ unended_after u ys e
 
 -- The laws: what has ended is answered, and what is kept stands in front of what comes.
 
-read_waits : (xs : List ℕ) → Waits (waiting None (ended [] xs))
+pub read_waits : (xs : List ℕ) → Waits (waiting None (ended [] xs))
 read_waits xs = waiting_waits None (ended [] xs) tt (ended_unfed [] xs refl)
 
 pub commands-append : (xs ys : List ℕ) → ended_commands (xs ++ ys) ≡ ended_commands xs ++ ended_commands (kept xs ++ ys)

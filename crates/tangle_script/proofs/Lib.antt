@@ -4,3 +4,4 @@ pub mod TalkLemmas
 pub mod BufferLemmas
 pub mod RunLemmas
 pub mod QuietTalk
+pub mod ShortLemmas

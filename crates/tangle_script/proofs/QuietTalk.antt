@@ -8,7 +8,7 @@ use Rattle.tangle_script.specs.Endings.{TalkEnds, command_room, status_of}
 use Rattle.tangle_script.specs.Endings.TalkEnds.{IsAtQuit, IsAtInputEnd, IsUnread, IsTooLong, IsUnheard, IsShort}
 use Rattle.tangle_script.specs.Quiet.{IsQuiet}
 
-small : (b : Bool) → status_of b < 3
+pub small : (b : Bool) → status_of b < 3
 small true = omega arith
 small false = omega arith
 

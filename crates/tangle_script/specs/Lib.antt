@@ -7,3 +7,4 @@ pub mod Script
 pub mod Endings
 pub mod Turns
 pub mod Quiet
+pub mod Short

@@ -13,4 +13,4 @@ mod running;
 
 pub use project::{Project, SinkFailed};
 pub use request::{Request, each_command_asks_for_its_row, parse, wants_text};
-pub use running::{SCRIPT_LIMIT, run_script, three_needs_a_reason};
+pub use running::{SCRIPT_LIMIT, run_script, short_commands_need_no_memory, three_needs_a_reason};

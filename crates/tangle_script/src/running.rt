@@ -6,6 +6,7 @@ ghost use Rattle.tangle_script.specs.Commands.{OnlyWaits, ended_commands, kept};
 ghost use Rattle.tangle_script.specs.Script.{IsTold, Talk, has_quit, talk, telling};
 ghost use Rattle.tangle_script.specs.Endings.{IsStatus, TalkEnds, script_limit};
 ghost use Rattle.tangle_script.specs.Quiet.{ThreeNeedsReason};
+ghost use Rattle.tangle_script.specs.Short.{ShortNeedsNoMemory};
 ghost use Rattle.tangle_script.specs.Turns.{Breaks, EndsAnswered, EndsBy, Holds, Probes, counted_probe};
 
 use crate::answering::{End, answer_all, answer_last};
@@ -193,4 +194,11 @@ pub fn run_script<P: Project, R: Feed, S: Sink>(
 /// So a body that ends every run so is none.
 pub fn three_needs_a_reason<P: Project>()
     ensures { ThreeNeedsReason P.answers P.has_error }
+{}
+
+/// A run over a script whose commands have at most 4,096 bytes each, a line feed behind their line and behind their text
+/// counted, is never out of memory of its own: it ends with status 3 only where the reader or the writer failed, or the
+/// script is longer than [`SCRIPT_LIMIT`].
+pub fn short_commands_need_no_memory<P: Project>()
+    ensures { ShortNeedsNoMemory P.answers P.has_error }
 {}
