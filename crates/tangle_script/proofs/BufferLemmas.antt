@@ -17,10 +17,14 @@ pub read_behind : (xs ys : List ℕ) (len end : ℕ) (a b : Option (List ℕ)) (
 read_behind xs ys len end a b None within some fits gives = tt
 read_behind xs ys len end a b (Some n) within some fits gives =
     let front = length-take-le len xs within in
-    let after = ys ++ post_of len end xs in
-    (take n ys, length-take-le n ys fits, take-add len n (take len xs ++ after)
-    ∙ (rw (take_at (take len xs) after _ front, drop_at (take len xs) after _ front, take-append-le n ys (post_of len end xs) fits) refl),
-    gives.0, λ none. gives.1 none some)
+    let after = ys ++ post_of len end xs in (
+      take n ys,
+      length-take-le n ys fits,
+      take-add len n (take len xs ++ after)
+          ∙ (rw (take_at (take len xs) after _ front, drop_at (take len xs) after _ front, take-append-le n ys (post_of len end xs) fits) refl),
+      gives.0,
+      λ none. gives.1 none some,
+    )
 
 pub moved : (all : List ℕ) (from len n : ℕ) → n + from ≡ len → len ≤ length all
     → take n (copy_within all from len 0) ≡ drop from (take len all)

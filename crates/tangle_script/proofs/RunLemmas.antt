@@ -118,9 +118,13 @@ module _ {State : Type 0} (answers : State → Request → List ℕ → State �
       → IsCut answers a b (all_commands p) → TalkEnds answers has_error old (at b coming failures) 3
   ends_cut b short none cut =
       IsUnheard h.read h.given (omega (arith, h.counted)) h.reader_failures
-      (inr (none, h.unquit, subst (IsCut answers old.telling b) (sym all_read)
-      (told_then_cut answers old.telling a b (ended_commands h.read) (all_commands p)
-      h.told h.unquit cut))) refl
+      (inr (
+        none,
+        h.unquit,
+        subst (IsCut answers old.telling b) (sym all_read)
+            (told_then_cut answers old.telling a b (ended_commands h.read) (all_commands p)
+            h.told h.unquit cut),
+      )) refl
 
   -- no memory was left for more of one command than a run has room for
   pub ends_short : n ≤ script_limit → command_room < length p

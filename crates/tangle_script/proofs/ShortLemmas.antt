@@ -48,6 +48,7 @@ first_plain u ((b ∷ bs) ∷ ls) some h = by (takes_text (b ∷ bs)) ls
   where
     l : List ℕ
     l = b ∷ bs
+
     by : (t : Bool) (ls : List (List ℕ))
         → FirstHas (length u) (cond t (settled (Some l) ls) (alone l ++ settled None ls) ++ textless (cond t (waiting (Some l) ls) (waiting None ls)))
     by true [] = omega arith

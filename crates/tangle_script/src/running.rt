@@ -66,16 +66,16 @@ fn turn<P: Project, R: Feed, S: Sink>(
     ensures ends { (old : Talk P.State) (count : ℕ) → count + most ≤ script_limit
         → Holds P.answers old
         (talk (P.state held.old draft.old) (S.stream sink.old)
-            (R.coming feed.old) (R.failures feed.old))
+        (R.coming feed.old) (R.failures feed.old))
         (bytes buffer.old) count
         → MatchResult result
         (λ n. Holds P.answers old
         (talk (P.state held.new draft.new) (S.stream sink.new)
-            (R.coming feed.new) (R.failures feed.new))
+        (R.coming feed.new) (R.failures feed.new))
         (bytes buffer.new) (count + n))
         (λ end. EndsBy P.answers P.has_error end old
         (talk (P.state held.new draft.new) (S.stream sink.new)
-            (R.coming feed.new) (R.failures feed.new))) }
+        (R.coming feed.new) (R.failures feed.new))) }
     ensures end { IfOk result (λ n. n ≡ 0 → IsAtEnd (R.coming feed.new)) }
     ensures within { IfOk result (λ n. n ≤ most) }
 {

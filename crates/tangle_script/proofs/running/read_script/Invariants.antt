@@ -8,9 +8,9 @@ abbrev pub invariant-loop-count : goal.invariant-loop-count
 invariant-loop-count g l = record {
   holds : Holds g.P.Project.answers
       (talk (g.P.Project.state l.initial.held l.initial.draft) (g.S.Sink.stream l.initial.sink)
-          (g.R.Feed.coming l.initial.feed) (g.R.Feed.failures l.initial.feed))
+      (g.R.Feed.coming l.initial.feed) (g.R.Feed.failures l.initial.feed))
       (talk (g.P.Project.state l.held l.draft) (g.S.Sink.stream l.sink)
-          (g.R.Feed.coming l.feed) (g.R.Feed.failures l.feed))
+      (g.R.Feed.coming l.feed) (g.R.Feed.failures l.feed))
       (bytes l.buffer) l.count;
   within : l.count ≤ 67108864;
 }
