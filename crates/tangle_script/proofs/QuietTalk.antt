@@ -5,7 +5,7 @@ use Rattle.tangle_script.specs.Requests.{Request}
 use Rattle.tangle_script.specs.Commands.{kept}
 use Rattle.tangle_script.specs.Script.{Talk}
 use Rattle.tangle_script.specs.Endings.{TalkEnds, command_room, status_of}
-use Rattle.tangle_script.specs.Endings.TalkEnds.{IsAtQuit, IsAtInputEnd, IsUnread, IsTooLong, IsUnheard, IsShort}
+use Rattle.tangle_script.specs.Endings.TalkEnds.{IsAtQuit, IsAtInputEnd, IsUnread, IsTooLong, IsUnwritten, IsShort}
 use Rattle.tangle_script.specs.Quiet.{IsQuiet}
 
 pub small : (b : Bool) → status_of b < 3
@@ -26,12 +26,12 @@ module _ {State : Type 0} (answers : State → Request → List ℕ → State �
       none_read quiet.script read (subst (λ (a : Option (List ℕ)). Consumes a (Some quiet.script) read) quiet.coming (subst (λ (b : Option (List ℕ)). Consumes old.coming b read) quiet.unread given))
 
   pub talk_quiet : TalkEnds answers has_error old new 3 → ⊥
-  talk_quiet (IsAtQuit read given within same told status) = let h = small status.0 in omega (arith, status.2)
-  talk_quiet (IsAtInputEnd read given within same over on told status) = let h = small status.0 in omega (arith, status.2)
-  talk_quiet (IsUnread read given within failed on told status) = quiet.heard failed
-  talk_quiet (IsTooLong read more given full same on told status) = let none = quiet_read (read ++ more ∷ []) given in omega (arith, length-append read (more ∷ []))
-  talk_quiet (IsUnheard read given within same cut status) = elim cut [
+  talk_quiet (IsAtQuit read given within same answered status) = let h = small status.0 in omega (arith, status.2)
+  talk_quiet (IsAtInputEnd read given within same over on answered status) = let h = small status.0 in omega (arith, status.2)
+  talk_quiet (IsUnread read given within failed on answered status) = quiet.read failed
+  talk_quiet (IsTooLong read more given full same on answered status) = let none = quiet_read (read ++ more ∷ []) given in omega (arith, length-append read (more ∷ []))
+  talk_quiet (IsUnwritten read given within same cut status) = elim cut [
     | inl ended ↦ quiet.taken ended.failed
     | inr last ↦ quiet.taken last.2.failed
   ]
-  talk_quiet (IsShort read given within same some on told status) = no_kept read (quiet_read read given) some
+  talk_quiet (IsShort read given within same some on answered status) = no_kept read (quiet_read read given) some

@@ -6,7 +6,7 @@ use Rattle.tangle_script.specs.Requests.{Command, Request, takes_text}
 use Rattle.tangle_script.specs.Commands.{all_commands, alone, commands_at_end, ended, ended_commands, kept, last_line, settled, textless, unended, waiting, with_head}
 use Rattle.tangle_script.specs.Script.{Talk}
 use Rattle.tangle_script.specs.Endings.{TalkEnds, command_room, script_limit}
-use Rattle.tangle_script.specs.Endings.TalkEnds.{IsAtQuit, IsAtInputEnd, IsUnread, IsTooLong, IsUnheard, IsShort}
+use Rattle.tangle_script.specs.Endings.TalkEnds.{IsAtQuit, IsAtInputEnd, IsUnread, IsTooLong, IsUnwritten, IsShort}
 use Rattle.tangle_script.specs.Short.{HasFailed, HasShortCommands, command_size}
 use Rattle.tangle_script.proofs.CommandLemmas.{Waits, again_lines, again_rest, all_commands-kept, commands-append, ended_after, kept-append, read_waits, settled_head, unended_after, unended_unfed, waiting_head}
 use Rattle.tangle_script.proofs.QuietTalk.{small}
@@ -123,16 +123,16 @@ module _ {State : Type 0} (answers : State → Request → List ℕ → State �
   read_front read given = is_front script read new.coming (subst (λ (a : Option (List ℕ)). Consumes a new.coming read) coming given)
 
   pub short_needs_no_memory : HasShortCommands script → TalkEnds answers has_error old new 3 → HasFailed old new script
-  short_needs_no_memory short (IsAtQuit read given within same told status) = let h = small status.0 in absurd (omega (arith, status.2))
-  short_needs_no_memory short (IsAtInputEnd read given within same over on told status) = let h = small status.0 in absurd (omega (arith, status.2))
-  short_needs_no_memory short (IsUnread read given within failed on told status) = inl failed
-  short_needs_no_memory short (IsTooLong read more given full same on told status) =
+  short_needs_no_memory short (IsAtQuit read given within same answered status) = let h = small status.0 in absurd (omega (arith, status.2))
+  short_needs_no_memory short (IsAtInputEnd read given within same over on answered status) = let h = small status.0 in absurd (omega (arith, status.2))
+  short_needs_no_memory short (IsUnread read given within failed on answered status) = inl failed
+  short_needs_no_memory short (IsTooLong read more given full same on answered status) =
       let front = read_front (read ++ more ∷ []) given in
       inr (inr (omega (arith, full, ap length front.1, length-append (read ++ more ∷ []) front.0, length-append read (more ∷ []))))
-  short_needs_no_memory short (IsUnheard read given within same cut status) = inr (inl (elim cut [
+  short_needs_no_memory short (IsUnwritten read given within same cut status) = inr (inl (elim cut [
     | inl ended ↦ ended.failed
     | inr last ↦ last.2.failed
   ]))
-  short_needs_no_memory short (IsShort read given within same long on told status) =
+  short_needs_no_memory short (IsShort read given within same long on answered status) =
       let front = read_front read given in
       absurd (kept_fits read front.0 (subst HasShortCommands front.1 short) long)

@@ -4,7 +4,7 @@ use Rattle.std.specs.Io.KnownBytes.{Consumes, IsAtEnd}
 use Rattle.tangle_streams.specs.Streams.{Failed}
 use Rattle.tangle_script.specs.Requests.{Request}
 use Rattle.tangle_script.specs.Commands.{all_commands, ended_commands, kept}
-use Rattle.tangle_script.specs.Script.{IsCut, IsQuit, IsTold, Talk, has_quit}
+use Rattle.tangle_script.specs.Script.{IsCut, IsQuit, IsAnswered, Talk, has_quit}
 
 -- the most bytes of a script
 abbrev pub script_limit : ℕ
@@ -35,18 +35,18 @@ pub data TalkEnds {State : Type 0} (answers : State → Request → List ℕ →
       → IsQuit answers old.telling new.telling (ended_commands read) → IsStatus has_error new.telling.state status → TalkEnds answers has_error old new status
   -- 0 or 1: the script came to its end, and all its commands are answered
   IsAtInputEnd : (read : List ℕ) → Consumes old.coming new.coming read → length read ≤ script_limit → new.reader_failures ≡ old.reader_failures
-      → IsAtEnd new.coming → has_quit (ended_commands read) ≡ false → IsTold answers old.telling new.telling (all_commands read)
+      → IsAtEnd new.coming → has_quit (ended_commands read) ≡ false → IsAnswered answers old.telling new.telling (all_commands read)
       → IsStatus has_error new.telling.state status → TalkEnds answers has_error old new status
   -- 3: the reader failed, and the commands that had ended are answered
   IsUnread : (read : List ℕ) → Consumes old.coming new.coming read → length read ≤ script_limit → Failed old.reader_failures new.reader_failures
-      → has_quit (ended_commands read) ≡ false → IsTold answers old.telling new.telling (ended_commands read) → status ≡ 3 → TalkEnds answers has_error old new status
+      → has_quit (ended_commands read) ≡ false → IsAnswered answers old.telling new.telling (ended_commands read) → status ≡ 3 → TalkEnds answers has_error old new status
   -- 3: a byte came past the most of a script, and the commands that had ended are answered
   IsTooLong : (read : List ℕ) (more : ℕ) → Consumes old.coming new.coming (read ++ more ∷ []) → length read ≡ script_limit → new.reader_failures ≡ old.reader_failures
-      → has_quit (ended_commands read) ≡ false → IsTold answers old.telling new.telling (ended_commands read) → status ≡ 3 → TalkEnds answers has_error old new status
+      → has_quit (ended_commands read) ≡ false → IsAnswered answers old.telling new.telling (ended_commands read) → status ≡ 3 → TalkEnds answers has_error old new status
   -- 3: the writer failed in the answer to a command that had ended, or to the last one at the end of the script
-  IsUnheard : (read : List ℕ) → Consumes old.coming new.coming read → length read ≤ script_limit → new.reader_failures ≡ old.reader_failures
+  IsUnwritten : (read : List ℕ) → Consumes old.coming new.coming read → length read ≤ script_limit → new.reader_failures ≡ old.reader_failures
       → IsCutIn answers old new read → status ≡ 3 → TalkEnds answers has_error old new status
   -- 3: out of memory for more bytes of one command than a run has room for, and the commands that had ended are answered
   IsShort : (read : List ℕ) → Consumes old.coming new.coming read → length read ≤ script_limit → new.reader_failures ≡ old.reader_failures
-      → command_room < length (kept read) → has_quit (ended_commands read) ≡ false → IsTold answers old.telling new.telling (ended_commands read)
+      → command_room < length (kept read) → has_quit (ended_commands read) ≡ false → IsAnswered answers old.telling new.telling (ended_commands read)
       → status ≡ 3 → TalkEnds answers has_error old new status

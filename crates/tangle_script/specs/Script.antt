@@ -44,10 +44,10 @@ module _ {State : Type 0} (answers : State → Request → List ℕ → State �
       (first rest : List ℕ) × (mid : State) × Replies s (request_of c) first mid × Dialogue mid cs rest t × (text ≡ first ++ rest)
 
   -- these commands were answered, and the writer has just the answers and did not fail
-  pub record IsTold (old new : Telling State) (commands : List Command) : Type 0 where
+  pub record IsAnswered (old new : Telling State) (commands : List Command) : Type 0 where
     pub text : List ℕ
     pub answered : Dialogue old.state commands text new.state
-    pub told : Appends old.stream.taken new.stream.taken text
+    pub written : Appends old.stream.taken new.stream.taken text
     pub failures : new.stream.failures ≡ old.stream.failures
 
   -- the writer failed, and has the answers to a front of the commands and a part of one more
@@ -64,7 +64,7 @@ module _ {State : Type 0} (answers : State → Request → List ℕ → State �
     pub cut : Replies before (request_of last) answer new.state
     pub count : ℕ
     pub within : count < length answer
-    pub told : Appends old.stream.taken new.stream.taken (text ++ take count answer)
+    pub written : Appends old.stream.taken new.stream.taken (text ++ take count answer)
     pub failed : Failed old.stream.failures new.stream.failures
 
   -- the commands up to the first `quit` were answered
@@ -75,4 +75,4 @@ module _ {State : Type 0} (answers : State → Request → List ℕ → State �
     pub are : commands ≡ front ++ last ∷ later
     pub unquit : has_quit front ≡ false
     pub quit : is_quit (request_of last) ≡ true
-    pub told : IsTold old new (front ++ last ∷ [])
+    pub is_answered : IsAnswered old new (front ++ last ∷ [])

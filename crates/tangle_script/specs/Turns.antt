@@ -4,7 +4,7 @@ use Rattle.std.specs.Io.KnownBytes.{Consumes, IsAtEnd, Keeps}
 use Rattle.tangle_streams.specs.Streams.{one_more_failure}
 use Rattle.tangle_script.specs.Requests.{Command, Request}
 use Rattle.tangle_script.specs.Commands.{ended_commands, kept}
-use Rattle.tangle_script.specs.Script.{IsCut, IsQuit, IsTold, Talk, Telling, has_quit}
+use Rattle.tangle_script.specs.Script.{IsCut, IsQuit, IsAnswered, Talk, Telling, has_quit}
 use Rattle.tangle_script.specs.Endings.{IsStatus, TalkEnds}
 use Rattle.tangle_script.specs.declared.answering.End.{End}
 use Rattle.tangle_script.specs.declared.answering.End.TheVariants.{Done, Failed as IsFailed}
@@ -22,7 +22,7 @@ module _ {State : Type 0} (answers : State → Request → List ℕ → State �
     pub counted : length read ≡ count
     pub reader_failures : now.reader_failures ≡ old.reader_failures
     pub unquit : has_quit (ended_commands read) ≡ false
-    pub told : IsTold answers old.telling now.telling (ended_commands read)
+    pub is_answered : IsAnswered answers old.telling now.telling (ended_commands read)
     pub pending_is : pending ≡ kept read
 
   -- a run came to its end, and its status is that of its faults

@@ -11,7 +11,7 @@ use tangle_streams::Sink;
 #[derive(Clone, Copy, Debug, PartialEq, Eq)]
 pub struct SinkFailed;
 
-/// A project that a script is told to: how it answers.
+/// A project that answers a script.
 pub trait Project {
     /// What changes as edits are made.
     type Held;

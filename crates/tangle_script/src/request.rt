@@ -46,9 +46,9 @@ pub enum Request<'a> {
     Commit,
     /// The list is to be dropped.
     Cancel,
-    /// The faults are to be told.
+    /// The faults are to be listed.
     Faults,
-    /// The last work is to be told.
+    /// The last work is to be given.
     Work,
     /// The run is to end.
     Quit,

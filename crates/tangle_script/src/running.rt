@@ -3,7 +3,7 @@ ghost use Rattle.std.specs.Prelude.{◌≡◌, ◌<◌, ◌≤◌, ◌+◌, ℕ,
 ghost use Rattle.std.specs.Io.KnownBytes.{IsAtEnd};
 ghost use Rattle.tangle_script.specs.Buffer.{bytes};
 ghost use Rattle.tangle_script.specs.Commands.{OnlyWaits, ended_commands, kept};
-ghost use Rattle.tangle_script.specs.Script.{IsTold, Talk, has_quit, talk, telling};
+ghost use Rattle.tangle_script.specs.Script.{IsAnswered, Talk, has_quit, talk, telling};
 ghost use Rattle.tangle_script.specs.Endings.{IsStatus, TalkEnds, script_limit};
 ghost use Rattle.tangle_script.specs.Quiet.{ThreeNeedsReason};
 ghost use Rattle.tangle_script.specs.Short.{ShortNeedsNoMemory};
@@ -31,7 +31,7 @@ fn answer_chunk<P: Project, S: Sink>(
 ) -> Result<(), End>
     requires within { searched ≤ length (bytes buffer.old) }
     requires waits { OnlyWaits (take searched (bytes buffer.old)) }
-    ensures told { IfOk result (λ _. IsTold P.answers
+    ensures answered { IfOk result (λ _. IsAnswered P.answers
         (telling (P.state held.old draft.old) (S.stream sink.old))
         (telling (P.state held.new draft.new) (S.stream sink.new))
         (ended_commands (bytes buffer.old))) }
@@ -95,7 +95,7 @@ fn turn<P: Project, R: Feed, S: Sink>(
 
 // Whether the script ends here, where as much was read as is allowed.
 fn ends_here<R: Feed>(feed: &mut R) -> Option<bool>
-    ensures told { Probes (R.coming feed.old) (R.coming feed.new) result }
+    ensures read { Probes (R.coming feed.old) (R.coming feed.new) result }
     ensures failed { R.failures feed.new ≡ counted_probe (R.failures feed.old) result }
 {
     let mut one = [0u8; 1];

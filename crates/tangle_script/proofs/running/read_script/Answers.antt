@@ -14,7 +14,7 @@ pub returns-then-given-eq0 : goal.returns-then-given-eq0
 returns-then-given-eq0 g c =
     let holds = c.in-Ok.ensures.ends _ c.loop-count.count (omega arith) c.loop-count.invariant.holds in
     ends_last g.P.Project.answers g.P.Project.has_error _ _ _ _ _ (c.loop-count.count + c.in-Ok.given) (rw (← c.as_slice.ensures) at holds) _ (omega arith) (c.in-Ok.ensures.end c.if-given-eq0.true)
-    c.answer_last.result c.answer_last.ensures.told c.answer_last.ensures.cut
+    c.answer_last.result c.answer_last.ensures.answered c.answer_last.ensures.cut
 
 pub end_full-requires : goal.end_full-requires
 end_full-requires g c = subst OnlyWaits (sym c.as_slice-2.ensures) (waits_now g.P.Project.answers g.P.Project.has_error _ _ _ _ _ _ c.loop-count.invariant.holds)

@@ -20,7 +20,7 @@ returns-in-Ok-answer_chunk-clause-ends g c = λ old count within h.
     let done = rw chunk.2 at c.in-Ok-answer_chunk.ensures in
     holds_more g.P.Project.answers g.P.Project.has_error old _ _ _ _ _ (bytes c.make_room.new.self)
     chunk.0 count (rw (← c.in-Ok.ensures.bytes) at h) chunk.3 _ c.in-Some.ensures.failed
-    (bytes c.answer_chunk.new.buffer) c.in-Some.count chunk.1 done.told done.unquit done.kept
+    (bytes c.answer_chunk.new.buffer) c.in-Some.count chunk.1 done.answered done.unquit done.kept
 
 pub returns-in-Err-answer_chunk-clause-ends : goal.returns-in-Err-answer_chunk-clause-ends
 returns-in-Err-answer_chunk-clause-ends g c = λ old count within h.
