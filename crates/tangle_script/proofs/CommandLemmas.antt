@@ -130,7 +130,7 @@ again_unended : (w : Option (List ℕ)) (u ys : List ℕ) → Waits w → ended 
 again_unended None u ys h e = unended_after u ys e
 again_unended (Some l) u ys h e = again_rest l u ys h.0 ∙ unended_after u ys e
 
--- The laws: what has ended is answered, and what is kept stands in front of what comes.
+-- The laws: what has ended is answered, and what is kept is in front of what comes.
 
 pub read_waits : (xs : List ℕ) → Waits (waiting None (ended [] xs))
 read_waits xs = waiting_waits None (ended [] xs) tt (ended_unfed [] xs refl)

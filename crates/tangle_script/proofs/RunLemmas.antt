@@ -133,7 +133,7 @@ module _ {State : Type 0} (answers : State → Request → List ℕ → State �
       IsShort h.read h.given (omega (arith, h.counted)) h.reader_failures
       (subst (λ (l : List ℕ). command_room < length l) h.pending_is long) h.unquit h.is_answered refl
 
-  -- what stands at the end was answered, or the writer failed in it
+  -- the command at the end was answered, or the writer failed in it
   pub ends_last : (b : Telling State) → n ≤ script_limit → IsAtEnd coming → (r : Result (Unit {0}) End) → IfOk r (λ _. IsAnswered answers a b (all_commands p)) → IfErr r (λ end. (end ≡ IsFailed) × IsCut answers a b (all_commands p))
       → MatchResult r (λ _. EndsAnswered answers has_error old (at b coming failures)) (λ end. EndsBy answers has_error end old (at b coming failures))
   ends_last b short none (Ok x) answered cut = ends_answered b short none answered

@@ -1,11 +1,11 @@
 -- What is kept of a script is no longer than one of its commands.
-use Rattle.std.proofs.Common.{◌≡◌, ◌∙◌, ◌⊎◌, inl, inr, ℕ, ◌<◌, ◌≤◌, ◌+◌, ◌==◌, Bool, true, false, cond, zero, suc, length, List, [], ◌∷◌, ◌++◌, Option, Some, None, ap, subst, sym, refl, append_assoc, length-append, arith}
+use Rattle.std.proofs.Common.{◌≡◌, ◌∙◌, inl, inr, ℕ, ◌<◌, ◌≤◌, ◌==◌, Bool, true, false, cond, length, List, [], ◌∷◌, ◌++◌, Option, Some, None, ap, subst, sym, refl, append_assoc, length-append, arith}
 use Rattle.std.specs.Prelude.{All, slice_index_or}
 use Rattle.std.specs.Io.KnownBytes.{Consumes}
 use Rattle.tangle_script.specs.Requests.{Command, Request, takes_text}
 use Rattle.tangle_script.specs.Commands.{all_commands, alone, commands_at_end, ended, ended_commands, kept, last_line, settled, textless, unended, waiting, with_head}
 use Rattle.tangle_script.specs.Script.{Talk}
-use Rattle.tangle_script.specs.Endings.{TalkEnds, command_room, script_limit}
+use Rattle.tangle_script.specs.Endings.{TalkEnds, command_room}
 use Rattle.tangle_script.specs.Endings.TalkEnds.{IsAtQuit, IsAtInputEnd, IsUnread, IsTooLong, IsUnwritten, IsShort}
 use Rattle.tangle_script.specs.Short.{HasFailed, HasShortCommands, command_size}
 use Rattle.tangle_script.proofs.CommandLemmas.{Waits, again_lines, again_rest, all_commands-kept, commands-append, ended_after, kept-append, read_waits, settled_head, unended_after, unended_unfed, waiting_head}

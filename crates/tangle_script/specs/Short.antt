@@ -22,9 +22,10 @@ HasShortCommands script = All (λ c. command_size c ≤ command_room) (all_comma
 abbrev pub HasFailed : {State : Type 0} → Talk State → Talk State → List ℕ → Type 0
 HasFailed old new script =
     Failed old.reader_failures new.reader_failures
-    ⊎ (Failed old.telling.stream.failures new.telling.stream.failures ⊎ (script_limit < length script))
+    ⊎ (Failed old.telling.stream.failures new.telling.stream.failures
+    ⊎ (script_limit < length script))
 
--- a run over such a script that ends with status 3 has failed so: none is out of memory
+-- a run over such a script that ends with status 3 has failed so: it was not out of memory
 abbrev pub ShortNeedsNoMemory : {State : Type 0} → (State → Request → List ℕ → State → Type 0)
     → (State → Bool → Type 0) → Type 0
 ShortNeedsNoMemory {State} answers has_error =

@@ -27,7 +27,9 @@ module _ {State : Type 0} (answers : State → Request → List ℕ → State �
 
   -- a run came to its end, and its status is that of its faults
   abbrev pub EndsAnswered : (State → Bool → Type 0) → Talk State → Talk State → Type 0
-  EndsAnswered has_error old new = (status : ℕ) → IsStatus has_error new.telling.state status → TalkEnds answers has_error old new status
+  EndsAnswered has_error old new =
+      (status : ℕ) → IsStatus has_error new.telling.state status
+      → TalkEnds answers has_error old new status
 
   -- why a run ends
   abbrev pub EndsBy : (State → Bool → Type 0) → End → Talk State → Talk State → Type 0

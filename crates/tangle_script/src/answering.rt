@@ -17,7 +17,7 @@ use tangle_streams::Sink;
 pub enum End {
     /// A `quit` was answered.
     Done,
-    /// The reader or the writer failed, or memory was wanted.
+    /// The reader or the writer failed, or the run is out of memory.
     Failed,
 }
 
@@ -30,7 +30,8 @@ fn is_no_command(line: &[u8], text: Option<&[u8]>) -> bool
     }
 }
 
-// Answers a line with its text, and says whether the run ends after it. An empty line is no command.
+// Answers a line with its text, and says whether the run ends after it. An empty line is no
+// command.
 fn answer_line<P: Project, S: Sink>(
     alloc: Global,
     held: &mut P::Held,
@@ -92,7 +93,8 @@ pub fn answer_all<P: Project, S: Sink>(
     Ok(bytes.len() - rest.len())
 }
 
-/// Answers what stands at the end of a script: a line without a line feed, or one whose text has not ended.
+/// Answers the command at the end of a script: a line without a line feed, or one whose text has
+/// not ended.
 pub fn answer_last<P: Project, S: Sink>(
     alloc: Global,
     held: &mut P::Held,

@@ -10,8 +10,8 @@ use tangle_streams::Feed;
 /// The most bytes of one reading.
 pub const CHUNK: usize = 4096;
 
-/// The bytes that were read and are not answered yet. They are on the stack while there is room for a further chunk behind
-/// them, so a command of at most 4,096 bytes takes no memory.
+/// The bytes that were read and are not answered yet. They are on the stack until one command has
+/// more than 4,096 of them: so long there is room for a further chunk behind them.
 #[derive(Drop)]
 pub struct Buffer {
     room: [u8; 8192],

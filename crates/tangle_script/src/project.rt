@@ -43,7 +43,10 @@ pub trait Project {
         request: &Request<'_>,
         sink: &mut S,
     ) -> Result<(), SinkFailed>
-        ensures { (text : List ℕ) × Replies answers (state held.old draft.old) (asked request.now) text (state held.new draft.new) × WritesText (S.stream sink.old) (S.stream sink.new) text result };
+        ensures { (text : List ℕ)
+            × Replies answers (state held.old draft.old) (asked request.now) text
+            (state held.new draft.new)
+            × WritesText (S.stream sink.old) (S.stream sink.new) text result };
 
     /// Whether an error is among the faults.
     fn has_error(held: &Self::Held) -> bool

@@ -19,8 +19,9 @@ use tangle_streams::{Feed, Sink};
 /// The most bytes of a script.
 pub const SCRIPT_LIMIT: usize = 67_108_864;
 
-// Answers the commands that have ended in the buffer, none of them in so many bytes at its front, and drops them. The bytes
-// at the front are searched again only where a line feed came, so a long line costs no more than its length.
+// Answers the commands that have ended in the buffer, none of them in so many bytes at its front,
+// and drops them. The bytes at the front are searched again only where a line feed came, so a long
+// line costs no more than its length.
 fn answer_chunk<P: Project, S: Sink>(
     alloc: Global,
     held: &mut P::Held,
@@ -115,13 +116,16 @@ fn end_full<P: Project, R: Feed, S: Sink>(
     requires { OnlyWaits pending.now }
     ensures { (old : Talk P.State) (count : ℕ) → count ≡ script_limit
         → Holds P.answers old
-        (talk (P.state held.old draft.old) (S.stream sink.old) (R.coming feed.old) (R.failures feed.old))
+        (talk (P.state held.old draft.old) (S.stream sink.old)
+        (R.coming feed.old) (R.failures feed.old))
         pending.now count
         → MatchResult result
         (λ _. EndsAnswered P.answers P.has_error old
-        (talk (P.state held.new draft.new) (S.stream sink.new) (R.coming feed.new) (R.failures feed.new)))
+        (talk (P.state held.new draft.new) (S.stream sink.new)
+        (R.coming feed.new) (R.failures feed.new)))
         (λ end. EndsBy P.answers P.has_error end old
-        (talk (P.state held.new draft.new) (S.stream sink.new) (R.coming feed.new) (R.failures feed.new))) }
+        (talk (P.state held.new draft.new) (S.stream sink.new)
+        (R.coming feed.new) (R.failures feed.new))) }
 {
     match ends_here(feed) {
         None => Err(End::Failed),
@@ -140,11 +144,15 @@ fn read_script<P: Project, R: Feed, S: Sink>(
 ) -> Result<(), End>
     ensures { MatchResult result
         (λ _. EndsAnswered P.answers P.has_error
-        (talk (P.state held.old draft.old) (S.stream sink.old) (R.coming feed.old) (R.failures feed.old))
-        (talk (P.state held.new draft.new) (S.stream sink.new) (R.coming feed.new) (R.failures feed.new)))
+        (talk (P.state held.old draft.old) (S.stream sink.old)
+        (R.coming feed.old) (R.failures feed.old))
+        (talk (P.state held.new draft.new) (S.stream sink.new)
+        (R.coming feed.new) (R.failures feed.new)))
         (λ end. EndsBy P.answers P.has_error end
-        (talk (P.state held.old draft.old) (S.stream sink.old) (R.coming feed.old) (R.failures feed.old))
-        (talk (P.state held.new draft.new) (S.stream sink.new) (R.coming feed.new) (R.failures feed.new))) }
+        (talk (P.state held.old draft.old) (S.stream sink.old)
+        (R.coming feed.old) (R.failures feed.old))
+        (talk (P.state held.new draft.new) (S.stream sink.new)
+        (R.coming feed.new) (R.failures feed.new))) }
 {
     let mut buffer = Buffer::new(alloc);
     let mut count = 0;
@@ -169,8 +177,9 @@ fn status_at_end<P: Project>(held: &P::Held) -> u8
     if P::has_error(held) { 1 } else { 0 }
 }
 
-/// Answers a script, and gives the status of the run: 1 where an error is among the faults at its end, else 0. It is 3 where
-/// the reader or the writer failed, the script is longer than [`SCRIPT_LIMIT`], or memory was wanted for a line.
+/// Answers a script, and gives the status of the run: 1 where an error is among the faults at its
+/// end, else 0. It is 3 where the reader or the writer failed, the script is longer than
+/// [`SCRIPT_LIMIT`], or the run is out of memory for a command of more than 4,096 bytes.
 pub fn run_script<P: Project, R: Feed, S: Sink>(
     alloc: Global,
     held: &mut P::Held,
@@ -179,8 +188,10 @@ pub fn run_script<P: Project, R: Feed, S: Sink>(
     sink: &mut S,
 ) -> u8
     ensures { TalkEnds P.answers P.has_error
-        (talk (P.state held.old draft.old) (S.stream sink.old) (R.coming feed.old) (R.failures feed.old))
-        (talk (P.state held.new draft.new) (S.stream sink.new) (R.coming feed.new) (R.failures feed.new))
+        (talk (P.state held.old draft.old) (S.stream sink.old)
+        (R.coming feed.old) (R.failures feed.old))
+        (talk (P.state held.new draft.new) (S.stream sink.new)
+        (R.coming feed.new) (R.failures feed.new))
         result }
 {
     match read_script::<P, R, S>(alloc, held, draft, feed, sink) {
@@ -190,15 +201,15 @@ pub fn run_script<P: Project, R: Feed, S: Sink>(
     }
 }
 
-/// Where no byte of the script was read and neither the reader nor the writer failed, a run does not end with status 3.
-/// So a body that ends every run so is none.
+/// Where no byte of the script was read and neither the reader nor the writer failed, a run does
+/// not end with status 3. So a body that ends every run so is none.
 pub fn three_needs_a_reason<P: Project>()
     ensures { ThreeNeedsReason P.answers P.has_error }
 {}
 
-/// A run over a script whose commands have at most 4,096 bytes each, a line feed behind their line and behind their text
-/// counted, is never out of memory of its own: it ends with status 3 only where the reader or the writer failed, or the
-/// script is longer than [`SCRIPT_LIMIT`].
+/// A run over a script whose commands have at most 4,096 bytes each, with a line feed behind their
+/// line and one behind their text, takes no memory of its own: it ends with status 3 only where the
+/// reader or the writer failed, or the script is longer than [`SCRIPT_LIMIT`].
 pub fn short_commands_need_no_memory<P: Project>()
     ensures { ShortNeedsNoMemory P.answers P.has_error }
 {}

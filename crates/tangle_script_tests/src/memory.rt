@@ -20,7 +20,8 @@ fn end_refusals(alloc: Global, is_harnessed: bool) -> bool {
     is_waiting || !is_harnessed
 }
 
-// A question, and an insertion of a text of so many bytes. Its line and the line feeds have 14 more.
+// A question, and an insertion of a text of so many bytes. Its line and the line feeds have 14
+// more.
 fn insertion(count: usize) -> Long<'static> {
     Long {
         front: b"work\ninsert 1 a.w\n",

@@ -6,7 +6,8 @@ use std::test::Fail;
 use tangle_script::run_script;
 use tangle_streams::{Feed, IoFeed, IoSink, Sink};
 
-/// Each row of the table, in malformed forms too: an empty line is nothing, but a text where one is taken.
+/// Each row of the table, in malformed forms too: an empty line is nothing, but a text where one is
+/// taken.
 const SCRIPT: &[u8] = b"work\n\ninsert 1 a.w\n\nshow a.c\nreplace 2 a.w\nquit\nremove 1 a.w\n\
     \xff\x00\ncreate \ncreate\ndiscard a\nbegin\nmarks none\ncommit\nmarks full\ncancel\n\
     commit now\ninsert x\nwork\nfaults\nquit\nwork\nrepl";

@@ -1,4 +1,5 @@
-//! A project that answers each request by its letter, and readers that give a script in pieces or fail.
+//! A project that answers each request by its letter, and readers that give a script in pieces or
+//! fail.
 ghost use Rattle.std.specs.Prelude.{◌≡◌, ◌≤◌, ⊤, ℕ, ◌==◌, length, Some};
 ghost use Rattle.tangle_streams.specs.Feeds.{counted_read};
 
@@ -92,7 +93,7 @@ impl Project for Letters {
     }
 }
 
-/// A script in pieces of this size, after which the reader fails if it is so told.
+/// A script in pieces of this size, after which the reader fails if it is to.
 #[derive(Drop)]
 pub struct Pieces<'a> {
     pub left: &'a [u8],

@@ -1,6 +1,5 @@
-use Rattle.std.proofs.Common.{arith, ℕ, List, sym, subst}
+use Rattle.std.proofs.Common.{arith}
 use Rattle.tangle_script.specs.Buffer.{bytes}
-use Rattle.tangle_script.specs.Turns.{Holds}
 use Rattle.tangle_script.proofs.RunLemmas.{breaks_more, ends_short, ends_unread, holds_more}
 use Rattle.tangle_script.proofs.running.turn.Goals as goal
 
