@@ -5,7 +5,7 @@ use Rattle.tangle_script.specs.Requests.{Request}
 use Rattle.tangle_script.specs.Commands.{kept}
 use Rattle.tangle_script.specs.Script.{Talk}
 use Rattle.tangle_script.specs.Endings.{TalkEnds, command_room, status_of}
-use Rattle.tangle_script.specs.Endings.TalkEnds.{IsAtQuit, IsAtInputEnd, IsUnread, IsTooLong, IsUnwritten, IsShort}
+use Rattle.tangle_script.specs.Endings.TalkEnds.{IsAtQuit, IsAtInputEnd, IsUnread, IsTooLong, IsUnwritten, IsOutOfMemory}
 use Rattle.tangle_script.specs.Quiet.{IsQuiet}
 
 pub small : (b : Bool) → status_of b < 3
@@ -34,4 +34,4 @@ module _ {State : Type 0} (answers : State → Request → List ℕ → State �
     | inl ended ↦ quiet.taken ended.failed
     | inr last ↦ quiet.taken last.2.failed
   ]
-  talk_quiet (IsShort read given within same some on answered status) = no_kept read (quiet_read read given) some
+  talk_quiet (IsOutOfMemory read given within same some on answered status) = no_kept read (quiet_read read given) some

@@ -10,7 +10,7 @@ use Rattle.tangle_script.specs.declared.answering.End.{End}
 use Rattle.tangle_script.specs.declared.answering.End.TheVariants.{Done, Failed as IsFailed}
 use Rattle.tangle_script.specs.Script.{IsCut, IsQuit, IsAnswered, Talk, Telling, has_quit}
 use Rattle.tangle_script.specs.Endings.{TalkEnds, command_room, script_limit}
-use Rattle.tangle_script.specs.Endings.TalkEnds.{IsAtQuit, IsAtInputEnd, IsUnread, IsTooLong, IsUnwritten, IsShort}
+use Rattle.tangle_script.specs.Endings.TalkEnds.{IsAtQuit, IsAtInputEnd, IsUnread, IsTooLong, IsUnwritten, IsOutOfMemory}
 use Rattle.tangle_script.specs.Turns.{Breaks, EndsAnswered, EndsBy, Holds, Probes}
 use Rattle.tangle_script.proofs.CommandLemmas.{all_commands-kept, commands-append, kept-append, kept_waits}
 use Rattle.tangle_script.proofs.TalkLemmas.{answered_none, answered_then_cut, answered_then_quit, answered_then_answered, unquit-append}
@@ -127,10 +127,10 @@ module _ {State : Type 0} (answers : State → Request → List ℕ → State �
       )) refl
 
   -- no memory was left for more of one command than a run has room for
-  pub ends_short : n ≤ script_limit → command_room < length p
+  pub ends_out_of_memory : n ≤ script_limit → command_room < length p
       → TalkEnds answers has_error old (at a coming failures) 3
-  ends_short short long =
-      IsShort h.read h.given (omega (arith, h.counted)) h.reader_failures
+  ends_out_of_memory short long =
+      IsOutOfMemory h.read h.given (omega (arith, h.counted)) h.reader_failures
       (subst (λ (l : List ℕ). command_room < length l) h.pending_is long) h.unquit h.is_answered refl
 
   -- the command at the end was answered, or the writer failed in it

@@ -6,7 +6,7 @@ use Rattle.tangle_script.specs.Requests.{Command, Request, takes_text}
 use Rattle.tangle_script.specs.Commands.{all_commands, alone, commands_at_end, ended, ended_commands, kept, last_line, settled, textless, unended, waiting, with_head}
 use Rattle.tangle_script.specs.Script.{Talk}
 use Rattle.tangle_script.specs.Endings.{TalkEnds, command_room}
-use Rattle.tangle_script.specs.Endings.TalkEnds.{IsAtQuit, IsAtInputEnd, IsUnread, IsTooLong, IsUnwritten, IsShort}
+use Rattle.tangle_script.specs.Endings.TalkEnds.{IsAtQuit, IsAtInputEnd, IsUnread, IsTooLong, IsUnwritten, IsOutOfMemory}
 use Rattle.tangle_script.specs.Short.{HasFailed, HasShortCommands, command_size}
 use Rattle.tangle_script.proofs.CommandLemmas.{Waits, again_lines, again_rest, all_commands-kept, commands-append, ended_after, kept-append, read_waits, settled_head, unended_after, unended_unfed, waiting_head}
 use Rattle.tangle_script.proofs.QuietTalk.{small}
@@ -133,6 +133,6 @@ module _ {State : Type 0} (answers : State → Request → List ℕ → State �
     | inl ended ↦ ended.failed
     | inr last ↦ last.2.failed
   ]))
-  short_needs_no_memory short (IsShort read given within same long on answered status) =
+  short_needs_no_memory short (IsOutOfMemory read given within same long on answered status) =
       let front = read_front read given in
       absurd (kept_fits read front.0 (subst HasShortCommands front.1 short) long)

@@ -64,7 +64,7 @@ pub data TalkEnds {State : Type 0} (answers : State → Request → List ℕ →
       → IsCutIn answers old new read → status ≡ 3 → TalkEnds answers has_error old new status
   -- 3: out of memory for a command of which more bytes came than a run has room for, and the
   -- commands that had ended are answered
-  IsShort : (read : List ℕ) → Consumes old.coming new.coming read → length read ≤ script_limit
+  IsOutOfMemory : (read : List ℕ) → Consumes old.coming new.coming read → length read ≤ script_limit
       → new.reader_failures ≡ old.reader_failures
       → command_room < length (kept read) → has_quit (ended_commands read) ≡ false
       → IsAnswered answers old.telling new.telling (ended_commands read)

@@ -10,11 +10,14 @@ use tangle_streams::Feed;
 /// The most bytes of one reading.
 pub const CHUNK: usize = 4096;
 
+/// The room on the stack: for so many bytes of one command, and a chunk behind them.
+const ROOM: usize = 2 * CHUNK;
+
 /// The bytes that were read and are not answered yet. They are on the stack until one command has
-/// more than 4,096 of them: so long there is room for a further chunk behind them.
+/// more than 4,096 of them. Until then there is room for a further chunk behind them.
 #[derive(Drop)]
 pub struct Buffer {
-    room: [u8; 8192],
+    room: [u8; ROOM],
     long: Vec<u8>,
     len: usize,
     ghost within: { len ≤ length (in_use room long.items) },
@@ -55,7 +58,7 @@ impl Buffer {
         ensures { bytes result ≡ [] }
     {
         Buffer {
-            room: [0; 8192],
+            room: [0; ROOM],
             long: Vec::new(alloc),
             len: 0,
         }

@@ -1,11 +1,11 @@
 use Rattle.std.proofs.Common.{arith}
 use Rattle.tangle_script.specs.Buffer.{bytes}
-use Rattle.tangle_script.proofs.RunLemmas.{breaks_more, ends_short, ends_unread, holds_more}
+use Rattle.tangle_script.proofs.RunLemmas.{breaks_more, ends_out_of_memory, ends_unread, holds_more}
 use Rattle.tangle_script.proofs.running.turn.Goals as goal
 
 pub returns-in-Err-clause-ends : goal.returns-in-Err-clause-ends
 returns-in-Err-clause-ends g c = λ old count within h.
-    ends_short g.P.Project.answers g.P.Project.has_error old _ _ _ _ count h (omega arith)
+    ends_out_of_memory g.P.Project.answers g.P.Project.has_error old _ _ _ _ count h (omega arith)
     c.in-Err.ensures.err
 
 pub returns-in-None-clause-ends : goal.returns-in-None-clause-ends
