@@ -21,7 +21,12 @@ read_behind xs ys len end a b (Some n) within some fits gives =
       take n ys,
       length-take-le n ys fits,
       take-add len n (take len xs ++ after)
-          ∙ (rw (take_at (take len xs) after _ front, drop_at (take len xs) after _ front, take-append-le n ys (post_of len end xs) fits) refl),
+          ∙ (rw (
+            take_at (take len xs) after _ front,
+            drop_at
+                (take len xs) after _ front,
+            take-append-le n ys (post_of len end xs) fits,
+          ) refl),
       gives.0,
       λ none. gives.1 none some,
     )

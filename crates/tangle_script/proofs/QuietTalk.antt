@@ -20,18 +20,25 @@ no_kept : (read : List ℕ) → length read ≡ 0 → command_room < length (kep
 no_kept [] none some = omega arith
 no_kept (b ∷ bs) none some = omega arith
 
-module _ {State : Type 0} (answers : State → Request → List ℕ → State → Type 0) (has_error : State → Bool → Type 0) (old new : Talk State) (quiet : IsQuiet old new) where
+module _ {State : Type 0} (answers : State → Request → List ℕ → State → Type 0)
+    (has_error : State → Bool → Type 0) (old new : Talk State) (quiet : IsQuiet old new) where
   quiet_read : (read : List ℕ) → Consumes old.coming new.coming read → length read ≡ 0
   quiet_read read given =
-      none_read quiet.script read (subst (λ (a : Option (List ℕ)). Consumes a (Some quiet.script) read) quiet.coming (subst (λ (b : Option (List ℕ)). Consumes old.coming b read) quiet.unread given))
+      none_read quiet.script read (subst (λ (a : Option (List ℕ)). Consumes a
+      (Some quiet.script) read) quiet.coming
+      (subst (λ (b : Option (List ℕ)). Consumes old.coming b read) quiet.unread given))
 
   pub talk_quiet : TalkEnds answers has_error old new 3 → ⊥
-  talk_quiet (IsAtQuit read given within same answered status) = let h = small status.0 in omega (arith, status.2)
-  talk_quiet (IsAtInputEnd read given within same over on answered status) = let h = small status.0 in omega (arith, status.2)
+  talk_quiet (IsAtQuit read given within same answered status) = let h =
+      small status.0 in omega (arith, status.2)
+  talk_quiet (IsAtInputEnd read given within same over on answered status) = let h =
+      small status.0 in omega (arith, status.2)
   talk_quiet (IsUnread read given within failed on answered status) = quiet.read failed
-  talk_quiet (IsTooLong read more given full same on answered status) = let none = quiet_read (read ++ more ∷ []) given in omega (arith, length-append read (more ∷ []))
+  talk_quiet (IsTooLong read more given full same on answered status) = let none =
+      quiet_read (read ++ more ∷ []) given in omega (arith, length-append read (more ∷ []))
   talk_quiet (IsUnwritten read given within same cut status) = elim cut [
     | inl ended ↦ quiet.taken ended.failed
     | inr last ↦ quiet.taken last.2.failed
   ]
-  talk_quiet (IsOutOfMemory read given within same some on answered status) = no_kept read (quiet_read read given) some
+  talk_quiet (IsOutOfMemory read given within same some on answered status) =
+      no_kept read (quiet_read read given) some

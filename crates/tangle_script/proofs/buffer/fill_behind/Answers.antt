@@ -8,5 +8,6 @@ returns-clause-read g c =
     let within : c.args.len ≤ length c.args.room.now = omega arith in
     let some : 0 < length c.fill.new.room = search rules in
     read_behind c.args.room.now c.fill.new.room c.args.len _ _ _ c.fill.result within some
-    (subst (λ (m : ℕ). IfSome c.fill.result (λ n. n ≤ m)) (sym c.fill.auto.room) c.fill.ensures.within)
+    (subst (λ (m : ℕ). IfSome c.fill.result (λ n. n ≤ m))
+    (sym c.fill.auto.room) c.fill.ensures.within)
     c.fill.ensures.told
