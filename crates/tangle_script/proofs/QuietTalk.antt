@@ -24,8 +24,8 @@ module _ {State : Type 0} (answers : State → Request → List ℕ → State �
     (has_error : State → Bool → Type 0) (old new : Talk State) (quiet : IsQuiet old new) where
   quiet_read : (read : List ℕ) → Consumes old.coming new.coming read → length read ≡ 0
   quiet_read read given =
-      none_read quiet.script read (subst (λ (a : Option (List ℕ)). Consumes a
-      (Some quiet.script) read) quiet.coming
+      none_read quiet.script read
+      (subst (λ (a : Option (List ℕ)). Consumes a (Some quiet.script) read) quiet.coming
       (subst (λ (b : Option (List ℕ)). Consumes old.coming b read) quiet.unread given))
 
   pub talk_quiet : TalkEnds answers has_error old new 3 → ⊥

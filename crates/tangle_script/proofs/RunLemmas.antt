@@ -35,23 +35,21 @@ Consumes-none None = tt
 Consumes-none (Some x) = refl
 
 abbrev at : {State : Type 0} → Telling State → Option (List ℕ) → ℕ → Talk State
-at answered coming failures = record {
-  telling = answered;
-  coming = coming;
-  reader_failures = failures;
-}
+at answered coming failures = record
+    { telling = answered; coming = coming; reader_failures = failures }
 
 pub holds_at_first : {State : Type 0} (answers : State → Request → List ℕ → State → Type 0)
     (old : Talk State) (p : List ℕ) → p ≡ [] → Holds answers old old p 0
-holds_at_first answers old p e = record {
-  read = [];
-  given = Consumes-none old.coming;
-  counted = refl;
-  reader_failures = refl;
-  unquit = refl;
-  is_answered = answered_none answers old.telling;
-  pending_is = e;
-}
+holds_at_first answers old p e =
+    record {
+      read = [];
+      given = Consumes-none old.coming;
+      counted = refl;
+      reader_failures = refl;
+      unquit = refl;
+      is_answered = answered_none answers old.telling;
+      pending_is = e;
+    }
 
 -- one more chunk
 module _ {State : Type 0} (answers : State → Request → List ℕ → State → Type 0)
@@ -62,8 +60,8 @@ module _ {State : Type 0} (answers : State → Request → List ℕ → State �
   more_given : Consumes old.coming coming' (h.read ++ chunk)
   more_given = Consumes-trans old.coming coming coming' h.read chunk h.given given
 
-  more_commands : ended_commands (h.read ++ chunk) ≡ ended_commands h.read
-      ++ ended_commands (p ++ chunk)
+  more_commands : ended_commands (h.read ++ chunk)
+      ≡ ended_commands h.read ++ ended_commands (p ++ chunk)
   more_commands = commands-append h.read chunk
       ∙ ap (λ q. ended_commands h.read ++ ended_commands (q ++ chunk)) (sym h.pending_is)
 
@@ -78,8 +76,8 @@ module _ {State : Type 0} (answers : State → Request → List ℕ → State �
 
   more_unquit : has_quit (ended_commands (p ++ chunk)) ≡ false
       → has_quit (ended_commands (h.read ++ chunk)) ≡ false
-  more_unquit on = ap has_quit more_commands ∙
-      (unquit-append (ended_commands h.read) (ended_commands (p ++ chunk)) h.unquit ∙ on)
+  more_unquit on = ap has_quit more_commands
+      ∙ (unquit-append (ended_commands h.read) (ended_commands (p ++ chunk)) h.unquit ∙ on)
 
   pub holds_more : (p' : List ℕ) (k : ℕ) → length chunk ≡ k
       → IsAnswered answers a b (ended_commands (p ++ chunk))
@@ -130,12 +128,12 @@ module _ {State : Type 0} (answers : State → Request → List ℕ → State �
 
   -- more came than is allowed
   pub ends_too_long : (coming' : Option (List ℕ)) (more : ℕ) → n ≡ script_limit
-      → Consumes coming coming' (more ∷ []) → TalkEnds answers has_error old
-      (at a coming' failures) 3
+      → Consumes coming coming' (more ∷ [])
+      → TalkEnds answers has_error old (at a coming' failures) 3
   ends_too_long coming' more full given =
       IsTooLong h.read more (Consumes-trans old.coming coming coming' h.read
-      (more ∷ []) h.given given) (h.counted ∙ full) h.reader_failures h.unquit h.is_answered
-      refl
+      (more ∷ []) h.given given)
+      (h.counted ∙ full) h.reader_failures h.unquit h.is_answered refl
 
   -- the input is at its end, which a reading of no byte showed
   pub holds_at_end : (coming' : Option (List ℕ)) → Consumes coming coming' []
@@ -152,8 +150,8 @@ module _ {State : Type 0} (answers : State → Request → List ℕ → State �
   }
 
   all_read : all_commands h.read ≡ ended_commands h.read ++ all_commands p
-  all_read = all_commands-kept h.read ∙ ap (λ q. ended_commands h.read ++ all_commands q)
-      (sym h.pending_is)
+  all_read = all_commands-kept h.read
+      ∙ ap (λ q. ended_commands h.read ++ all_commands q) (sym h.pending_is)
 
   pub ends_answered : (b : Telling State) → n ≤ script_limit → IsAtEnd coming
       → IsAnswered answers a b (all_commands p)

@@ -66,8 +66,8 @@ first_headed l u ls t h =
     ∙ ap (λ w. settled (Some l) ls ++ textless w) (waiting_head l ls t)))
     (by ls h)
   where
-    by : (ls : List (List ℕ)) → Holding u ls → FirstHas (length (l ++ 10 ∷ u))
-        (settled (Some l) ls ++ textless (waiting (Some l) ls))
+    by : (ls : List (List ℕ)) → Holding u ls
+        → FirstHas (length (l ++ 10 ∷ u)) (settled (Some l) ls ++ textless (waiting (Some l) ls))
     by [] h = omega (arith, length-append l (10 ∷ u))
     by (m ∷ ms) h = omega (arith, length-append l (10 ∷ u))
 
@@ -81,8 +81,8 @@ first_kept : (w : Option (List ℕ)) (u ys : List ℕ) → Waits w → ended [] 
     → 0 < length (with_head w u)
     → FirstHas (length (with_head w u)) (all_commands (with_head w u ++ ys))
 first_kept None u ys h e some =
-    subst (FirstHas (length u)) (sym (at_end (u ++ ys) _ _ (ended_after u ys e)
-    (unended_after u ys e)))
+    subst (FirstHas (length u))
+    (sym (at_end (u ++ ys) _ _ (ended_after u ys e) (unended_after u ys e)))
     (first_plain u (lines_behind u ys) some (holding u ys))
 first_kept (Some l) u ys h e some =
     subst (FirstHas (length (l ++ 10 ∷ u)))
@@ -93,8 +93,8 @@ first_kept (Some l) u ys h e some =
 
 -- what is kept begins the first command that has not ended
 
-all_split : (xs ys : List ℕ) → all_commands (xs ++ ys) ≡ ended_commands xs
-    ++ all_commands (kept xs ++ ys)
+all_split : (xs ys : List ℕ) → all_commands (xs ++ ys)
+    ≡ ended_commands xs ++ all_commands (kept xs ++ ys)
 all_split xs ys =
     all_commands-kept (xs ++ ys)
     ∙ (ap (λ l. l ++ all_commands (kept (xs ++ ys))) (commands-append xs ys)
@@ -138,8 +138,8 @@ is_front script read (Some rest) given = (rest, given)
 module _ {State : Type 0} (answers : State → Request → List ℕ → State → Type 0)
     (has_error : State → Bool → Type 0) (old new : Talk State) (script : List ℕ)
     (coming : old.coming ≡ Some script) where
-  read_front : (read : List ℕ) → Consumes old.coming new.coming read → (rest : List ℕ)
-      × (script ≡ read ++ rest)
+  read_front : (read : List ℕ) → Consumes old.coming new.coming read
+      → (rest : List ℕ) × (script ≡ read ++ rest)
   read_front read given = is_front script read new.coming
       (subst (λ (a : Option (List ℕ)). Consumes a new.coming read) coming given)
 

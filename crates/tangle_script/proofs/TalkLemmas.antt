@@ -52,7 +52,8 @@ module _ {State : Type 0} (answers : State → Request → List ℕ → State �
   pub dialogue-append : (s t v : State) (cs ds : List Command) (a b : List ℕ)
       → Dialogue answers s cs a t → Dialogue answers t ds b v
       → Dialogue answers s (cs ++ ds) (a ++ b) v
-  dialogue-append s t v [] ds a b h k = subst (λ x. Dialogue answers s ds (x ++ b) v) (sym h.0)
+  dialogue-append s t v [] ds a b h k =
+      subst (λ x. Dialogue answers s ds (x ++ b) v) (sym h.0)
       (subst (λ x. Dialogue answers x ds b v) h.1 k)
   dialogue-append s t v (c ∷ cs) ds a b h k = (
     h.0,
@@ -228,27 +229,28 @@ pub record IsUnder {State : Type 0} (answers : State → Request → List ℕ �
 
 pub under_at_first : {State : Type 0} (answers : State → Request → List ℕ → State → Type 0)
     (a : Telling State) (bytes : List ℕ) → IsUnder answers a a bytes bytes
-under_at_first answers a bytes = record {
-  done = [];
-  front = [];
-  bytes_are = refl;
-  commands = refl;
-  kept_is = refl;
-  is_answered = answered_none answers a;
-  unquit = refl;
-}
+under_at_first answers a bytes =
+    record {
+      done = [];
+      front = [];
+      bytes_are = refl;
+      commands = refl;
+      kept_is = refl;
+      is_answered = answered_none answers a;
+      unquit = refl;
+    }
 
 module _ {State : Type 0} (answers : State → Request → List ℕ → State → Type 0)
     (a b c : Telling State) (bytes rest next : List ℕ) (found : List Command)
-    (h : IsUnder answers a b bytes rest) (commands : ended_commands rest ≡ found
-    ++ ended_commands next) where
+    (h : IsUnder answers a b bytes rest)
+    (commands : ended_commands rest ≡ found ++ ended_commands next) where
   all_done : ended_commands bytes ≡ (h.done ++ found) ++ ended_commands next
   all_done = h.commands ∙ (ap (λ l. h.done ++ l) commands
       ∙ sym (append_assoc h.done found (ended_commands next)))
 
-  pub under_more : kept rest ≡ kept next → (front : List ℕ) × (rest ≡ front ++ next)
-      × (0 < length front) → IsAnswered answers b c found → has_quit found ≡ false
-      → IsUnder answers a c bytes next
+  pub under_more : kept rest ≡ kept next
+      → (front : List ℕ) × (rest ≡ front ++ next) × (0 < length front)
+      → IsAnswered answers b c found → has_quit found ≡ false → IsUnder answers a c bytes next
   under_more same front answered on = record {
     done = h.done ++ found;
     front = h.front ++ front.0;
@@ -287,7 +289,8 @@ module _ {State : Type 0} (answers : State → Request → List ℕ → State �
   under_used =
       let size : length bytes - length rest ≡ length h.front =
       omega (arith, ap length h.bytes_are, length-append h.front rest) in (
-        h.kept_is ∙ (none.1 ∙ sym (ap (λ n. drop n bytes) size
+        h.kept_is ∙ (none.1 ∙ sym
+            (ap (λ n. drop n bytes) size
             ∙ (ap (drop (length h.front)) h.bytes_are ∙ drop-length-append h.front rest))),
         omega arith,
       )

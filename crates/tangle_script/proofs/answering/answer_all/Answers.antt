@@ -27,5 +27,5 @@ returns-in-Ok-true-clause-breaks g c =
     (found_commands c.in-Some.found.line.now (option_copied c.in-Some.found.text))
     c.loop-found.invariant c.in-Some.ensures.commands
     (found_quit g.P.Project.answers _ _ c.in-Some.found.line.now
-    (option_copied c.in-Some.found.text) (c.in-Ok-true.ensures.quit ∙ c.in-Ok-true.field-0-test)
-    c.in-Ok-true.ensures.answered)
+    (option_copied c.in-Some.found.text)
+    (c.in-Ok-true.ensures.quit ∙ c.in-Ok-true.field-0-test) c.in-Ok-true.ensures.answered)

@@ -9,9 +9,9 @@ returns-in-Err g c = c.in-Err.ensures.ends _ c.loop-count.count
 
 pub answer_last-requires : goal.answer_last-requires
 answer_last-requires g c =
-    subst OnlyWaits (sym c.as_slice.ensures) (waits_now g.P.Project.answers g.P.Project.has_error _
-    _ _ _ _ _ (c.in-Ok.ensures.ends _ c.loop-count.count
-    (omega arith) c.loop-count.invariant.holds))
+    subst OnlyWaits (sym c.as_slice.ensures)
+    (waits_now g.P.Project.answers g.P.Project.has_error _ _ _ _ _ _
+    (c.in-Ok.ensures.ends _ c.loop-count.count (omega arith) c.loop-count.invariant.holds))
 
 pub returns-then-given-eq0 : goal.returns-then-given-eq0
 returns-then-given-eq0 g c =
@@ -31,5 +31,5 @@ returns g c = c.end_full.ensures _ c.loop-count.count (omega arith)
     (rw (← c.as_slice-2.ensures) at c.loop-count.invariant.holds)
 
 pub turn-requires-clause-waits : goal.turn-requires-clause-waits
-turn-requires-clause-waits g c = waits_now g.P.Project.answers g.P.Project.has_error _ _ _ _ _ _
-    c.loop-count.invariant.holds
+turn-requires-clause-waits g c =
+    waits_now g.P.Project.answers g.P.Project.has_error _ _ _ _ _ _ c.loop-count.invariant.holds
