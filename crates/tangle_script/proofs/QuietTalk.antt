@@ -1,14 +1,14 @@
 -- A run that ends with status 3 though no byte was read and nothing failed is none.
-use Rattle.std.proofs.Common.{◌≡◌, ℕ, ◌<◌, Bool, true, false, List, [], ◌∷◌, ◌++◌, Option, Some, subst, ap, length, length-append, arith}
+use Rattle.std.proofs.Common.{◌≡◌, inl, inr, ℕ, ◌<◌, Bool, true, false, List, [], ◌∷◌, ◌++◌, Option, Some, subst, ap, length, length-append, arith}
 use Rattle.std.specs.Io.KnownBytes.{Consumes}
 use Rattle.tangle_script.specs.Requests.{Request}
 use Rattle.tangle_script.specs.Commands.{kept}
 use Rattle.tangle_script.specs.Script.{Talk}
-use Rattle.tangle_script.specs.Endings.{TalkEnds, status_of}
-use Rattle.tangle_script.specs.Endings.TalkEnds.{IsAtQuit, IsAtInputEnd, IsUnread, IsTooLong, IsUnheard, IsShort}
+use Rattle.tangle_script.specs.Endings.{TalkEnds, command_room, status_of}
+use Rattle.tangle_script.specs.Endings.TalkEnds.{IsAtQuit, IsAtInputEnd, IsUnread, IsTooLong, IsUnwritten, IsOutOfMemory}
 use Rattle.tangle_script.specs.Quiet.{IsQuiet}
 
-small : (b : Bool) → status_of b < 3
+pub small : (b : Bool) → status_of b < 3
 small true = omega arith
 small false = omega arith
 
@@ -16,19 +16,29 @@ small false = omega arith
 none_read : (script read : List ℕ) → Consumes (Some script) (Some script) read → length read ≡ 0
 none_read script read given = omega (arith, ap length given, length-append read script)
 
-no_kept : (read : List ℕ) → length read ≡ 0 → 0 < length (kept read) → ⊥
+no_kept : (read : List ℕ) → length read ≡ 0 → command_room < length (kept read) → ⊥
 no_kept [] none some = omega arith
 no_kept (b ∷ bs) none some = omega arith
 
-module _ {State : Type 0} (answers : State → Request → List ℕ → State → Type 0) (has_error : State → Bool → Type 0) (old new : Talk State) (quiet : IsQuiet old new) where
+module _ {State : Type 0} (answers : State → Request → List ℕ → State → Type 0)
+    (has_error : State → Bool → Type 0) (old new : Talk State) (quiet : IsQuiet old new) where
   quiet_read : (read : List ℕ) → Consumes old.coming new.coming read → length read ≡ 0
   quiet_read read given =
-      none_read quiet.script read (subst (λ (a : Option (List ℕ)). Consumes a (Some quiet.script) read) quiet.coming (subst (λ (b : Option (List ℕ)). Consumes old.coming b read) quiet.unread given))
+      none_read quiet.script read
+      (subst (λ (a : Option (List ℕ)). Consumes a (Some quiet.script) read) quiet.coming
+      (subst (λ (b : Option (List ℕ)). Consumes old.coming b read) quiet.unread given))
 
   pub talk_quiet : TalkEnds answers has_error old new 3 → ⊥
-  talk_quiet (IsAtQuit read given within same told status) = let h = small status.0 in omega (arith, status.2)
-  talk_quiet (IsAtInputEnd read given within same over on told status) = let h = small status.0 in omega (arith, status.2)
-  talk_quiet (IsUnread read given within failed on told status) = quiet.heard failed
-  talk_quiet (IsTooLong read more given full same on told status) = let none = quiet_read (read ++ more ∷ []) given in omega (arith, length-append read (more ∷ []))
-  talk_quiet (IsUnheard read given within same cut status) = quiet.taken cut.failed
-  talk_quiet (IsShort read given within same some on told status) = no_kept read (quiet_read read given) some
+  talk_quiet (IsAtQuit read given within same answered status) = let h =
+      small status.0 in omega (arith, status.2)
+  talk_quiet (IsAtInputEnd read given within same over on answered status) = let h =
+      small status.0 in omega (arith, status.2)
+  talk_quiet (IsUnread read given within failed on answered status) = quiet.read failed
+  talk_quiet (IsTooLong read more given full same on answered status) = let none =
+      quiet_read (read ++ more ∷ []) given in omega (arith, length-append read (more ∷ []))
+  talk_quiet (IsUnwritten read given within same cut status) = elim cut [
+    | inl ended ↦ quiet.taken ended.failed
+    | inr last ↦ quiet.taken last.2.failed
+  ]
+  talk_quiet (IsOutOfMemory read given within same some on answered status) =
+      no_kept read (quiet_read read given) some

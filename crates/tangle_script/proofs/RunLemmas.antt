@@ -8,20 +8,23 @@ use Rattle.tangle_script.specs.Requests.{Request}
 use Rattle.tangle_script.specs.Commands.{OnlyWaits, all_commands, ended_commands, kept}
 use Rattle.tangle_script.specs.declared.answering.End.{End}
 use Rattle.tangle_script.specs.declared.answering.End.TheVariants.{Done, Failed as IsFailed}
-use Rattle.tangle_script.specs.Script.{IsCut, IsQuit, IsTold, Talk, Telling, has_quit}
-use Rattle.tangle_script.specs.Endings.{TalkEnds, script_limit}
-use Rattle.tangle_script.specs.Endings.TalkEnds.{IsAtQuit, IsAtInputEnd, IsUnread, IsTooLong, IsUnheard, IsShort}
-use Rattle.tangle_script.specs.Turns.{EndsAnswered, EndsBy, Holds, Probes, Stops}
+use Rattle.tangle_script.specs.Script.{IsCut, IsQuit, IsAnswered, Talk, Telling, has_quit}
+use Rattle.tangle_script.specs.Endings.{TalkEnds, command_room, script_limit}
+use Rattle.tangle_script.specs.Endings.TalkEnds.{IsAtQuit, IsAtInputEnd, IsUnread, IsTooLong, IsUnwritten, IsOutOfMemory}
+use Rattle.tangle_script.specs.Turns.{Breaks, EndsAnswered, EndsBy, Holds, Probes}
 use Rattle.tangle_script.proofs.CommandLemmas.{all_commands-kept, commands-append, kept-append, kept_waits}
-use Rattle.tangle_script.proofs.TalkLemmas.{cut_more, told_none, told_then_cut, told_then_quit, told_then_told, unquit-append}
+use Rattle.tangle_script.proofs.TalkLemmas.{answered_none, answered_then_cut, answered_then_quit, answered_then_answered, unquit-append}
 
-pub Consumes-trans : (a b c : Option (List ℕ)) (xs ys : List ℕ) → Consumes a b xs → Consumes b c ys → Consumes a c (xs ++ ys)
+pub Consumes-trans : (a b c : Option (List ℕ)) (xs ys : List ℕ) → Consumes a b xs → Consumes b c ys
+    → Consumes a c (xs ++ ys)
 Consumes-trans None b c xs ys p q = tt
 Consumes-trans (Some x) None c xs ys p q = absurd p
 Consumes-trans (Some x) (Some y) None xs ys p q = absurd q
-Consumes-trans (Some x) (Some y) (Some z) xs ys p q = p ∙ (ap (λ l. xs ++ l) q ∙ sym (append_assoc xs ys z))
+Consumes-trans (Some x) (Some y) (Some z) xs ys p q = p
+    ∙ (ap (λ l. xs ++ l) q ∙ sym (append_assoc xs ys z))
 
-Consumes-kept : (a b c : Option (List ℕ)) (xs : List ℕ) → Consumes a b xs → Keeps b c → Consumes a c xs
+Consumes-kept : (a b c : Option (List ℕ)) (xs : List ℕ) → Consumes a b xs → Keeps b c
+    → Consumes a c xs
 Consumes-kept None b c xs p q = tt
 Consumes-kept (Some x) None c xs p q = absurd p
 Consumes-kept (Some x) (Some y) None xs p q = absurd q
@@ -32,111 +35,188 @@ Consumes-none None = tt
 Consumes-none (Some x) = refl
 
 abbrev at : {State : Type 0} → Telling State → Option (List ℕ) → ℕ → Talk State
-at told coming failures = record { telling = told; coming = coming; reader_failures = failures }
+at answered coming failures = record
+    { telling = answered; coming = coming; reader_failures = failures }
 
-pub holds_at_first : {State : Type 0} (answers : State → Request → List ℕ → State → Type 0) (old : Talk State) (p : List ℕ) → p ≡ [] → Holds answers old old p 0
-holds_at_first answers old p e = record { read = []; given = Consumes-none old.coming; counted = refl; reader_failures = refl; unquit = refl; told = told_none answers old.telling; pending_is = e }
+pub holds_at_first : {State : Type 0} (answers : State → Request → List ℕ → State → Type 0)
+    (old : Talk State) (p : List ℕ) → p ≡ [] → Holds answers old old p 0
+holds_at_first answers old p e =
+    record {
+      read = [];
+      given = Consumes-none old.coming;
+      counted = refl;
+      reader_failures = refl;
+      unquit = refl;
+      is_answered = answered_none answers old.telling;
+      pending_is = e;
+    }
 
 -- one more chunk
-module _ {State : Type 0} (answers : State → Request → List ℕ → State → Type 0) (has_error : State → Bool → Type 0) (old : Talk State) (a b : Telling State) (coming coming' : Option (List ℕ)) (failures : ℕ) (p chunk : List ℕ) (n : ℕ) (h : Holds answers old (at a coming failures) p n) (given : Consumes coming coming' chunk) (failures' : ℕ) (same : failures' ≡ failures) where
+module _ {State : Type 0} (answers : State → Request → List ℕ → State → Type 0)
+    (has_error : State → Bool → Type 0) (old : Talk State) (a b : Telling State)
+    (coming coming' : Option (List ℕ)) (failures : ℕ) (p chunk : List ℕ) (n : ℕ)
+    (h : Holds answers old (at a coming failures) p n) (given : Consumes coming coming' chunk)
+    (failures' : ℕ) (same : failures' ≡ failures) where
   more_given : Consumes old.coming coming' (h.read ++ chunk)
   more_given = Consumes-trans old.coming coming coming' h.read chunk h.given given
 
-  more_commands : ended_commands (h.read ++ chunk) ≡ ended_commands h.read ++ ended_commands (p ++ chunk)
-  more_commands = commands-append h.read chunk ∙ ap (λ q. ended_commands h.read ++ ended_commands (q ++ chunk)) (sym h.pending_is)
+  more_commands : ended_commands (h.read ++ chunk)
+      ≡ ended_commands h.read ++ ended_commands (p ++ chunk)
+  more_commands = commands-append h.read chunk
+      ∙ ap (λ q. ended_commands h.read ++ ended_commands (q ++ chunk)) (sym h.pending_is)
 
   more_kept : kept (h.read ++ chunk) ≡ kept (p ++ chunk)
   more_kept = kept-append h.read chunk ∙ ap (λ q. kept (q ++ chunk)) (sym h.pending_is)
 
-  more_told : IsTold answers a b (ended_commands (p ++ chunk)) → IsTold answers old.telling b (ended_commands (h.read ++ chunk))
-  more_told told = subst (IsTold answers old.telling b) (sym more_commands) (told_then_told answers old.telling a b (ended_commands h.read) (ended_commands (p ++ chunk)) h.told told)
+  more_answered : IsAnswered answers a b (ended_commands (p ++ chunk))
+      → IsAnswered answers old.telling b (ended_commands (h.read ++ chunk))
+  more_answered answered = subst (IsAnswered answers old.telling b) (sym more_commands)
+      (answered_then_answered answers old.telling a b (ended_commands h.read)
+      (ended_commands (p ++ chunk)) h.is_answered answered)
 
-  more_unquit : has_quit (ended_commands (p ++ chunk)) ≡ false → has_quit (ended_commands (h.read ++ chunk)) ≡ false
-  more_unquit on = ap has_quit more_commands ∙ (unquit-append (ended_commands h.read) (ended_commands (p ++ chunk)) h.unquit ∙ on)
+  more_unquit : has_quit (ended_commands (p ++ chunk)) ≡ false
+      → has_quit (ended_commands (h.read ++ chunk)) ≡ false
+  more_unquit on = ap has_quit more_commands
+      ∙ (unquit-append (ended_commands h.read) (ended_commands (p ++ chunk)) h.unquit ∙ on)
 
-  pub holds_more : (p' : List ℕ) (k : ℕ) → length chunk ≡ k → IsTold answers a b (ended_commands (p ++ chunk)) → has_quit (ended_commands (p ++ chunk)) ≡ false → p' ≡ kept (p ++ chunk)
+  pub holds_more : (p' : List ℕ) (k : ℕ) → length chunk ≡ k
+      → IsAnswered answers a b (ended_commands (p ++ chunk))
+      → has_quit (ended_commands (p ++ chunk)) ≡ false → p' ≡ kept (p ++ chunk)
       → Holds answers old (at b coming' failures') p' (n + k)
-  holds_more p' k size told on is = record {
+  holds_more p' k size answered on is = record {
     read = h.read ++ chunk;
     given = more_given;
     counted = omega (arith, length-append h.read chunk, h.counted, size);
     reader_failures = same ∙ h.reader_failures;
     unquit = more_unquit on;
-    told = more_told told;
+    is_answered = more_answered answered;
     pending_is = is ∙ sym more_kept;
   }
 
-  pub stops_more : (end : End) → n + length chunk ≤ script_limit → Stops answers end a b (p ++ chunk) → EndsBy answers has_error end old (at b coming' failures')
-  stops_more Done short quit = λ status is.
-      IsAtQuit (h.read ++ chunk) more_given (omega (arith, length-append h.read chunk, h.counted)) (same ∙ h.reader_failures)
-      (subst (IsQuit answers old.telling b) (sym more_commands) (told_then_quit answers old.telling a b (ended_commands h.read) (ended_commands (p ++ chunk)) h.told h.unquit quit)) is
-  stops_more IsFailed short why =
-      let within : length (h.read ++ chunk) ≤ script_limit = omega (arith, length-append h.read chunk, h.counted) in
-      elim why [
-        | inl cut ↦
-            IsUnheard (h.read ++ chunk) more_given within (same ∙ h.reader_failures)
-            (subst (IsCut answers old.telling b) (sym (all_commands-kept (h.read ++ chunk)))
-            (cut_more answers old.telling b (ended_commands (h.read ++ chunk)) (all_commands (kept (h.read ++ chunk)))
-            (subst (IsCut answers old.telling b) (sym more_commands) (told_then_cut answers old.telling a b (ended_commands h.read) (ended_commands (p ++ chunk)) h.told h.unquit cut)))) refl
-        | inr short ↦
-            IsShort (h.read ++ chunk) more_given within (same ∙ h.reader_failures) (subst (λ l. 0 < length l) (sym more_kept) short.2) (more_unquit short.1) (more_told short.0) refl
-      ]
+  pub breaks_more : (end : End) → n + length chunk ≤ script_limit
+      → Breaks answers end a b (ended_commands (p ++ chunk))
+      → EndsBy answers has_error end old (at b coming' failures')
+  breaks_more Done short quit = λ status is.
+      IsAtQuit (h.read ++ chunk) more_given
+      (omega (arith, length-append h.read chunk, h.counted)) (same ∙ h.reader_failures)
+      (subst (IsQuit answers old.telling b) (sym more_commands)
+      (answered_then_quit answers old.telling a b (ended_commands h.read)
+      (ended_commands (p ++ chunk))
+      h.is_answered h.unquit quit)) is
+  breaks_more IsFailed short cut =
+      IsUnwritten (h.read ++ chunk) more_given
+      (omega (arith, length-append h.read chunk, h.counted)) (same ∙ h.reader_failures)
+      (inl (subst (IsCut answers old.telling b) (sym more_commands)
+      (answered_then_cut answers old.telling a b (ended_commands h.read)
+      (ended_commands (p ++ chunk))
+      h.is_answered h.unquit cut))) refl
 
-module _ {State : Type 0} (answers : State → Request → List ℕ → State → Type 0) (has_error : State → Bool → Type 0) (old : Talk State) (a : Telling State) (coming : Option (List ℕ)) (failures : ℕ) (p : List ℕ) (n : ℕ) (h : Holds answers old (at a coming failures) p n) where
+module _ {State : Type 0} (answers : State → Request → List ℕ → State → Type 0)
+    (has_error : State → Bool → Type 0) (old : Talk State) (a : Telling State)
+    (coming : Option (List ℕ)) (failures : ℕ) (p : List ℕ) (n : ℕ)
+    (h : Holds answers old (at a coming failures) p n) where
   -- the reader failed
-  pub ends_unread : (coming' : Option (List ℕ)) (failures' : ℕ) → n ≤ script_limit → Keeps coming coming' → failures' ≡ one_more_failure failures → TalkEnds answers has_error old (at a coming' failures') 3
+  pub ends_unread : (coming' : Option (List ℕ)) (failures' : ℕ) → n ≤ script_limit
+      → Keeps coming coming' → failures' ≡ one_more_failure failures
+      → TalkEnds answers has_error old (at a coming' failures') 3
   ends_unread coming' failures' short keeps counted =
-      IsUnread h.read (Consumes-kept old.coming coming coming' h.read h.given keeps) (omega (arith, h.counted))
-      (subst (λ f. Failed f failures') h.reader_failures (subst (Failed failures) (sym counted) (Failed-one_more failures))) h.unquit h.told refl
+      IsUnread h.read (Consumes-kept old.coming coming coming' h.read h.given keeps)
+      (omega (arith, h.counted))
+      (subst (λ f. Failed f failures') h.reader_failures
+      (subst (Failed failures) (sym counted) (Failed-one_more failures))) h.unquit h.is_answered
+      refl
 
   -- more came than is allowed
-  pub ends_too_long : (coming' : Option (List ℕ)) (more : ℕ) → n ≡ script_limit → Consumes coming coming' (more ∷ []) → TalkEnds answers has_error old (at a coming' failures) 3
+  pub ends_too_long : (coming' : Option (List ℕ)) (more : ℕ) → n ≡ script_limit
+      → Consumes coming coming' (more ∷ [])
+      → TalkEnds answers has_error old (at a coming' failures) 3
   ends_too_long coming' more full given =
-      IsTooLong h.read more (Consumes-trans old.coming coming coming' h.read (more ∷ []) h.given given) (h.counted ∙ full) h.reader_failures h.unquit h.told refl
+      IsTooLong h.read more (Consumes-trans old.coming coming coming' h.read
+      (more ∷ []) h.given given)
+      (h.counted ∙ full) h.reader_failures h.unquit h.is_answered refl
 
   -- the input is at its end, which a reading of no byte showed
-  pub holds_at_end : (coming' : Option (List ℕ)) → Consumes coming coming' [] → Holds answers old (at a coming' failures) p n
+  pub holds_at_end : (coming' : Option (List ℕ)) → Consumes coming coming' []
+      → Holds answers old (at a coming' failures) p n
   holds_at_end coming' none = record {
     read = h.read;
-    given = subst (Consumes old.coming coming') (append-nil h.read) (Consumes-trans old.coming coming coming' h.read [] h.given none);
+    given = subst (Consumes old.coming coming') (append-nil h.read)
+        (Consumes-trans old.coming coming coming' h.read [] h.given none);
     counted = h.counted;
     reader_failures = h.reader_failures;
     unquit = h.unquit;
-    told = h.told;
+    is_answered = h.is_answered;
     pending_is = h.pending_is;
   }
 
   all_read : all_commands h.read ≡ ended_commands h.read ++ all_commands p
-  all_read = all_commands-kept h.read ∙ ap (λ q. ended_commands h.read ++ all_commands q) (sym h.pending_is)
+  all_read = all_commands-kept h.read
+      ∙ ap (λ q. ended_commands h.read ++ all_commands q) (sym h.pending_is)
 
-  pub ends_told : (b : Telling State) → n ≤ script_limit → IsAtEnd coming → IsTold answers a b (all_commands p) → EndsAnswered answers has_error old (at b coming failures)
-  ends_told b short none told = λ status is.
+  pub ends_answered : (b : Telling State) → n ≤ script_limit → IsAtEnd coming
+      → IsAnswered answers a b (all_commands p)
+      → EndsAnswered answers has_error old (at b coming failures)
+  ends_answered b short none answered = λ status is.
       IsAtInputEnd h.read h.given (omega (arith, h.counted)) h.reader_failures none h.unquit
-      (subst (IsTold answers old.telling b) (sym all_read) (told_then_told answers old.telling a b (ended_commands h.read) (all_commands p) h.told told)) is
+      (subst (IsAnswered answers old.telling b) (sym all_read)
+      (answered_then_answered answers old.telling a b (ended_commands h.read)
+      (all_commands p) h.is_answered answered)) is
 
-  pub ends_cut : (b : Telling State) → n ≤ script_limit → IsCut answers a b (all_commands p) → TalkEnds answers has_error old (at b coming failures) 3
-  ends_cut b short cut =
-      IsUnheard h.read h.given (omega (arith, h.counted)) h.reader_failures
-      (subst (IsCut answers old.telling b) (sym all_read) (told_then_cut answers old.telling a b (ended_commands h.read) (all_commands p) h.told h.unquit cut)) refl
+  pub ends_cut : (b : Telling State) → n ≤ script_limit → IsAtEnd coming
+      → IsCut answers a b (all_commands p) → TalkEnds answers has_error old (at b coming failures) 3
+  ends_cut b short none cut =
+      IsUnwritten h.read h.given (omega (arith, h.counted)) h.reader_failures
+      (inr (
+        none,
+        h.unquit,
+        subst (IsCut answers old.telling b) (sym all_read)
+            (answered_then_cut answers old.telling a b (ended_commands h.read) (all_commands p)
+            h.is_answered h.unquit cut),
+      )) refl
 
-  -- what stands at the end was answered, or the writer failed in it
-  pub ends_last : (b : Telling State) → n ≤ script_limit → IsAtEnd coming → (r : Result (Unit {0}) End) → IfOk r (λ _. IsTold answers a b (all_commands p)) → IfErr r (λ end. (end ≡ IsFailed) × IsCut answers a b (all_commands p))
-      → MatchResult r (λ _. EndsAnswered answers has_error old (at b coming failures)) (λ end. EndsBy answers has_error end old (at b coming failures))
-  ends_last b short none (Ok x) told cut = ends_told b short none told
-  ends_last b short none (Err end) told cut = subst (λ e. EndsBy answers has_error e old (at b coming failures)) (sym cut.0) (ends_cut b short cut.1)
+  -- no memory was left for more of one command than a run has room for
+  pub ends_out_of_memory : n ≤ script_limit → command_room < length p
+      → TalkEnds answers has_error old (at a coming failures) 3
+  ends_out_of_memory short long =
+      IsOutOfMemory h.read h.given (omega (arith, h.counted)) h.reader_failures
+      (subst (λ (l : List ℕ). command_room < length l) h.pending_is long) h.unquit h.is_answered
+      refl
+
+  -- the command at the end was answered, or the writer failed in it
+  pub ends_last : (b : Telling State) → n ≤ script_limit → IsAtEnd coming
+      → (r : Result (Unit {0}) End) → IfOk r (λ _. IsAnswered answers a b (all_commands p))
+      → IfErr r (λ end. (end ≡ IsFailed) × IsCut answers a b (all_commands p))
+      → MatchResult r (λ _. EndsAnswered answers has_error old (at b coming failures))
+      (λ end. EndsBy answers has_error end old (at b coming failures))
+  ends_last b short none (Ok x) answered cut = ends_answered b short none answered
+  ends_last b short none (Err end) answered cut =
+      subst (λ e. EndsBy answers has_error e old (at b coming failures)) (sym cut.0)
+      (ends_cut b short none cut.1)
 
   pub waits_now : OnlyWaits p
   waits_now = subst OnlyWaits (sym h.pending_is) (kept_waits h.read)
 
--- the same by what a probe told
-module _ {State : Type 0} (answers : State → Request → List ℕ → State → Type 0) (has_error : State → Bool → Type 0) (old : Talk State) (a : Telling State) (coming : Option (List ℕ)) (failures : ℕ) (p : List ℕ) (n : ℕ) (h : Holds answers old (at a coming failures) p n) where
-  pub ends_too_long_at : (coming' : Option (List ℕ)) (failures' : ℕ) → n ≡ script_limit → Probes coming coming' (Some false) → failures' ≡ failures → TalkEnds answers has_error old (at a coming' failures') 3
+-- the same by what a probe gave
+module _ {State : Type 0} (answers : State → Request → List ℕ → State → Type 0)
+    (has_error : State → Bool → Type 0) (old : Talk State) (a : Telling State)
+    (coming : Option (List ℕ)) (failures : ℕ) (p : List ℕ) (n : ℕ)
+    (h : Holds answers old (at a coming failures) p n) where
+  pub ends_too_long_at : (coming' : Option (List ℕ)) (failures' : ℕ) → n ≡ script_limit
+      → Probes coming coming' (Some false) → failures' ≡ failures
+      → TalkEnds answers has_error old (at a coming' failures') 3
   ends_too_long_at coming' failures' full probe same =
-      subst (λ f. TalkEnds answers has_error old (at a coming' f) 3) (sym same) (ends_too_long answers has_error old a coming failures p n h coming' probe.0 full probe.1)
+      subst (λ f. TalkEnds answers has_error old (at a coming' f) 3) (sym same)
+      (ends_too_long answers has_error old a coming failures p n h coming' probe.0 full probe.1)
 
-  pub ends_last_at : (b : Telling State) (coming' : Option (List ℕ)) (failures' : ℕ) → n ≤ script_limit → Probes coming coming' (Some true) → failures' ≡ failures
-      → (r : Result (Unit {0}) End) → IfOk r (λ _. IsTold answers a b (all_commands p)) → IfErr r (λ end. (end ≡ IsFailed) × IsCut answers a b (all_commands p))
-      → MatchResult r (λ _. EndsAnswered answers has_error old (at b coming' failures')) (λ end. EndsBy answers has_error end old (at b coming' failures'))
-  ends_last_at b coming' failures' short probe same r told cut =
-      subst (λ f. MatchResult r (λ _. EndsAnswered answers has_error old (at b coming' f)) (λ end. EndsBy answers has_error end old (at b coming' f))) (sym same)
-      (ends_last answers has_error old a coming' failures p n (holds_at_end answers has_error old a coming failures p n h coming' probe.0) b short probe.1 r told cut)
+  pub ends_last_at : (b : Telling State) (coming' : Option (List ℕ)) (failures' : ℕ)
+      → n ≤ script_limit → Probes coming coming' (Some true) → failures' ≡ failures
+      → (r : Result (Unit {0}) End) → IfOk r (λ _. IsAnswered answers a b (all_commands p))
+      → IfErr r (λ end. (end ≡ IsFailed) × IsCut answers a b (all_commands p))
+      → MatchResult r (λ _. EndsAnswered answers has_error old (at b coming' failures'))
+      (λ end. EndsBy answers has_error end old (at b coming' failures'))
+  ends_last_at b coming' failures' short probe same r answered cut =
+      subst (λ f. MatchResult r (λ _. EndsAnswered answers has_error old (at b coming' f))
+      (λ end. EndsBy answers has_error end old (at b coming' f))) (sym same)
+      (ends_last answers has_error old a coming' failures p n
+      (holds_at_end answers has_error old a coming failures p n h coming' probe.0) b short probe.1 r
+      answered cut)

@@ -11,14 +11,22 @@ use Rattle.tangle_script.specs.Table.{Asks, AsksForItsRow, IsNumbered, IsRow, is
 
 -- digits, one space and a file are read as the number and the file
 
-read_number : (count n : ℕ) (digits file : List ℕ) → list_all is_digit digits ≡ true → count + length digits ≤ 9 → 0 < count + length digits
+read_number : (count n : ℕ) (digits file : List ℕ) → list_all is_digit digits ≡ true
+    → count + length digits ≤ 9 → 0 < count + length digits
     → number_and_file count n (digits ++ 32 ∷ file) ≡ Some (value_after n digits, file)
-read_number count n [] file all few some = ap (λ b. cond b (Some (n, file)) None) (lt-ltb 0 count (omega arith))
-read_number count n (d ∷ ds) file all few some = by (is_digit d) all (nat_lt count 9) (lt-ltb count 9 (omega arith)) (λ h. read_number (count + 1) (n * 10 + (d - 48)) ds file h (omega arith) (omega arith))
+read_number count n [] file all few some =
+    ap (λ b. cond b (Some (n, file)) None) (lt-ltb 0 count (omega arith))
+read_number count n (d ∷ ds) file all few some =
+    by (is_digit d) all (nat_lt count 9) (lt-ltb count 9 (omega arith))
+    (λ h. read_number (count + 1) (n * 10 + (d - 48)) ds file h (omega arith) (omega arith))
   where
     by : (b : Bool) → (b && list_all is_digit ds) ≡ true → (t : Bool) → t ≡ true
-        → (list_all is_digit ds ≡ true → number_and_file (count + 1) (n * 10 + (d - 48)) (ds ++ 32 ∷ file) ≡ Some (value_after (n * 10 + (d - 48)) ds, file))
-        → cond (b && t) (number_and_file (count + 1) (n * 10 + (d - 48)) (ds ++ 32 ∷ file)) (cond ((d == 32) && nat_lt 0 count) (Some (n, ds ++ 32 ∷ file)) None) ≡ Some (value_after (n * 10 + (d - 48)) ds, file)
+        → (list_all is_digit ds ≡ true
+        → number_and_file (count + 1) (n * 10 + (d - 48)) (ds ++ 32 ∷ file)
+        ≡ Some (value_after (n * 10 + (d - 48)) ds, file))
+        → cond (b && t) (number_and_file (count + 1) (n * 10 + (d - 48)) (ds ++ 32 ∷ file))
+        (cond ((d == 32) && nat_lt 0 count) (Some (n, ds ++ 32 ∷ file)) None)
+        ≡ Some (value_after (n * 10 + (d - 48)) ds, file)
     by true all true e h = h all
     by true all false e h = absurd (cc)
     by false all t e h = absurd (cc)
@@ -33,7 +41,9 @@ pub record IsRead (count n : ℕ) (rest : List ℕ) (number : ℕ) (file : List 
   pub value : value_after n digits ≡ number
   pub whole : rest ≡ digits ++ 32 ∷ file
 
-ended_number : (count n b : ℕ) (bs : List ℕ) (p : ℕ × List ℕ) (v : Bool) → (b == 32) ≡ v → (w : Bool) → nat_lt 0 count ≡ w → cond (v && w) (Some (n, bs)) None ≡ Some p → IsRead count n (b ∷ bs) p.0 p.1
+ended_number : (count n b : ℕ) (bs : List ℕ) (p : ℕ × List ℕ) (v : Bool) → (b == 32) ≡ v
+    → (w : Bool) → nat_lt 0 count ≡ w → cond (v && w) (Some (n, bs)) None ≡ Some p
+    → IsRead count n (b ∷ bs) p.0 p.1
 ended_number count n b bs p true is true some e = record {
   digits = [];
   all = refl;
@@ -45,13 +55,17 @@ ended_number count n b bs p true is true some e = record {
 ended_number count n b bs p true is false some e = absurd (cc)
 ended_number count n b bs p false is w some e = absurd (cc)
 
-number_read : (count n : ℕ) (rest : List ℕ) (p : ℕ × List ℕ) → number_and_file count n rest ≡ Some p → IsRead count n rest p.0 p.1
+number_read : (count n : ℕ) (rest : List ℕ) (p : ℕ × List ℕ) → number_and_file count n rest ≡ Some p
+    → IsRead count n rest p.0 p.1
 number_read count n [] p e = absurd (cc)
-number_read count n (b ∷ bs) p e = by (is_digit b) refl (nat_lt count 9) refl e (number_read (count + 1) (n * 10 + (b - 48)) bs p)
+number_read count n (b ∷ bs) p e =
+    by (is_digit b) refl (nat_lt count 9) refl e (number_read (count + 1) (n * 10 + (b - 48)) bs p)
   where
     by : (t : Bool) → is_digit b ≡ t → (u : Bool) → nat_lt count 9 ≡ u
-        → cond (t && u) (number_and_file (count + 1) (n * 10 + (b - 48)) bs) (cond ((b == 32) && nat_lt 0 count) (Some (n, bs)) None) ≡ Some p
-        → (number_and_file (count + 1) (n * 10 + (b - 48)) bs ≡ Some p → IsRead (count + 1) (n * 10 + (b - 48)) bs p.0 p.1) → IsRead count n (b ∷ bs) p.0 p.1
+        → cond (t && u) (number_and_file (count + 1) (n * 10 + (b - 48)) bs)
+        (cond ((b == 32) && nat_lt 0 count) (Some (n, bs)) None) ≡ Some p
+        → (number_and_file (count + 1) (n * 10 + (b - 48)) bs ≡ Some p
+        → IsRead (count + 1) (n * 10 + (b - 48)) bs p.0 p.1) → IsRead count n (b ∷ bs) p.0 p.1
     by true digit true fits e h =
         let k = h e in
         let less : count < 9 = ltb-true count 9 fits in
@@ -63,24 +77,31 @@ number_read count n (b ∷ bs) p e = by (is_digit b) refl (nat_lt count 9) refl 
           value = k.value;
           whole = ap (λ l. b ∷ l) k.whole;
         }
-    by true digit false fits e h = ended_number count n b bs p (b == 32) refl (nat_lt 0 count) refl e
+    by true digit false fits e h =
+        ended_number count n b bs p (b == 32) refl (nat_lt 0 count) refl e
     by false digit u fits e h = ended_number count n b bs p (b == 32) refl (nat_lt 0 count) refl e
 
 -- a row is read as its request
 
 module _ (c : Command) where
-  asked_at : (line : List ℕ) → c.line ≡ line → (text : Option (List ℕ)) → c.text ≡ text → request_of c ≡ request_with line text
+  asked_at : (line : List ℕ) → c.line ≡ line → (text : Option (List ℕ)) → c.text ≡ text
+      → request_of c ≡ request_with line text
   unfolding request_of
   asked_at line e text f = ap (λ l. request_with l c.text) e ∙ ap (request_with line) f
 
-  numbered_at : (request : ℕ → List ℕ → Request) (word : List ℕ) (at : ℕ) (file line : List ℕ) (h : IsNumbered word at file line)
+  numbered_at : (request : ℕ → List ℕ → Request) (word : List ℕ) (at : ℕ) (file line : List ℕ)
+      (h : IsNumbered word at file line)
       → numbered request (number_and_file 0 0 (h.digits ++ 32 ∷ file)) ≡ request at file
   numbered_at request word at file line h =
-      ap (numbered request) (read_number 0 0 h.digits file h.is_number.decimal (omega (arith, h.is_number.few)) (omega (arith, h.is_number.some))) ∙ ap (λ n. request n file) h.value
+      ap (numbered request) (read_number 0 0 h.digits file h.is_number.decimal
+      (omega (arith, h.is_number.few)) (omega (arith, h.is_number.some)))
+      ∙ ap (λ n. request n file) h.value
 
   row_asked : (r : Request) → IsRow c r → request_of c ≡ r
-  row_asked (Insert at file text) h = asked_at _ h.0.whole _ h.1 ∙ numbered_at (λ at file. Insert at file text) _ at file _ h.0
-  row_asked (Replace at file text) h = asked_at _ h.0.whole _ h.1 ∙ numbered_at (λ at file. Replace at file text) _ at file _ h.0
+  row_asked (Insert at file text) h = asked_at _ h.0.whole _ h.1
+      ∙ numbered_at (λ at file. Insert at file text) _ at file _ h.0
+  row_asked (Replace at file text) h = asked_at _ h.0.whole _ h.1
+      ∙ numbered_at (λ at file. Replace at file text) _ at file _ h.0
   row_asked (Remove at file) h = asked_at _ h.0.whole _ h.1 ∙ numbered_at Remove _ at file _ h.0
   row_asked (Create file) h = asked_at _ h.0 _ h.1
   row_asked (Discard file) h = asked_at _ h.0 _ h.1
@@ -101,28 +122,38 @@ abbrev IsRowOrBad : Command → Request → Type 0
 IsRowOrBad c r = IsRow c r ⊎ (r ≡ BadCommand)
 
 module _ (P : Request → Type 0) where
-  at_row : (word line : List ℕ) (request : List ℕ → Request) (other : Request) → ((rest : List ℕ) → line ≡ word ++ rest → P (request rest)) → P other → P (row (after_word word line) request other)
+  at_row : (word line : List ℕ) (request : List ℕ → Request) (other : Request)
+      → ((rest : List ℕ) → line ≡ word ++ rest → P (request rest)) → P other
+      → P (row (after_word word line) request other)
   at_row word line request other h k = by (bytes_eq (take (length word) line) word) refl
     where
-      by : (b : Bool) → bytes_eq (take (length word) line) word ≡ b → P (row (cond b (Some (drop (length word) line)) None) request other)
-      by true e = h (drop (length word) line) (sym (take-append-drop (length word) line) ∙ ap (λ l. l ++ drop (length word) line) ((bytes_eq-Decides (take (length word) line) word).0 e))
+      by : (b : Bool) → bytes_eq (take (length word) line) word ≡ b
+          → P (row (cond b (Some (drop (length word) line)) None) request other)
+      by true e = h (drop (length word) line)
+          (sym (take-append-drop (length word) line)
+          ∙ ap (λ l. l ++ drop (length word) line)
+          ((bytes_eq-Decides (take (length word) line) word).0 e))
       by false e = k
 
-  at_number : (request : ℕ → List ℕ → Request) (rest : List ℕ) → ((n : ℕ) (file : List ℕ) → IsRead 0 0 rest n file → P (request n file)) → P BadCommand → P (numbered request (number_and_file 0 0 rest))
+  at_number : (request : ℕ → List ℕ → Request) (rest : List ℕ)
+      → ((n : ℕ) (file : List ℕ) → IsRead 0 0 rest n file → P (request n file)) → P BadCommand
+      → P (numbered request (number_and_file 0 0 rest))
   at_number request rest h k = by (number_and_file 0 0 rest) refl
     where
       by : (o : Option (ℕ × List ℕ)) → number_and_file 0 0 rest ≡ o → P (numbered request o)
       by None e = k
       by (Some p) e = h p.0 p.1 (number_read 0 0 rest p e)
 
-  at_word : (line word : List ℕ) (this other : Request) → (line ≡ word → P this) → P other → P (cond (bytes_eq line word) this other)
+  at_word : (line word : List ℕ) (this other : Request) → (line ≡ word → P this) → P other
+      → P (cond (bytes_eq line word) this other)
   at_word line word this other h k = by (bytes_eq line word) refl
     where
       by : (b : Bool) → bytes_eq line word ≡ b → P (cond b this other)
       by true e = h ((bytes_eq-Decides line word).0 e)
       by false e = k
 
-read_row : (word line rest : List ℕ) (n : ℕ) (file : List ℕ) → line ≡ word ++ rest → IsRead 0 0 rest n file → IsNumbered word n file line
+read_row : (word line rest : List ℕ) (n : ℕ) (file : List ℕ) → line ≡ word ++ rest
+    → IsRead 0 0 rest n file → IsNumbered word n file line
 read_row word line rest n file e h = record {
   digits = h.digits;
   is_number = record { some = omega (arith, h.some); few = omega (arith, h.few); decimal = h.all };
@@ -133,7 +164,10 @@ read_row word line rest n file e h = record {
 module _ (c : Command) where
   none_row : (line : List ℕ) → c.line ≡ line → c.text ≡ None → IsRowOrBad c (file_request line)
   none_row line e t =
-      at_row P (codes "remove ") line _ _ (λ rest is. at_number P Remove rest (λ n file h. inl (read_row (codes "remove ") c.line rest n file (e ∙ is) h, t)) (inr refl))
+      at_row P (codes "remove ") line _ _
+      (λ rest is. at_number P Remove rest
+      (λ n file h. inl (read_row (codes "remove ") c.line rest n file (e ∙ is) h, t))
+      (inr refl))
       (at_row P (codes "create ") line _ _ (λ rest is. inl (e ∙ is, t))
       (at_row P (codes "discard ") line _ _ (λ rest is. inl (e ∙ is, t))
       (at_row P (codes "show ") line _ _ (λ rest is. inl (e ∙ is, t))
@@ -149,10 +183,17 @@ module _ (c : Command) where
       P : Request → Type 0
       P r = IsRowOrBad c r
 
-  some_row : (line text : List ℕ) → c.line ≡ line → c.text ≡ Some text → IsRowOrBad c (text_request line text)
+  some_row : (line text : List ℕ) → c.line ≡ line → c.text ≡ Some text
+      → IsRowOrBad c (text_request line text)
   some_row line text e t =
-      at_row P (codes "insert ") line _ _ (λ rest is. at_number P (λ at file. Insert at file text) rest (λ n file h. inl (read_row (codes "insert ") c.line rest n file (e ∙ is) h, t)) (inr refl))
-      (at_row P (codes "replace ") line _ _ (λ rest is. at_number P (λ at file. Replace at file text) rest (λ n file h. inl (read_row (codes "replace ") c.line rest n file (e ∙ is) h, t)) (inr refl)) (inr refl))
+      at_row P (codes "insert ") line _ _
+      (λ rest is. at_number P (λ at file. Insert at file text) rest
+      (λ n file h. inl (read_row (codes "insert ") c.line rest n file (e ∙ is) h, t))
+      (inr refl))
+      (at_row P (codes "replace ") line _ _
+      (λ rest is. at_number P (λ at file. Replace at file text) rest
+      (λ n file h. inl (read_row (codes "replace ") c.line rest n file (e ∙ is) h, t)) (inr refl))
+      (inr refl))
     where
       P : Request → Type 0
       P r = IsRowOrBad c r

@@ -2,7 +2,7 @@
 use Rattle.std.specs.Prelude.{◌≡◌, ◌⊎◌, ℕ, ◌==◌, Bool, true, false, List, [], ◌∷◌, ◌++◌, Option, None, Some, if◌then◌else◌}
 use Rattle.tangle_script.specs.Requests.{Command, takes_text}
 
--- the ended lines of some bytes, where an unended line stands before them
+-- the ended lines of some bytes, where an unended line is before them
 abbrev pub ended : List ℕ → List ℕ → List (List ℕ)
 ended before [] = []
 ended before (b ∷ bs) = if b == 10 then before ∷ ended [] bs else ended (before ++ b ∷ []) bs
@@ -24,13 +24,15 @@ alone (b ∷ bs) = record { line = b ∷ bs; text = None } ∷ []
 -- the commands of these lines, where a line may stand before them that waits for its text
 abbrev pub settled : Option (List ℕ) → List (List ℕ) → List Command
 settled head [] = []
-settled None (line ∷ lines) = if takes_text line then settled (Some line) lines else alone line ++ settled None lines
+settled None (line ∷ lines) =
+    if takes_text line then settled (Some line) lines else alone line ++ settled None lines
 settled (Some head) (line ∷ lines) = record { line = head; text = Some line } ∷ settled None lines
 
 -- and the line that waits for its text after them
 abbrev pub waiting : Option (List ℕ) → List (List ℕ) → Option (List ℕ)
 waiting head [] = head
-waiting None (line ∷ lines) = if takes_text line then waiting (Some line) lines else waiting None lines
+waiting None (line ∷ lines) =
+    if takes_text line then waiting (Some line) lines else waiting None lines
 waiting (Some head) (line ∷ lines) = waiting None lines
 
 -- a line whose text never comes
@@ -46,7 +48,8 @@ abbrev pub with_head : Option (List ℕ) → List ℕ → List ℕ
 with_head None rest = rest
 with_head (Some head) rest = head ++ 10 ∷ rest
 
--- the bytes that are kept until more is read: a line that waits for its text, and what follows the last line feed
+-- the bytes that are kept until more is read: a line that waits for its text, and what follows the
+-- last line feed
 abbrev pub kept : List ℕ → List ℕ
 kept read = with_head (waiting None (ended [] read)) (unended [] read)
 
@@ -69,4 +72,6 @@ is_nothing _ _ = false
 
 -- bytes in which no command has ended: at most one line ended, and it waits for its text
 abbrev pub OnlyWaits : List ℕ → Type 0
-OnlyWaits bytes = (ended [] bytes ≡ []) ⊎ ((head : List ℕ) × (ended [] bytes ≡ head ∷ []) × (takes_text head ≡ true))
+OnlyWaits bytes =
+    (ended [] bytes ≡ [])
+    ⊎ ((head : List ℕ) × (ended [] bytes ≡ head ∷ []) × (takes_text head ≡ true))

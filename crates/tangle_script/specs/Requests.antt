@@ -47,19 +47,23 @@ asked variant.Work = Work
 asked variant.Quit = Quit
 asked variant.BadCommand = BadCommand
 
--- what stands after a word at the front of a line
+-- what follows a word at the front of a line
 abbrev pub after_word : List ℕ → List ℕ → Option (List ℕ)
-after_word word line = if bytes_eq (take (length word) line) word then Some (drop (length word) line) else None
+after_word word line =
+    if bytes_eq (take (length word) line) word then Some (drop (length word) line) else None
 
--- one to nine decimal digits and a space, and what stands after it; so many digits of this number came before
+-- one to nine decimal digits and a space, and what follows it; so many digits of this number came
+-- before
 abbrev pub number_and_file : ℕ → ℕ → List ℕ → Option (ℕ × List ℕ)
 number_and_file count number [] = None
 number_and_file count number (b ∷ bs) =
-    if nat_le 48 b && nat_le b 57 && nat_lt count 9 then number_and_file (count + 1) (number * 10 + (b - 48)) bs
+    if nat_le 48 b && nat_le b 57 && nat_lt count 9
+    then number_and_file (count + 1) (number * 10 + (b - 48)) bs
     else if (b == 32) && nat_lt 0 count then Some (number, bs)
     else None
 
--- the request of a row of the table, where the line begins with its word; else that of the rows after it
+-- the request of a row of the table, where the line begins with its word; else that of the rows
+-- after it
 abbrev pub row : Option (List ℕ) → (List ℕ → Request) → Request → Request
 row None request other = other
 row (Some rest) request other = request rest
@@ -93,8 +97,10 @@ file_request line =
 -- a line with a text
 abbrev pub text_request : List ℕ → List ℕ → Request
 text_request line text =
-    row (after_word (codes "insert ") line) (λ rest. numbered (λ at file. Insert at file text) (number_and_file 0 0 rest))
-    (row (after_word (codes "replace ") line) (λ rest. numbered (λ at file. Replace at file text) (number_and_file 0 0 rest)) BadCommand)
+    row (after_word (codes "insert ") line)
+    (λ rest. numbered (λ at file. Insert at file text) (number_and_file 0 0 rest))
+    (row (after_word (codes "replace ") line)
+    (λ rest. numbered (λ at file. Replace at file text) (number_and_file 0 0 rest)) BadCommand)
 
 abbrev pub request_with : List ℕ → Option (List ℕ) → Request
 request_with line None = file_request line
@@ -106,7 +112,8 @@ request_of c = request_with c.line c.text
 
 -- the next line is always the text of such a one
 abbrev pub takes_text : List ℕ → Bool
-takes_text line = is_some (after_word (codes "insert ") line) || is_some (after_word (codes "replace ") line)
+takes_text line =
+    is_some (after_word (codes "insert ") line) || is_some (after_word (codes "replace ") line)
 
 abbrev pub is_quit : Request → Bool
 is_quit Quit = true

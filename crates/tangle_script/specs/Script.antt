@@ -20,12 +20,18 @@ pub record Talk (State : Type 0) : Type 0 where
   pub reader_failures : ℕ
 
 abbrev pub talk : {State : Type 0} → State → Stream → Option (List ℕ) → ℕ → Talk State
-talk state stream coming reader_failures = record { telling = telling state stream; coming = coming; reader_failures = reader_failures }
+talk state stream coming reader_failures = record {
+  telling = telling state stream;
+  coming = coming;
+  reader_failures = reader_failures;
+}
 
--- A text was written: the writer has all of it and did not fail, or it has a front of it and failed.
+-- A text was written: the writer has all of it and did not fail, or has a front of it and failed.
 abbrev pub WritesText : {T E : Type 0} → Stream → Stream → List ℕ → Result T E → Type 0
 WritesText old new text (Ok done) = Appends old.taken new.taken text × (new.failures ≡ old.failures)
-WritesText old new text (Err fault) = (n : ℕ) × (n < length text) × Appends old.taken new.taken (take n text) × Failed old.failures new.failures
+WritesText old new text (Err fault) =
+    (n : ℕ) × (n < length text) × Appends old.taken new.taken (take n text)
+    × Failed old.failures new.failures
 
 -- some command ends the run
 abbrev pub has_quit : List Command → Bool
@@ -33,21 +39,23 @@ has_quit commands = list_any (λ c. is_quit (request_of c)) commands
 
 -- A project says which text answers a request, and which state comes after it.
 module _ {State : Type 0} (answers : State → Request → List ℕ → State → Type 0) where
-  -- one answer: the project's own, or want of memory for an edit, which then changes nothing
+  -- one answer: the project's own, or out of memory for an edit, which then changes nothing
   abbrev pub Replies : State → Request → List ℕ → State → Type 0
-  Replies s r text t = answers s r text t ⊎ ((is_edit r ≡ true) × (text ≡ codes "no NoMemory\n") × (t ≡ s))
+  Replies s r text t =
+      answers s r text t ⊎ ((is_edit r ≡ true) × (text ≡ codes "no NoMemory\n") × (t ≡ s))
 
   -- the answers to a list of commands, one after another
   abbrev pub Dialogue : State → List Command → List ℕ → State → Type 0
   Dialogue s [] text t = (text ≡ []) × (t ≡ s)
   Dialogue s (c ∷ cs) text t =
-      (first rest : List ℕ) × (mid : State) × Replies s (request_of c) first mid × Dialogue mid cs rest t × (text ≡ first ++ rest)
+      (first rest : List ℕ) × (mid : State) × Replies s (request_of c) first mid
+      × Dialogue mid cs rest t × (text ≡ first ++ rest)
 
   -- these commands were answered, and the writer has just the answers and did not fail
-  pub record IsTold (old new : Telling State) (commands : List Command) : Type 0 where
+  pub record IsAnswered (old new : Telling State) (commands : List Command) : Type 0 where
     pub text : List ℕ
     pub answered : Dialogue old.state commands text new.state
-    pub told : Appends old.stream.taken new.stream.taken text
+    pub written : Appends old.stream.taken new.stream.taken text
     pub failures : new.stream.failures ≡ old.stream.failures
 
   -- the writer failed, and has the answers to a front of the commands and a part of one more
@@ -64,7 +72,7 @@ module _ {State : Type 0} (answers : State → Request → List ℕ → State �
     pub cut : Replies before (request_of last) answer new.state
     pub count : ℕ
     pub within : count < length answer
-    pub told : Appends old.stream.taken new.stream.taken (text ++ take count answer)
+    pub written : Appends old.stream.taken new.stream.taken (text ++ take count answer)
     pub failed : Failed old.stream.failures new.stream.failures
 
   -- the commands up to the first `quit` were answered
@@ -75,4 +83,4 @@ module _ {State : Type 0} (answers : State → Request → List ℕ → State �
     pub are : commands ≡ front ++ last ∷ later
     pub unquit : has_quit front ≡ false
     pub quit : is_quit (request_of last) ≡ true
-    pub told : IsTold old new (front ++ last ∷ [])
+    pub is_answered : IsAnswered old new (front ++ last ∷ [])

@@ -1,10 +1,10 @@
 -- A run that goes on, turn by turn, and why one ends it.
-use Rattle.std.specs.Prelude.{◌≡◌, ◌<◌, ◌⊎◌, ℕ, Bool, true, false, List, [], ◌∷◌, length, Option, None, Some}
+use Rattle.std.specs.Prelude.{◌≡◌, ℕ, Bool, true, false, List, [], ◌∷◌, length, Option, None, Some}
 use Rattle.std.specs.Io.KnownBytes.{Consumes, IsAtEnd, Keeps}
 use Rattle.tangle_streams.specs.Streams.{one_more_failure}
 use Rattle.tangle_script.specs.Requests.{Command, Request}
 use Rattle.tangle_script.specs.Commands.{ended_commands, kept}
-use Rattle.tangle_script.specs.Script.{IsCut, IsQuit, IsTold, Talk, Telling, has_quit}
+use Rattle.tangle_script.specs.Script.{IsCut, IsQuit, IsAnswered, Talk, Telling, has_quit}
 use Rattle.tangle_script.specs.Endings.{IsStatus, TalkEnds}
 use Rattle.tangle_script.specs.declared.answering.End.{End}
 use Rattle.tangle_script.specs.declared.answering.End.TheVariants.{Done, Failed as IsFailed}
@@ -15,13 +15,6 @@ module _ {State : Type 0} (answers : State → Request → List ℕ → State �
   Breaks Done old new commands = IsQuit answers old new commands
   Breaks IsFailed old new commands = IsCut answers old new commands
 
-  -- and so, or no memory was left for the bytes that are kept
-  abbrev pub Stops : End → Telling State → Telling State → List ℕ → Type 0
-  Stops Done old new bytes = IsQuit answers old new (ended_commands bytes)
-  Stops IsFailed old new bytes =
-      IsCut answers old new (ended_commands bytes)
-      ⊎ (IsTold answers old new (ended_commands bytes) × (has_quit (ended_commands bytes) ≡ false) × (0 < length (kept bytes)))
-
   -- so many bytes were read, the commands that ended in them are answered, and these bytes are kept
   pub record Holds (old now : Talk State) (pending : List ℕ) (count : ℕ) : Type 0 where
     pub read : List ℕ
@@ -29,12 +22,14 @@ module _ {State : Type 0} (answers : State → Request → List ℕ → State �
     pub counted : length read ≡ count
     pub reader_failures : now.reader_failures ≡ old.reader_failures
     pub unquit : has_quit (ended_commands read) ≡ false
-    pub told : IsTold answers old.telling now.telling (ended_commands read)
+    pub is_answered : IsAnswered answers old.telling now.telling (ended_commands read)
     pub pending_is : pending ≡ kept read
 
   -- a run came to its end, and its status is that of its faults
   abbrev pub EndsAnswered : (State → Bool → Type 0) → Talk State → Talk State → Type 0
-  EndsAnswered has_error old new = (status : ℕ) → IsStatus has_error new.telling.state status → TalkEnds answers has_error old new status
+  EndsAnswered has_error old new =
+      (status : ℕ) → IsStatus has_error new.telling.state status
+      → TalkEnds answers has_error old new status
 
   -- why a run ends
   abbrev pub EndsBy : (State → Bool → Type 0) → End → Talk State → Talk State → Type 0

@@ -2,7 +2,7 @@
 ghost use Rattle.std.specs.Prelude.{◌≡◌, ◌≤◌, List, drop, length, false, IfErr, IfOk};
 ghost use Rattle.std.specs.Option.{option_copied};
 ghost use Rattle.tangle_script.specs.Commands.{OnlyWaits, all_commands, ended_commands, found_commands, is_nothing, kept};
-ghost use Rattle.tangle_script.specs.Script.{IsCut, IsTold, has_quit, telling};
+ghost use Rattle.tangle_script.specs.Script.{IsCut, IsAnswered, has_quit, telling};
 ghost use Rattle.tangle_script.specs.Turns.{Breaks};
 ghost use Rattle.tangle_script.specs.declared.answering.End.TheVariants.{Failed};
 
@@ -17,7 +17,7 @@ use tangle_streams::Sink;
 pub enum End {
     /// A `quit` was answered.
     Done,
-    /// The reader or the writer failed, or memory was wanted.
+    /// The reader or the writer failed, or the run is out of memory.
     Failed,
 }
 
@@ -30,7 +30,8 @@ fn is_no_command(line: &[u8], text: Option<&[u8]>) -> bool
     }
 }
 
-// Answers a line with its text, and says whether the run ends after it. An empty line is no command.
+// Answers a line with its text, and says whether the run ends after it. An empty line is no
+// command.
 fn answer_line<P: Project, S: Sink>(
     alloc: Global,
     held: &mut P::Held,
@@ -39,7 +40,7 @@ fn answer_line<P: Project, S: Sink>(
     text: Option<&[u8]>,
     sink: &mut S,
 ) -> Result<bool, SinkFailed>
-    ensures told { IfOk result (λ _. IsTold P.answers
+    ensures answered { IfOk result (λ _. IsAnswered P.answers
         (telling (P.state held.old draft.old) (S.stream sink.old))
         (telling (P.state held.new draft.new) (S.stream sink.new))
         (found_commands line.now (option_copied text.entry))) }
@@ -68,7 +69,7 @@ pub fn answer_all<P: Project, S: Sink>(
     bytes: &[u8],
     sink: &mut S,
 ) -> Result<usize, End>
-    ensures told { IfOk result (λ _. IsTold P.answers
+    ensures answered { IfOk result (λ _. IsAnswered P.answers
         (telling (P.state held.old draft.old) (S.stream sink.old))
         (telling (P.state held.new draft.new) (S.stream sink.new))
         (ended_commands bytes.now)) }
@@ -92,7 +93,8 @@ pub fn answer_all<P: Project, S: Sink>(
     Ok(bytes.len() - rest.len())
 }
 
-/// Answers what stands at the end of a script: a line without a line feed, or one whose text has not ended.
+/// Answers the command at the end of a script: a line without a line feed, or one whose text has
+/// not ended.
 pub fn answer_last<P: Project, S: Sink>(
     alloc: Global,
     held: &mut P::Held,
@@ -101,7 +103,7 @@ pub fn answer_last<P: Project, S: Sink>(
     sink: &mut S,
 ) -> Result<(), End>
     requires { OnlyWaits bytes.now }
-    ensures told { IfOk result (λ _. IsTold P.answers
+    ensures answered { IfOk result (λ _. IsAnswered P.answers
         (telling (P.state held.old draft.old) (S.stream sink.old))
         (telling (P.state held.new draft.new) (S.stream sink.new))
         (all_commands bytes.now)) }

@@ -17,7 +17,9 @@ pub struct Found<'a> {
 
 /// The first line, and the bytes after its line feed.
 fn split_line(bytes: &[u8]) -> Option<(&[u8], &[u8])>
-    ensures some { IfSome result (λ p. (ended [] bytes.now ≡ p.0.now ∷ ended [] p.1.now) × (unended [] bytes.now ≡ unended [] p.1.now) × (bytes.now ≡ p.0.now ++ 10 ∷ p.1.now)) }
+    ensures some { IfSome result (λ p. (ended [] bytes.now ≡ p.0.now ∷ ended [] p.1.now)
+        × (unended [] bytes.now ≡ unended [] p.1.now)
+        × (bytes.now ≡ p.0.now ++ 10 ∷ p.1.now)) }
     ensures none { IfNone result ((ended [] bytes.now ≡ []) × (unended [] bytes.now ≡ bytes.now)) }
 {
     match memchr(b'\n', bytes) {
@@ -38,9 +40,11 @@ pub fn ends_a_line(bytes: &[u8]) -> bool
 
 /// The first command that has ended.
 pub fn first_command(bytes: &[u8]) -> Option<Found<'_>>
-    ensures commands { IfSome result (λ f. ended_commands bytes.now ≡ found_commands f.line.now (option_copied f.text) ++ ended_commands f.rest.now) }
+    ensures commands { IfSome result (λ f. ended_commands bytes.now
+        ≡ found_commands f.line.now (option_copied f.text) ++ ended_commands f.rest.now) }
     ensures kept { IfSome result (λ f. kept bytes.now ≡ kept f.rest.now) }
-    ensures rest { IfSome result (λ f. (front : List ℕ) × (bytes.now ≡ front ++ f.rest.now) × (0 < length front)) }
+    ensures rest { IfSome result (λ f. (front : List ℕ)
+        × (bytes.now ≡ front ++ f.rest.now) × (0 < length front)) }
     ensures none { IfNone result ((ended_commands bytes.now ≡ []) × (kept bytes.now ≡ bytes.now)) }
 {
     let (line, rest) = split_line(bytes)?;

@@ -1,16 +1,17 @@
 //! A script of edits and questions: its lines, what they ask for, and a run that answers them.
 //!
-//! [`parse`] reads a line, with its text if it takes one, as a [`Request`] of the table. [`run_script`] reads a script and has
-//! a [`Project`] answer it, each command before more is read. What a run does is proved for every project, reader and writer.
+//! [`parse`] reads a line, with its text if it takes one, as a [`Request`] of the table.
+//! [`run_script`] reads a script and has a [`Project`] answer it, each command before more is read.
+//! What a run does is proved for every project, reader and writer.
 #![tactic(auto)]
 
 mod answering;
+mod buffer;
 mod commands;
-mod pending;
 mod project;
 mod request;
 mod running;
 
 pub use project::{Project, SinkFailed};
 pub use request::{Request, each_command_asks_for_its_row, parse, wants_text};
-pub use running::{SCRIPT_LIMIT, run_script, three_needs_a_reason};
+pub use running::{SCRIPT_LIMIT, run_script, short_commands_need_no_memory, three_needs_a_reason};

@@ -11,7 +11,7 @@ use tangle_streams::Sink;
 #[derive(Clone, Copy, Debug, PartialEq, Eq)]
 pub struct SinkFailed;
 
-/// A project that a script is told to: how it answers.
+/// A project that answers a script.
 pub trait Project {
     /// What changes as edits are made.
     type Held;
@@ -43,7 +43,10 @@ pub trait Project {
         request: &Request<'_>,
         sink: &mut S,
     ) -> Result<(), SinkFailed>
-        ensures { (text : List ℕ) × Replies answers (state held.old draft.old) (asked request.now) text (state held.new draft.new) × WritesText (S.stream sink.old) (S.stream sink.new) text result };
+        ensures { (text : List ℕ)
+            × Replies answers (state held.old draft.old) (asked request.now) text
+            (state held.new draft.new)
+            × WritesText (S.stream sink.old) (S.stream sink.new) text result };
 
     /// Whether an error is among the faults.
     fn has_error(held: &Self::Held) -> bool

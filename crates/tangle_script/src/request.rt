@@ -46,9 +46,9 @@ pub enum Request<'a> {
     Commit,
     /// The list is to be dropped.
     Cancel,
-    /// The faults are to be told.
+    /// The faults are to be listed.
     Faults,
-    /// The last work is to be told.
+    /// The last work is to be given.
     Work,
     /// The run is to end.
     Quit,
@@ -65,14 +65,14 @@ impl Request<'_> {
     }
 }
 
-// What stands after a word at the front of the line.
+// What follows a word at the front of the line.
 fn rest_after<'a>(line: &'a [u8], word: &[u8]) -> Option<&'a [u8]>
     ensures { option_copied result ≡ after_word word.now line.now }
 {
     line.strip_prefix(word)
 }
 
-// One to nine digits and a space, and what stands after it.
+// One to nine digits and a space, and what follows them.
 fn number_before(rest: &[u8]) -> Option<(u32, &[u8])>
     ensures { option_map (λ p. (p.0, p.1.now)) result ≡ number_and_file 0 0 rest.now }
 {
@@ -170,7 +170,8 @@ pub fn wants_text(line: &[u8]) -> bool
 /// What a line asks for, with its text.
 #[tactic(auto, unfolding(crate::specs::Requests::request_of))]
 pub fn parse<'a>(line: &'a [u8], text: Option<&'a [u8]>) -> Request<'a>
-    ensures { asked result ≡ request_of (record { line = line.now; text = option_copied text.entry }) }
+    ensures { asked result
+        ≡ request_of (record { line = line.now; text = option_copied text.entry }) }
 {
     match text {
         Some(text) => with_text(line, text),
@@ -178,8 +179,8 @@ pub fn parse<'a>(line: &'a [u8], text: Option<&'a [u8]>) -> Request<'a>
     }
 }
 
-/// A command asks for the request of its row in the table of script lines, and for no other; one that is no row is a bad
-/// command, and no other is.
+/// A command asks for the request of its row in the table of script lines, and for no other; one
+/// that is no row is a bad command, and no other is.
 pub fn each_command_asks_for_its_row()
     ensures { (command : Command) → AsksForItsRow command }
 {}

@@ -9,12 +9,13 @@ use tangle_streams::IoSink;
 // A run over this script writes the answers and ends with the status.
 fn check(rt: &impl Abort, alloc: Global, mut feed: Long<'_>, answers: &[u8], status: u8) {
     let mut project = Letters::new();
-    let mut told: Vec<u8> = Vec::new(alloc);
+    let mut draft = 0;
+    let mut written: Vec<u8> = Vec::new(alloc);
     let ended = {
-        let mut sink = IoSink::new(&mut told);
-        run_script::<Letters, _, _>(alloc, &mut project, &mut feed, &mut sink)
+        let mut sink = IoSink::new(&mut written);
+        run_script::<Letters, _, _>(alloc, &mut project, &mut draft, &mut feed, &mut sink)
     };
-    assert!(rt; told.as_slice() == answers);
+    assert!(rt; written.as_slice() == answers);
     assert_eq!(rt; ended, status);
 }
 
@@ -39,8 +40,8 @@ fn scripts_at_the_bound(rt: HostRuntime) -> Result<(), Fail> {
     Ok(())
 }
 
-// An insertion of a text of so many bytes, in pieces of this size. With it the text's line has 14 bytes more in all, and the
-// line of the `quit` 19.
+// An insertion of a text of so many bytes, in pieces of this size. With it the text's line has 14
+// bytes more in all, and the line of the `quit` 19.
 fn insertion(count: usize, size: usize) -> Long<'static> {
     Long {
         front: b"insert 1 a.w\n",

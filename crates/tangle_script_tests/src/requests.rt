@@ -93,7 +93,12 @@ fn lines_with_a_file(rt: HostRuntime) -> Result<(), Fail> {
 }
 
 #[test]
-fn single_words(rt: HostRuntime) -> Result<(), Fail> {
+fn lines_without_a_file(rt: HostRuntime) -> Result<(), Fail> {
+    check(&rt, b"marks full", Request::MarksFull);
+    check(&rt, b"marks none", Request::MarksNone);
+    check(&rt, b"begin", Request::Begin);
+    check(&rt, b"commit", Request::Commit);
+    check(&rt, b"cancel", Request::Cancel);
     check(&rt, b"faults", Request::Faults);
     check(&rt, b"work", Request::Work);
     check(&rt, b"quit", Request::Quit);
@@ -110,6 +115,18 @@ fn lines_of_no_row(rt: HostRuntime) -> Result<(), Fail> {
     check_bad(&rt, b"remove 1234567890 a.w");
     check_bad(&rt, b"remove a.w");
     check_bad(&rt, b"remove 3");
+    check_bad(&rt, b"marks");
+    check_bad(&rt, b"marks ");
+    check_bad(&rt, b"marks bare");
+    check_bad(&rt, b"marks full ");
+    check_bad(&rt, b"marks  full");
+    check_bad(&rt, b"Marks full");
+    check_bad(&rt, b"begin ");
+    check_bad(&rt, b"begin a.w");
+    check_bad(&rt, b"Commit");
+    check_bad(&rt, b"commit\r");
+    check_bad(&rt, b" cancel");
+    check_bad(&rt, b"cancel ");
     check_bad(&rt, b"Quit");
     check_bad(&rt, b"quit ");
     check_bad(&rt, b" work");

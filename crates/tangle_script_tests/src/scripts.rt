@@ -6,22 +6,25 @@ use std::test::Fail;
 use tangle_script::run_script;
 use tangle_streams::{Feed, IoFeed, IoSink, Sink};
 
-/// Each row of the table, in malformed forms too: an empty line is nothing, but a text where one is taken.
-const SCRIPT: &[u8] =
-    b"work\n\ninsert 1 a.w\n\nshow a.c\nreplace 2 a.w\nquit\nremove 1 a.w\n\xff\x00\ncreate \ncreate\ndiscard a\ninsert x\nwork\nfaults\nquit\nwork\nrepl";
+/// Each row of the table, in malformed forms too: an empty line is nothing, but a text where one is
+/// taken.
+const SCRIPT: &[u8] = b"work\n\ninsert 1 a.w\n\nshow a.c\nreplace 2 a.w\nquit\nremove 1 a.w\n\
+    \xff\x00\ncreate \ncreate\ndiscard a\nbegin\nmarks none\ncommit\nmarks full\ncancel\n\
+    commit now\ninsert x\nwork\nfaults\nquit\nwork\nrepl";
 
 /// Its answers.
-const ANSWERS: &[u8] = b"w\ni\ns\nr\nm\nb\nc\nb\nd\nb\nf\nq\n";
+const ANSWERS: &[u8] = b"w\ni\ns\nr\nm\nb\nc\nb\nd\ng\nn\nk\na\nx\nb\nb\nf\nq\n";
 
 // A run over these pieces writes the answers and ends with the status.
 fn check_pieces(rt: &impl Abort, alloc: Global, mut feed: Pieces<'_>, answers: &[u8], status: u8) {
     let mut project = Letters::new();
-    let mut told: Vec<u8> = Vec::new(alloc);
+    let mut draft = 0;
+    let mut written: Vec<u8> = Vec::new(alloc);
     let ended = {
-        let mut sink = IoSink::new(&mut told);
-        run_script::<Letters, _, _>(alloc, &mut project, &mut feed, &mut sink)
+        let mut sink = IoSink::new(&mut written);
+        run_script::<Letters, _, _>(alloc, &mut project, &mut draft, &mut feed, &mut sink)
     };
-    assert!(rt; told.as_slice() == answers);
+    assert!(rt; written.as_slice() == answers);
     assert_eq!(rt; ended, status);
 }
 
@@ -77,10 +80,17 @@ fn failing_readers(rt: HostRuntime) -> Result<(), Fail> {
 // A run over the script, with a writer that takes so many bytes, writes a front of the answers.
 fn check_full_writer(rt: &impl Abort, alloc: Global, room: &mut [u8]) {
     let mut project = Letters::new();
+    let mut draft = 0;
     let mut feed = IoFeed::new(SCRIPT);
     let (ended, failures) = {
         let mut sink = IoSink::new(&mut *room);
-        let ended = run_script::<Letters, _, _>(alloc, &mut project, &mut feed, &mut sink);
+        let ended = run_script::<Letters, _, _>(
+            alloc,
+            &mut project,
+            &mut draft,
+            &mut feed,
+            &mut sink,
+        );
         (ended, sink.failures())
     };
     assert!(rt; ANSWERS.starts_with(room));
@@ -93,5 +103,21 @@ fn full_writers(rt: HostRuntime) -> Result<(), Fail> {
         let mut room = Vec::from_elem(rt.alloc(), 0u8, size)?;
         check_full_writer(&rt, rt.alloc(), room.as_mut_slice());
     }
+    Ok(())
+}
+
+// What a project keeps besides is handed through a run, and is there at its end.
+#[test]
+fn drafts(rt: HostRuntime) -> Result<(), Fail> {
+    let mut project = Letters::new();
+    let mut draft = 5;
+    let mut feed = IoFeed::new(b"begin\nmarks none\nbegin\nquit\nbegin\n".as_slice());
+    let mut room = [0u8; 8];
+    let ended = {
+        let mut sink = IoSink::new(room.as_mut_slice());
+        run_script::<Letters, _, _>(rt.alloc(), &mut project, &mut draft, &mut feed, &mut sink)
+    };
+    assert!(rt; room == *b"g\nn\ng\nq\n");
+    assert_eq!(rt; (ended, project.edits, draft), (1, 1, 7));
     Ok(())
 }

@@ -1,4 +1,5 @@
-//! A project that answers each request by its letter, and readers that give a script in pieces or fail.
+//! A project that answers each request by its letter, and readers that give a script in pieces or
+//! fail.
 ghost use Rattle.std.specs.Prelude.{◌≡◌, ◌≤◌, ⊤, ℕ, ◌==◌, length, Some};
 ghost use Rattle.tangle_streams.specs.Feeds.{counted_read};
 
@@ -6,7 +7,7 @@ use std::alloc::Global;
 use tangle_script::{Project, Request, SinkFailed};
 use tangle_streams::{Feed, Sink, put};
 
-/// It counts its edits, and one edit is an error.
+/// It counts its edits, and one edit is an error. Its draft counts the lists that were begun.
 #[derive(Debug, Drop)]
 pub struct Letters {
     pub edits: u64,
@@ -30,6 +31,11 @@ fn letter(request: &Request<'_>) -> &'static [u8]
         Request::Create { .. } => b"c\n",
         Request::Discard { .. } => b"d\n",
         Request::Show { .. } => b"s\n",
+        Request::MarksFull => b"a\n",
+        Request::MarksNone => b"n\n",
+        Request::Begin => b"g\n",
+        Request::Commit => b"k\n",
+        Request::Cancel => b"x\n",
         Request::Faults => b"f\n",
         Request::Work => b"w\n",
         Request::Quit => b"q\n",
@@ -45,15 +51,19 @@ fn is_edit(request: &Request<'_>) -> bool {
             | Request::Remove { .. }
             | Request::Create { .. }
             | Request::Discard { .. }
+            | Request::MarksFull
+            | Request::MarksNone
     )
 }
 
 impl Project for Letters {
     type Held = Letters;
 
+    type Draft = u64;
+
     ghost State = { ℕ };
 
-    ghost state = { λ held. held.edits };
+    ghost state = { λ held draft. held.edits };
 
     ghost answers = { λ s r text t. ⊤ };
 
@@ -62,9 +72,13 @@ impl Project for Letters {
     fn answer<S: Sink>(
         _alloc: Global,
         held: &mut Letters,
+        draft: &mut u64,
         request: &Request<'_>,
         sink: &mut S,
     ) -> Result<(), SinkFailed> {
+        if matches!(request, Request::Begin) {
+            *draft = draft.saturating_add(1);
+        }
         if is_edit(request) {
             held.edits = held.edits.saturating_add(1);
         }
@@ -79,7 +93,7 @@ impl Project for Letters {
     }
 }
 
-/// A script in pieces of this size, after which the reader fails if it is so told.
+/// A script in pieces of this size, after which the reader fails if it is to.
 #[derive(Drop)]
 pub struct Pieces<'a> {
     pub left: &'a [u8],

@@ -9,9 +9,11 @@ pub returns-in-Some-clause-some : goal.returns-in-Some-clause-some
 returns-in-Some-clause-some c =
     let h = c.in-Some.ensures in
     rw (take_rest, add-one)
-    (line_at [] c.args.bytes.now c.in-Some.end h.0.high (λ k l. false_from_ne_true _ (h.0.before k (omega arith) l)) (eqb-true _ 10 h.1))
+    (line_at [] c.args.bytes.now c.in-Some.end h.0.high
+    (λ k l. false_from_ne_true _ (h.0.before k (omega arith) l)) (eqb-true _ 10 h.1))
 
 pub returns-in-None-clause-none : goal.returns-in-None-clause-none
 returns-in-None-clause-none c =
-    let e = line_none [] c.args.bytes.now (λ k l. false_from_ne_true _ (c.in-None.ensures k (omega arith) l)) in
+    let e = line_none [] c.args.bytes.now
+    (λ k l. false_from_ne_true _ (c.in-None.ensures k (omega arith) l)) in
     (e, unfed_unended [] c.args.bytes.now e)

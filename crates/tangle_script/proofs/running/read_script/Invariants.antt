@@ -1,5 +1,5 @@
-use Rattle.std.proofs.Common.{◌≤◌, ◌<◌, ◌+◌, ◌-◌, vec_len}
-use Rattle.std.specs.Vec.{vec_capacity}
+use Rattle.std.proofs.Common.{◌≤◌, ◌-◌}
+use Rattle.tangle_script.specs.Buffer.{bytes}
 use Rattle.tangle_script.specs.Script.{talk}
 use Rattle.tangle_script.specs.Turns.{Holds}
 use Rattle.tangle_script.proofs.running.read_script.Given as goal
@@ -7,11 +7,12 @@ use Rattle.tangle_script.proofs.running.read_script.Given as goal
 abbrev pub invariant-loop-count : goal.invariant-loop-count
 invariant-loop-count g l = record {
   holds : Holds g.P.Project.answers
-      (talk (g.P.Project.state l.initial.held l.initial.draft) (g.S.Sink.stream l.initial.sink) (g.R.Feed.coming l.initial.feed) (g.R.Feed.failures l.initial.feed))
-      (talk (g.P.Project.state l.held l.draft) (g.S.Sink.stream l.sink) (g.R.Feed.coming l.feed) (g.R.Feed.failures l.feed))
-      l.pending.items l.count;
+      (talk (g.P.Project.state l.initial.held l.initial.draft) (g.S.Sink.stream l.initial.sink)
+      (g.R.Feed.coming l.initial.feed) (g.R.Feed.failures l.initial.feed))
+      (talk (g.P.Project.state l.held l.draft) (g.S.Sink.stream l.sink)
+      (g.R.Feed.coming l.feed) (g.R.Feed.failures l.feed))
+      (bytes l.buffer) l.count;
   within : l.count ≤ 67108864;
-  room : 0 < vec_len l.pending → vec_len l.pending + 4096 ≤ vec_capacity l.pending;
 }
 
 abbrev pub decreases-loop-count : goal.decreases-loop-count

@@ -1,0 +1,169 @@
+-- What is kept of a script is no longer than one of its commands.
+use Rattle.std.proofs.Common.{◌≡◌, ◌∙◌, inl, inr, ℕ, ◌<◌, ◌≤◌, ◌==◌, Bool, true, false, cond, length, List, [], ◌∷◌, ◌++◌, Option, Some, None, ap, subst, sym, refl, append_assoc, length-append, arith}
+use Rattle.std.specs.Prelude.{All, slice_index_or}
+use Rattle.std.specs.Io.KnownBytes.{Consumes}
+use Rattle.tangle_script.specs.Requests.{Command, Request, takes_text}
+use Rattle.tangle_script.specs.Commands.{all_commands, alone, commands_at_end, ended, ended_commands, kept, last_line, settled, textless, unended, waiting, with_head}
+use Rattle.tangle_script.specs.Script.{Talk}
+use Rattle.tangle_script.specs.Endings.{TalkEnds, command_room}
+use Rattle.tangle_script.specs.Endings.TalkEnds.{IsAtQuit, IsAtInputEnd, IsUnread, IsTooLong, IsUnwritten, IsOutOfMemory}
+use Rattle.tangle_script.specs.Short.{HasFailed, HasShortCommands, command_size}
+use Rattle.tangle_script.proofs.CommandLemmas.{Waits, again_lines, again_rest, all_commands-kept, commands-append, ended_after, kept-append, read_waits, settled_head, unended_after, unended_unfed, waiting_head}
+use Rattle.tangle_script.proofs.QuietTalk.{small}
+
+-- the lines of some bytes behind an unended line, where the script ends after them
+
+abbrev lines_behind : List ℕ → List ℕ → List (List ℕ)
+lines_behind u ys = ended u ys ++ last_line (unended u ys)
+
+-- the first of these lines is no shorter than the unended one
+abbrev Holding : List ℕ → List (List ℕ) → Type 0
+Holding u [] = length u ≡ 0
+Holding u (l ∷ ls) = length u ≤ length l
+
+holding_less : (u v : List ℕ) (ls : List (List ℕ)) → Holding (u ++ v) ls → Holding u ls
+holding_less u v [] h = omega (arith, length-append u v)
+holding_less u v (l ∷ ls) h = omega (arith, length-append u v)
+
+holding : (u ys : List ℕ) → Holding u (lines_behind u ys)
+holding [] [] = refl
+holding (b ∷ bs) [] = omega arith
+holding u (y ∷ ys) = by (y == 10) (holding_less u (y ∷ []) _ (holding (u ++ y ∷ []) ys))
+  where
+    by : (t : Bool) → Holding u (lines_behind (u ++ y ∷ []) ys)
+        → Holding u (cond t (u ∷ ended [] ys) (ended (u ++ y ∷ []) ys)
+        ++ last_line (cond t (unended [] ys) (unended (u ++ y ∷ []) ys)))
+    by true h = omega arith
+    by false h = h
+
+-- a first command with at least so many bytes
+
+abbrev FirstHas : ℕ → List Command → Type 0
+FirstHas n [] = ⊥
+FirstHas n (c ∷ cs) = n ≤ command_size c
+
+first_plain : (u : List ℕ) (ls : List (List ℕ)) → 0 < length u → Holding u ls
+    → FirstHas (length u) (commands_at_end ls)
+first_plain u [] some h = absurd (omega arith)
+first_plain u ([] ∷ ls) some h = absurd (omega arith)
+first_plain u ((b ∷ bs) ∷ ls) some h = by (takes_text (b ∷ bs)) ls
+  where
+    l : List ℕ
+    l = b ∷ bs
+
+    by : (t : Bool) (ls : List (List ℕ))
+        → FirstHas (length u) (cond t (settled (Some l) ls) (alone l ++ settled None ls)
+        ++ textless (cond t (waiting (Some l) ls) (waiting None ls)))
+    by true [] = omega arith
+    by true (t ∷ ts) = omega arith
+    by false ls = omega arith
+
+first_headed : (l u : List ℕ) (ls : List (List ℕ)) → takes_text l ≡ true → Holding u ls
+    → FirstHas (length (l ++ 10 ∷ u)) (commands_at_end (l ∷ ls))
+first_headed l u ls t h =
+    subst (FirstHas (length (l ++ 10 ∷ u)))
+    (sym (ap (λ r. r ++ textless (waiting None (l ∷ ls))) (settled_head l ls t)
+    ∙ ap (λ w. settled (Some l) ls ++ textless w) (waiting_head l ls t)))
+    (by ls h)
+  where
+    by : (ls : List (List ℕ)) → Holding u ls
+        → FirstHas (length (l ++ 10 ∷ u)) (settled (Some l) ls ++ textless (waiting (Some l) ls))
+    by [] h = omega (arith, length-append l (10 ∷ u))
+    by (m ∷ ms) h = omega (arith, length-append l (10 ∷ u))
+
+at_end : (bs : List ℕ) (xs : List (List ℕ)) (r : List ℕ) → ended [] bs ≡ xs → unended [] bs ≡ r
+    → all_commands bs ≡ commands_at_end (xs ++ last_line r)
+at_end bs xs r e f =
+    ap (λ l. commands_at_end (l ++ last_line (unended [] bs))) e
+    ∙ ap (λ l. commands_at_end (xs ++ last_line l)) f
+
+first_kept : (w : Option (List ℕ)) (u ys : List ℕ) → Waits w → ended [] u ≡ []
+    → 0 < length (with_head w u)
+    → FirstHas (length (with_head w u)) (all_commands (with_head w u ++ ys))
+first_kept None u ys h e some =
+    subst (FirstHas (length u))
+    (sym (at_end (u ++ ys) _ _ (ended_after u ys e) (unended_after u ys e)))
+    (first_plain u (lines_behind u ys) some (holding u ys))
+first_kept (Some l) u ys h e some =
+    subst (FirstHas (length (l ++ 10 ∷ u)))
+    (sym (at_end ((l ++ 10 ∷ u) ++ ys) (l ∷ ended u ys) (unended u ys)
+    (again_lines l u ys h.0 ∙ ap (λ r. l ∷ r) (ended_after u ys e))
+    (again_rest l u ys h.0 ∙ unended_after u ys e)))
+    (first_headed l u (lines_behind u ys) h.1 (holding u ys))
+
+-- what is kept begins the first command that has not ended
+
+all_split : (xs ys : List ℕ) → all_commands (xs ++ ys)
+    ≡ ended_commands xs ++ all_commands (kept xs ++ ys)
+all_split xs ys =
+    all_commands-kept (xs ++ ys)
+    ∙ (ap (λ l. l ++ all_commands (kept (xs ++ ys))) (commands-append xs ys)
+    ∙ (append_assoc (ended_commands xs) (ended_commands (kept xs ++ ys))
+    (all_commands (kept (xs ++ ys)))
+    ∙ ap (λ l. ended_commands xs ++ l)
+    (ap (λ k. ended_commands (kept xs ++ ys) ++ all_commands k) (kept-append xs ys)
+    ∙ sym (all_commands-kept (kept xs ++ ys)))))
+
+abbrev FitsRoom : Command → Type 0
+FitsRoom c = command_size c ≤ command_room
+
+behind : (cs ds : List Command) (d : Command)
+    → slice_index_or (cs ++ ds) (length cs) d ≡ slice_index_or ds 0 d
+behind [] ds d = refl
+behind (c ∷ cs) ds d = behind cs ds d
+
+first_fits : (cs ds : List Command) (n : ℕ) → All FitsRoom (cs ++ ds) → FirstHas n ds
+    → n ≤ command_room
+first_fits cs [] n all first = absurd first
+first_fits cs (c ∷ ds) n all first =
+    let inside : length cs < length (cs ++ c ∷ ds) = omega (arith, length-append cs (c ∷ ds)) in
+    let fits : FitsRoom c = subst FitsRoom (behind cs (c ∷ ds) c) (all (length cs) c inside) in
+    omega (arith, first, fits)
+
+kept_fits : (xs ys : List ℕ) → HasShortCommands (xs ++ ys) → command_room < length (kept xs) → ⊥
+kept_fits xs ys short long =
+    let some : 0 < length (kept xs) = omega (arith, long) in
+    let fits = first_fits (ended_commands xs) (all_commands (kept xs ++ ys)) (length (kept xs))
+    (subst (All FitsRoom) (all_split xs ys) short)
+    (first_kept (waiting None (ended [] xs)) (unended [] xs) ys (read_waits xs)
+    (unended_unfed [] xs refl) some) in
+    omega (arith, fits, long)
+
+-- what was read is a front of the script
+is_front : (script read : List ℕ) (after : Option (List ℕ)) → Consumes (Some script) after read
+    → (rest : List ℕ) × (script ≡ read ++ rest)
+is_front script read None given = absurd given
+is_front script read (Some rest) given = (rest, given)
+
+module _ {State : Type 0} (answers : State → Request → List ℕ → State → Type 0)
+    (has_error : State → Bool → Type 0) (old new : Talk State) (script : List ℕ)
+    (coming : old.coming ≡ Some script) where
+  read_front : (read : List ℕ) → Consumes old.coming new.coming read
+      → (rest : List ℕ) × (script ≡ read ++ rest)
+  read_front read given = is_front script read new.coming
+      (subst (λ (a : Option (List ℕ)). Consumes a new.coming read) coming given)
+
+  pub short_needs_no_memory : HasShortCommands script → TalkEnds answers has_error old new 3
+      → HasFailed old new script
+  short_needs_no_memory short (IsAtQuit read given within same answered status) = let h =
+      small status.0 in absurd (omega (arith, status.2))
+  short_needs_no_memory short (IsAtInputEnd read given within same over on answered status) =
+      let h = small status.0 in absurd (omega (arith, status.2))
+  short_needs_no_memory short (IsUnread read given within failed on answered status) = inl failed
+  short_needs_no_memory short (IsTooLong read more given full same on answered status) =
+      let front = read_front (read ++ more ∷ []) given in
+      inr (inr (omega (
+        arith,
+        full,
+        ap length front.1,
+        length-append
+            (read ++ more ∷ []) front.0,
+        length-append read (more ∷ []),
+      )))
+  short_needs_no_memory short (IsUnwritten read given within same cut status) = inr (inl (elim cut [
+    | inl ended ↦ ended.failed
+    | inr last ↦ last.2.failed
+  ]))
+  short_needs_no_memory short (IsOutOfMemory read given within same long on answered status) =
+      let front = read_front read given in
+      absurd (kept_fits read front.0 (subst HasShortCommands front.1 short) long)

@@ -1,0 +1,19 @@
+use Rattle.std.proofs.Common.{◌∙◌, ap, sym}
+use Rattle.std.proofs.lemmas.List.{take_rest}
+use Rattle.tangle_script.specs.Script.{has_quit}
+use Rattle.tangle_script.specs.Buffer.{bytes}
+use Rattle.tangle_script.proofs.CommandLemmas.{waits_in}
+use Rattle.tangle_script.proofs.TalkLemmas.{answered_nothing}
+use Rattle.tangle_script.proofs.running.answer_chunk.Goals as goal
+
+pub returns-then-not-ends_a_line : goal.returns-then-not-ends_a_line
+returns-then-not-ends_a_line g c =
+    let none = rw (take_rest, c.as_slice.ensures) at
+    (sym c.ends_a_line.ensures ∙ c.if-not-ends_a_line.true) in
+    let all = waits_in c.args.searched (bytes c.args.buffer.now) c.requires.waits none in
+    record {
+      answered = answered_nothing g.P.Project.answers _ _ all.0;
+      unquit = ap has_quit all.0;
+      kept = sym all.1;
+      breaks = tt;
+    }

@@ -1,0 +1,33 @@
+-- A run over a script of short commands.
+use Rattle.std.specs.Prelude.{◌≡◌, ◌<◌, ◌≤◌, ◌⊎◌, ℕ, ◌+◌, Bool, List, length, All, Option, None, Some}
+use Rattle.tangle_streams.specs.Streams.{Failed}
+use Rattle.tangle_script.specs.Requests.{Command, Request}
+use Rattle.tangle_script.specs.Commands.{all_commands}
+use Rattle.tangle_script.specs.Script.{Talk}
+use Rattle.tangle_script.specs.Endings.{TalkEnds, command_room, script_limit}
+
+abbrev pub text_size : Option (List ℕ) → ℕ
+text_size None = 0
+text_size (Some text) = length text + 1
+
+-- the bytes of a command, with a line feed behind its line and behind its text
+abbrev pub command_size : Command → ℕ
+command_size c = length c.line + 1 + text_size c.text
+
+-- a run has room for each command of the script
+abbrev pub HasShortCommands : List ℕ → Type 0
+HasShortCommands script = All (λ c. command_size c ≤ command_room) (all_commands script)
+
+-- the reader or the writer failed, or the script is longer than a script may be
+abbrev pub HasFailed : {State : Type 0} → Talk State → Talk State → List ℕ → Type 0
+HasFailed old new script =
+    Failed old.reader_failures new.reader_failures
+    ⊎ (Failed old.telling.stream.failures new.telling.stream.failures
+    ⊎ (script_limit < length script))
+
+-- a run over such a script that ends with status 3 has failed so: it was not out of memory
+abbrev pub ShortNeedsNoMemory : {State : Type 0} → (State → Request → List ℕ → State → Type 0)
+    → (State → Bool → Type 0) → Type 0
+ShortNeedsNoMemory {State} answers has_error =
+    (old new : Talk State) (script : List ℕ) → old.coming ≡ Some script → HasShortCommands script
+    → TalkEnds answers has_error old new 3 → HasFailed old new script
