@@ -9,7 +9,8 @@ usage: documents.py [FOLDER]      the folder of the repository
 - crates/*/must-fail and tests/wrong-bodies: each public function that is no law has an edit of its own, or of a private
   function that it calls, unless docs/wrong-bodies.md has it in a row '| `CRATE` | without an edit: `TYPE::NAME`, `NAME` |
   why |'. Each text that an edit replaces stands once in its file.
-- crates/tangle_session: work is begun once in a start and once in an edit, and output files are written in one place (ONLY_IN).
+- crates/tangle_session: work is begun once in a start, once in an edit and once in a list of edits, and output files are written in one place
+  (ONLY_IN).
 The last line is 'N passed, M failed'.
 """
 import os
@@ -25,9 +26,9 @@ DEFINITION = r'^ *(?:(?:abbrev|unfoldable) )?pub (?:record |data )?%s(?: |$)'
 FUNCTION = re.compile(r'^\s*(pub |pub\(crate\) )?(?:const )?fn (\w+)', re.M)
 CODED = re.compile(r'`([^`]+)`')
 
-# What the code of a crate calls, and the functions in which it stands, once in each: a session begins one work in a start and one in an
-# edit, and so last_work() counts all that was expanded for it. It writes texts by the one call that writes a file.
-ONLY_IN = {'tangle_session': {'Work::new': {'start', 'apply'}, 'write_file': {'write_output'}, 'write_text': set()}}
+# What the code of a crate calls, and the functions in which it stands, once in each: a session begins one work in a start, one in an edit and
+# one in a list of edits, and so last_work() counts all that was expanded for it. It writes texts by the one call that writes a file.
+ONLY_IN = {'tangle_session': {'Work::new': {'start', 'apply', 'apply_all'}, 'write_file': {'write_output'}, 'write_text': set()}}
 
 counts = {True: 0, False: 0}
 
@@ -117,7 +118,7 @@ def check_conversation(top):
     typed = ''.join(line[2:] for line in lines if line.startswith('> '))
     answered = ''.join(line for line in lines if not line.startswith('> '))
     session = Session(add([], b'a.w', web.encode()), Roles(b'a.w', None, b'a.c'))
-    done = Script(session, typed.encode(), has_lists=False)
+    done = Script(session, typed.encode())
     check(done.written == answered.encode(), 'docs/sessions.md', 'another conversation')
 
 

@@ -146,7 +146,7 @@ def answered(script, files=(), roles=ROLES):
     table = []
     for name, text in [(b'a.w', WEB)] + list(files):
         table = add(table, name, text)
-    done = Script(Session(table, roles), script, has_lists=False)
+    done = Script(Session(table, roles), script)
     return done.written, done.status
 
 
@@ -159,29 +159,43 @@ MALFORMED = [
     b'create', b'create ', b'create a.w', b'create ' + b'x' * 255, b'create ' + b'x' * 256, b'create  b', b'create b\xff\x00',
     b'discard', b'discard ', b'discard a.w', b'discard zz', b'discard b\xff\x00',
     b'show', b'show ', b'show zz', b'show a.c ', b'show  a.c', b'show a.c',
-    b'faults ', b'faults 1', b'work ', b'work 1', b'Work', b'quit ', b'quit 1', b'begin', b'commit', b'cancel', b'marks full',
-    b'\x00', b'\xff\xfe', b'\r', b'work\r', b' ', b'', b'x' * 100000,
+    b'faults ', b'faults 1', b'work ', b'work 1', b'Work', b'quit ', b'quit 1', b'begin ', b'Begin', b'begin 1', b'commit ',
+    b'Commit', b'commit 1', b'cancel ', b'Cancel', b' begin', b'marks', b'marks ', b'marks bare', b'marks full ', b'Marks full',
+    b'marks  none', b'marks none ', b'marks\tfull', b'marks full\r', b'marksfull', b'mark full', b'marks nonefull', b'marks full',
+    b'commit', b'cancel', b'\x00', b'\xff\xfe', b'\r', b'work\r', b' ', b'', b'x' * 100000,
 ]
 
 
-def test_malformed():
+def malformed(lines):
     script = b''
-    for line in MALFORMED:
+    for line in lines:
         script += line + b'\n'
         if line.startswith((b'insert ', b'replace ')):
             script += b'@ \n'
-    script += b'show a.c\nfaults\nwork\n'
-    for size in (1, 5, 4095, 4096, 4097, 1 << 20):
-        written, status, _ = run_script(Room({'a.w': WEB}), ['a'], script, size)
-        check((written, status) == answered(script), 'malformed lines', 'in pieces of %d: %r' % (size, written))
-    for line in MALFORMED:                      # each as the last line, which nothing ends
-        written, status, _ = run_script(Room({'a.w': WEB}), ['a'], b'work\n' + line)
-        check((written, status) == answered(b'work\n' + line), 'malformed last line', '%r: %r' % (line[:40], written))
+    return script
+
+
+def test_malformed():
+    questions = b'show a.c\nfaults\nwork\n'
+    in_a_list = malformed(line for line in MALFORMED if line not in (b'commit', b'cancel'))     # these end it
+    scripts = {'malformed lines': malformed(MALFORMED) + questions,
+               'malformed lines in an open list': b'begin\n' + in_a_list + questions + b'commit\n' + questions}
+    for name, script in scripts.items():
+        for size in (1, 5, 4095, 4096, 4097, 1 << 20):
+            written, status, _ = run_script(Room({'a.w': WEB}), ['a'], script, size)
+            check((written, status) == answered(script), name, 'in pieces of %d: %r' % (size, written))
+    for before in (b'work\n', b'begin\n'):
+        for line in MALFORMED:                  # each as the last line, which nothing ends
+            written, status, _ = run_script(Room({'a.w': WEB}), ['a'], before + line)
+            check((written, status) == answered(before + line), 'malformed last line', '%r: %r' % (line[:40], written))
 
 
 def test_ends():
     for script in (b'', b'\n', b'quit', b'quit\nwork\n', b'work\nquit\ninsert 1 a.w\n', b'insert 1 a.w', b'insert 1 a.w\n',
-                   b'insert 1 a.w\n\n', b'insert 1 a.w\n@ ', b'replace 3 a.w\n"x\n', b'discard b.w\nshow a.c\n'):
+                   b'insert 1 a.w\n\n', b'insert 1 a.w\n@ ', b'replace 3 a.w\n"x\n', b'discard b.w\nshow a.c\n',
+                   b'begin', b'begin\n', b'begin\nquit', b'begin\nreplace 3 a.w\n"x\n', b'begin\nreplace 3 a.w\n"x\nquit\n',
+                   b'begin\nreplace 3 a.w\n"x\ncommit', b'begin\nreplace 3 a.w\n"x\ncancel', b'begin\ninsert 1 a.w',
+                   b'begin\ninsert 1 a.w\n', b'begin\nmarks none\nquit\ncommit\n', b'replace 3 a.w\n"x\nbegin\nremove 3 a.w\n'):
         written, status, _ = run_script(Room({'a.w': WEB}), ['a'], script)
         check((written, status) == answered(script), 'ends of scripts', '%r: %r, status %d' % (script, written, status))
 
@@ -197,6 +211,8 @@ def test_long_texts():
     fits = b'replace 3 a.w\n' + b'x' * 65535 + b'\nreplace 3 a.w\n' + b'x' * 65535 + b'   \nreplace 3 a.w\n' + b'x' * 65536 + b'\n'
     written, status, _ = run_script(Room({'a.w': WEB}), ['a'], fits)
     check((written, status) == (b'ok\nok\nno LineTooLong\n', 0), 'texts at the limit', '%r' % written)
+    written, status, _ = run_script(Room({'a.w': WEB}), ['a'], b'begin\n' + fits + b'commit\nwork\n')
+    check((written, status) == (b'ok\nheld\nheld\nheld\nno LineTooLong 3\nwork 1\n', 0), 'texts at the limit, in a list', '%r' % written)
 
 
 def test_longest_script():
@@ -215,9 +231,23 @@ def test_many_edits():
           '%r' % written[-100:])
 
 
+def test_long_lists():
+    """A list of ten thousand edits is made, and is refused as a whole where the last one is; so is one file too many."""
+    edits = b''.join(b'insert 3 a.w\nint x%d;\n' % n for n in range(9999))
+    questions = b'commit\nshow a.c\nwork\n'
+    for last in (b'replace 3 a.w\nint y;\n', b'remove 10003 a.w\n'):
+        script = b'begin\n' + edits + last + questions
+        written, status, _ = run_script(Room({'a.w': WEB}), ['a'], script)
+        check((written, status) == answered(script), 'a list of ten thousand edits', '%r' % written[-100:])
+    files = b''.join(b'create f%d\n' % n for n in range(256)) + b'insert 1 zz\nx\n'
+    written, status, _ = run_script(Room({'a.w': WEB}), ['a'], b'begin\n' + files + b'commit\nremove 1 f0\n')
+    check((written, status) == (b'ok\n' + b'held\n' * 257 + b'no TooManyFiles 256\nno UnknownFile\n', 0), 'a list of 256 files', '%r' % written[-100:])
+
+
 def test_change_file():
     files = {'a.w': WEB, 'a.ch': b'@x\nint x;\n@y\nint z;\n@z\n'}
-    script = b'show a.c\ndiscard a.ch\nremove 1 a.ch\nfaults\ninsert 1 a.ch\n@x\nshow a.c\n'
+    script = (b'show a.c\ndiscard a.ch\nremove 1 a.ch\nfaults\ninsert 1 a.ch\n@x\nshow a.c\nbegin\nreplace 2 a.ch\nint q;\n'
+              b'replace 3 a.w\nint q;\nmarks none\ncommit\nshow a.c\nwork\nbegin\nremove 1 a.ch\ndiscard a.ch\ncommit\nshow a.c\n')
     roles = Roles(b'a.w', b'a.ch', b'a.c')
     written, status, _ = run_script(Room(files), ['a', '--change', 'a'], script)
     check((written, status) == answered(script, [(b'a.ch', files['a.ch'])], roles), 'change file', '%r' % written)
@@ -226,30 +256,32 @@ def test_change_file():
 def test_most_lines():
     files = {'a.w': WEB + b'@i b.w\n', 'b.w': b'\n' * 999999}
     script = (b'insert 1 b.w\nx\ninsert 1 b.w\ny\nremove 1 b.w\ninsert 1000000 b.w\nz\nreplace 1000000 b.w\nw\n'
-              b'insert 1 b.w\nv\nfaults\nquit\n')
+              b'insert 1 b.w\nv\nbegin\nremove 1 b.w\ninsert 1 b.w\nu\ninsert 1 b.w\nt\ncommit\nfaults\nquit\n')
     written, status, _ = run_script(Room(files), ['a'], script)
-    check((written, status) == (b'ok\nno TooManyLines\nok\nok\nok\nno TooManyLines\nfaults 0\nok\n', 0), 'a million lines',
-          '%r, status %d' % (written, status))
+    check((written, status) == (b'ok\nno TooManyLines\nok\nok\nok\nno TooManyLines\nok\nheld\nheld\nheld\nno TooManyLines 3\nfaults 0\nok\n', 0),
+          'a million lines', '%r, status %d' % (written, status))
 
 
 # ------------------------------------------------------------------ streams that fail
 
 def test_failing_reader():
-    """The reader fails in mid-line: what was ended is answered, and the rest is not carried out."""
-    for rest in (b'repl', b'insert 1 a.w\n% half'):
+    """The reader fails in mid-line: what was ended is answered, and the rest is not carried out; an open list is dropped."""
+    for rest, more in ((b'repl', b''), (b'insert 1 a.w\n% half', b''), (b'begin\nreplace 3 a.w\nint y;\ncommi', b'ok\nheld\n')):
         server = socket.create_server(('127.0.0.1', 0))
         here = socket.create_connection(server.getsockname())
         there, _ = server.accept()
         talk = Room({'a.w': WEB}).start(['a'], stdin=there, stdout=subprocess.PIPE)
         there.close()
         here.sendall(b'work\n' + rest)
-        got = read_within(talk.stdout, time.monotonic() + PATIENCE)
+        got, end = b'', time.monotonic() + PATIENCE
+        while len(got) < len(b'work 1\n' + more) and time.monotonic() < end:
+            got += read_within(talk.stdout, end)
         time.sleep(0.2)
         here.setsockopt(socket.SOL_SOCKET, socket.SO_LINGER, b'\1\0\0\0\0\0\0\0')      # to close is to reset
         here.close()
         server.close()
         status = talk.wait(PATIENCE)
-        check((got + talk.stdout.read(), status) == (b'work 1\n', 3), 'failing reader', '%r: status %d' % (rest, status))
+        check((got + talk.stdout.read(), status) == (b'work 1\n' + more, 3), 'failing reader', '%r: status %d' % (rest, status))
     folder = os.open('/', os.O_RDONLY)
     talk = Room({'a.w': WEB}).start(['a'], stdin=folder, stdout=subprocess.PIPE)
     os.close(folder)
@@ -258,7 +290,8 @@ def test_failing_reader():
 
 def test_failing_writer():
     """The writer fails at each byte of the answers: what went out is the front of them, and the status is 3."""
-    script = b'work\nreplace 3 a.w\nint y;\nshow a.c\nshow b\nfaults\nquit\n'
+    script = (b'work\nreplace 3 a.w\nint y;\nshow a.c\nshow b\nfaults\nmarks none\nbegin\nremove 9 a.w\nwork\ncommit\nbegin\n'
+              b'replace 3 a.w\nint z;\ncommit\nshow a.c\nbegin\ncancel\nquit\n')
     whole, _ = answered(script)
     for room in range(len(whole)):
         def limited():
@@ -300,7 +333,7 @@ def test_words():
 
 def main():
     for test in (test_document, test_stored_talks, test_malformed, test_ends, test_change_file, test_words, test_failing_reader,
-                 test_failing_writer, test_many_edits, test_most_lines, test_long_texts, test_longest_script):
+                 test_failing_writer, test_many_edits, test_long_lists, test_most_lines, test_long_texts, test_longest_script):
         test()
     print('%d passed, %d failed' % (counts[True], counts[False]))
     return 1 if counts[False] else 0
