@@ -241,7 +241,8 @@ def main():
         elif mode == 'generated':
             comparison.generated(folder, stage, *map(int, rest))
         else:
-            comparison.scripts(folder, *map(int, rest), 'all' if '--all-work' in flags else 'affected')
+            work = 'all' if '--all-work' in flags else 'affected'
+            comparison.scripts(folder, *map(int, rest), work)
     print('%d passed, %d failed' % (comparison.passed, comparison.failed))
     return 1 if comparison.failed else 0
 

@@ -2,9 +2,10 @@
 
 usage: refused.py RETANGLE REFUSE TOP       REFUSE is tests/refuse.c as a library, TOP the folder of the repository
 
-Where a growth is refused, one edit is answered 'no NoMemory' and is not made or, in an open list, not held; or one list is answered
-'no NoMemory 0' and none of its edits is made; and the others are made and answered. Or the run ends with status 3 behind an answer, or before
-the first one; or it did without that memory, and all is answered. The last line is 'N passed, M failed'.
+Where a growth is refused, one edit is answered 'no NoMemory' and is not made or, in an open list,
+not held; or one list is answered 'no NoMemory 0' and none of its edits is made; and the others are
+made and answered. Or the run ends with status 3 behind an answer, or before the first one; or it did
+without that memory, and all is answered. The last line is 'N passed, M failed'.
 """
 import os
 import subprocess
@@ -30,8 +31,9 @@ def chain(count):
     return b'@ P.\n@c\n@<k0001@>\n' + b''.join(names) + b'@ @<k%04d@>=\n1\n' % count
 
 
-# Webs with scripts in which every kind of command stands: an abbreviation of one name and then of two, names that use each other and a named
-# file, two names of which one uses others below, line marks that are set, lists that are made, refused and cancelled, and a chain of names.
+# Webs with scripts that have every kind of command: an abbreviation of one name and then of two,
+# names that use each other and a named file, two names of which one uses others below, line marks
+# that are set, lists that are made, refused and cancelled, and a chain of names.
 TALKS = {
     'abbreviation': (
         b'@ A.\n@c\n@<Ini...@>\n@ @<Initialize@>=\nx=0;\n',
@@ -48,12 +50,15 @@ TALKS = {
         + b'remove 12 a.w\n' + QUESTIONS + FILE_COMES_AND_GOES),
     'marks': (
         b'@ A.\n@c\nint x=@<v@>;\n@ @<v@>=\n1\n',
-        b'marks none\n' + QUESTIONS + b'insert 1 a.w\n% top\n' + QUESTIONS + b'marks none\nwork\nmarks full\n' + QUESTIONS),
+        b'marks none\n' + QUESTIONS + b'insert 1 a.w\n% top\n' + QUESTIONS + b'marks none\nwork\n'
+        b'marks full\n' + QUESTIONS),
     'lists': (
         b'@ P.\n@c\n@<A@>@<S@>\n@ @<A@>=\n@<B@>\n@ @<B@>=\n@<C@>\n@ @<C@>=\n1\n@ @<S@>=\n2\n',
-        b'begin\nreplace 9 a.w\n3\ninsert 10 a.w\n4\n' + QUESTIONS + b'commit\n' + QUESTIONS + b'commit\nbegin\nmarks none\nreplace 9 a.w\n5\n'
-        b'commit\n' + QUESTIONS + b'begin\nremove 10 a.w\nremove 99 a.w\ncommit\n' + QUESTIONS + b'begin\ncommit\nwork\nbegin\ncreate b.w\n'
-        b'insert 1 b.w\nz\ndiscard a.w\ncommit\nremove 1 b.w\nbegin\nremove 9 a.w\nremove 9 a.w\nmarks full\ncancel\nreplace 9 a.w\n6\n'
+        b'begin\nreplace 9 a.w\n3\ninsert 10 a.w\n4\n' + QUESTIONS + b'commit\n' + QUESTIONS
+        + b'commit\nbegin\nmarks none\nreplace 9 a.w\n5\ncommit\n' + QUESTIONS
+        + b'begin\nremove 10 a.w\nremove 99 a.w\ncommit\n' + QUESTIONS
+        + b'begin\ncommit\nwork\nbegin\ncreate b.w\ninsert 1 b.w\nz\ndiscard a.w\ncommit\n'
+        b'remove 1 b.w\nbegin\nremove 9 a.w\nremove 9 a.w\nmarks full\ncancel\nreplace 9 a.w\n6\n'
         + QUESTIONS + b'begin\nremove 9 a.w\nquit\n'),
     'chain': (chain(40), b'work\nreplace 83 a.w\n2\nwork\nreplace 83 a.w\n2\nwork\n'),
 }
@@ -70,10 +75,10 @@ def check(holds, name, problem):
 
 
 class Refused(Script):
-    """The answers where the edit of this number gets no memory, and the ends of the answers. A list that is committed counts as an edit more
-    than those that it holds.
+    """The answers where the edit of this number gets no memory, and the ends of the answers. A list
+    that is committed counts as an edit more than those that it holds.
 
-    spared: the numbers of what may need no memory, a setting of the marks behind another edit that is held.
+    spared: the numbers of what may need no memory, settings of the marks behind other edits in a list.
     """
 
     def __init__(self, web, script, number):
@@ -100,7 +105,8 @@ class Refused(Script):
 
 
 def wanted(web, script):
-    """The ways in which a run may end, (status, written), with what each of them lacks; and what has to be refused memory at some time."""
+    """The ways in which a run may end, (status, written), with what each of them lacks; and what
+    has to be refused memory at some time."""
     whole = Refused(web, script, 0)
     ways = {(3, whole.written[:end]): 'the end' for end in whole.ends[:-1]}
     for number in range(-whole.left, 0, -1):

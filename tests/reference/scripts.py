@@ -14,7 +14,8 @@ class WriterFailed(Exception):
 class Script:
     """Answers a script over a session.
 
-    reader_fails: the reader fails behind these bytes. room: the writer takes so many bytes and then fails.
+    reader_fails: the reader fails behind these bytes. room: the writer takes so many bytes and then
+    fails.
     """
 
     def __init__(self, session, text, reader_fails=False, room=None):
@@ -66,7 +67,8 @@ class Script:
             return b'faults %d\n' % len(faults) + b''.join(map(fault_line, faults))
         if line == b'work':
             return b'work %d\n' % self.session.last_work
-        if line in (b'begin', b'commit', b'cancel') and (line == b'begin') != (self.held is not None):
+        is_open = self.held is not None
+        if line == b'begin' and not is_open or line in (b'commit', b'cancel') and is_open:
             return self._list(line)
         return b'no BadCommand\n'
 
