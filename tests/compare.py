@@ -4,7 +4,8 @@ usage: compare.py generated STAGE CTANGLE FIRST COUNT      generated webs, by th
        compare.py short STAGE CTANGLE MOST                 short webs over small alphabets, so many of each kind
        compare.py cut STAGE CTANGLE WEB..                  webs cut after every byte
        compare.py scripts RETANGLE FIRST COUNT [--all-work]
-       compare.py edited RETANGLE WEB..                    webs edited line by line into what a cut leaves, and back
+       compare.py edited RETANGLE WEB..                    webs edited line by line into what a cut
+                                                           leaves, and back, edit by edit and as lists
 
 STAGE is front or whole. A program at front reads, scans and resolves names: the main file has the unnamed pieces
 alone, and the faults are those that need no graph of names. Whole is all that ctangle does: every output file, all
@@ -159,7 +160,8 @@ class Comparison:
                        (done.returncode, done.stdout, done.stderr))
 
     def edited(self, folder, webs):
-        """A session that is edited from a whole web into one of its cuts, and back, answers as a session started there."""
+        """A session that is edited from a whole web into one of its cuts, and back, edit by edit or by a
+        list each, answers as a session started there."""
         cuts = 0
         for web in webs:
             with open(web, 'rb') as source:
@@ -178,6 +180,9 @@ class Comparison:
         answers = b'ok\n' * len(there) + of_part.written + b'ok\n' * len(back) + of_whole.written
         self.count(name, (of_whole.status, answers, b''),
                    self.answers(folder, whole, b''.join(there) + questions + b''.join(back) + questions))
+        answers = listed(there) + of_part.written + listed(back) + of_whole.written
+        self.count(name + ', by lists', (of_whole.status, answers, b''),
+                   self.answers(folder, whole, as_list(there) + questions + as_list(back) + questions))
 
     def answers(self, folder, lines, script):
         lay(folder, [(b'a.w', lines)])
@@ -199,6 +204,15 @@ def edits_into_front(whole, part):
 def edits_into_whole(whole, part):
     edits = [b'replace %d a.w\n%s\n' % (len(part), whole[len(part) - 1])] if part else []
     return edits + [b'insert %d a.w\n%s\n' % (number, whole[number - 1]) for number in range(len(part) + 1, len(whole) + 1)]
+
+
+def as_list(edits):
+    return b'begin\n' + b''.join(edits) + b'commit\n'
+
+
+def listed(edits):
+    """What a list of these edits is answered, if it is made."""
+    return b'ok\n' + b'held\n' * len(edits) + b'ok\n'
 
 
 def questions_about(*webs):

@@ -4,8 +4,8 @@ usage: refused.py RETANGLE REFUSE TOP       REFUSE is tests/refuse.c as a librar
 
 Where a growth is refused, one edit is answered 'no NoMemory' and is not made or, in an open list,
 not held; or one list is answered 'no NoMemory 0' and none of its edits is made; and the others are
-made and answered. Or the run ends with status 3 behind an answer, or before the first one; or it did
-without that memory, and all is answered. The last line is 'N passed, M failed'.
+made and answered. Or the run ends with status 3 behind an answer, or before the first one; or it
+did without that memory, and all is answered. The last line is 'N passed, M failed'.
 """
 import os
 import subprocess
@@ -78,7 +78,7 @@ class Refused(Script):
     """The answers where the edit of this number gets no memory, and the ends of the answers. A list
     that is committed counts as an edit more than those that it holds.
 
-    spared: the numbers of what may need no memory, settings of the marks behind other edits in a list.
+    spared: the numbers of what may need no memory, settings of the marks behind an edit in a list.
     """
 
     def __init__(self, web, script, number):

@@ -202,8 +202,8 @@ def test_ends():
     for script in (b'', b'\n', b'quit', b'quit\nwork\n', b'work\nquit\ninsert 1 a.w\n',
                    b'insert 1 a.w', b'insert 1 a.w\n', b'insert 1 a.w\n\n', b'insert 1 a.w\n@ ',
                    b'replace 3 a.w\n"x\n', b'discard b.w\nshow a.c\n', b'begin', b'begin\n',
-                   b'begin\nquit', held, held + b'quit\n', held + b'quit\ncommit\n', held + b'commit',
-                   held + b'cancel', held + b'insert 1 a.w', held + b'insert 1 a.w\n',
+                   b'begin\nquit', held, held + b'quit\n', held + b'quit\ncommit\n',
+                   held + b'commit', held + b'cancel', held + b'insert 1 a.w', held + b'insert 1 a.w\n',
                    held + b'replace 3 a.w\nx\ncommit\n', held + b'commit\nbegin\nremove 3 a.w\n',
                    b'begin\nmarks none\nquit\ncommit\n'):
         check_script('ends of scripts', script, *answered(script))
@@ -255,8 +255,8 @@ def test_long_lists():
 def test_change_file():
     files = {'a.w': WEB, 'a.ch': b'@x\nint x;\n@y\nint z;\n@z\n'}
     script = (b'show a.c\ndiscard a.ch\nremove 1 a.ch\nfaults\ninsert 1 a.ch\n@x\nshow a.c\n'
-              b'begin\nreplace 2 a.ch\nint q;\nreplace 3 a.w\nint q;\nmarks none\ncommit\nshow a.c\n'
-              b'work\nbegin\nremove 1 a.ch\ndiscard a.ch\ncommit\nshow a.c\n')
+              b'begin\nreplace 2 a.ch\nint q;\nreplace 3 a.w\nint q;\nmarks none\ncommit\n'
+              b'show a.c\nwork\nbegin\nremove 1 a.ch\ndiscard a.ch\ncommit\nshow a.c\n')
     roles = Roles(b'a.w', b'a.ch', b'a.c')
     written, status, _ = run_script(Room(files), ['a', '--change', 'a'], script)
     check((written, status) == answered(script, [(b'a.ch', files['a.ch'])], roles), 'change file', '%r' % written)

@@ -235,9 +235,9 @@ def is_small(tangling):
 
 
 NO_COMMANDS = [b'', b'insert', b'insert x y', b'remove 9', b'remove 0000000001 a.w',
-               b'remove 007 a.w', b'quit ', b' work', b'create', b'create ', b'marks', b'marks bare',
-               b'marks full ', b'Begin', b'commit ', b'work\r', b'replace 1', b'insert 1  a.w', b'show', b'show ',
-               b'nonsense', b'discard a.w']
+               b'remove 007 a.w', b'quit ', b' work', b'create', b'create ', b'marks',
+               b'marks bare', b'marks full ', b'Begin', b'commit ', b'work\r', b'replace 1',
+               b'insert 1  a.w', b'show', b'show ', b'nonsense', b'discard a.w']
 
 
 def edit_lines(edit):
