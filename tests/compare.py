@@ -5,7 +5,7 @@ usage: compare.py generated STAGE CTANGLE FIRST COUNT      generated webs, by th
        compare.py cut STAGE CTANGLE WEB..                  webs cut after every byte
        compare.py scripts RETANGLE FIRST COUNT [--all-work]
        compare.py edited RETANGLE WEB..                    webs edited line by line into what a cut
-                                                           leaves, and back, edit by edit and as lists
+                                                           leaves, and back, and so by lists
 
 STAGE is front or whole. A program at front reads, scans and resolves names: the main file has the unnamed pieces
 alone, and the faults are those that need no graph of names. Whole is all that ctangle does: every output file, all
@@ -160,8 +160,8 @@ class Comparison:
                        (done.returncode, done.stdout, done.stderr))
 
     def edited(self, folder, webs):
-        """A session that is edited from a whole web into one of its cuts, and back, edit by edit or by a
-        list each, answers as a session started there."""
+        """A session that is edited from a whole web into one of its cuts, and back, edit by edit or by
+        a list each, answers as a session started there."""
         cuts = 0
         for web in webs:
             with open(web, 'rb') as source:
@@ -181,8 +181,9 @@ class Comparison:
         self.count(name, (of_whole.status, answers, b''),
                    self.answers(folder, whole, b''.join(there) + questions + b''.join(back) + questions))
         answers = listed(there) + of_part.written + listed(back) + of_whole.written
+        script = as_list(there) + questions + as_list(back) + questions
         self.count(name + ', by lists', (of_whole.status, answers, b''),
-                   self.answers(folder, whole, as_list(there) + questions + as_list(back) + questions))
+                   self.answers(folder, whole, script))
 
     def answers(self, folder, lines, script):
         lay(folder, [(b'a.w', lines)])

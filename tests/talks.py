@@ -203,7 +203,8 @@ def test_ends():
                    b'insert 1 a.w', b'insert 1 a.w\n', b'insert 1 a.w\n\n', b'insert 1 a.w\n@ ',
                    b'replace 3 a.w\n"x\n', b'discard b.w\nshow a.c\n', b'begin', b'begin\n',
                    b'begin\nquit', held, held + b'quit\n', held + b'quit\ncommit\n',
-                   held + b'commit', held + b'cancel', held + b'insert 1 a.w', held + b'insert 1 a.w\n',
+                   held + b'commit', held + b'cancel', held + b'insert 1 a.w',
+                   held + b'insert 1 a.w\n',
                    held + b'replace 3 a.w\nx\ncommit\n', held + b'commit\nbegin\nremove 3 a.w\n',
                    b'begin\nmarks none\nquit\ncommit\n'):
         check_script('ends of scripts', script, *answered(script))
