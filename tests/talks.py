@@ -24,6 +24,7 @@ from sessions import Session
 
 PATIENCE = 60           # seconds for an answer, and for a script
 SCRIPT_BYTES = 67108864
+LIST_BYTES = 10 ** 9    # what all held edits of a script fit into
 WEB = b'@ A.\n@c\nint x;\n'
 ROLES = Roles(b'a.w', None, b'a.c')
 
@@ -64,10 +65,11 @@ def send(pipe, text, size):
     pipe.close()
 
 
-def run_script(room, words, script, size=1 << 20):
-    """What is written and the status for a script that is sent in pieces of this size, without waiting."""
+def run_script(room, words, script, size=1 << 20, **options):
+    """What is written and the status for a script that is sent in pieces of this size, without
+    waiting."""
     with tempfile.TemporaryFile() as answers:
-        talk = room.start(words, stdin=subprocess.PIPE, stdout=answers)
+        talk = room.start(words, stdin=subprocess.PIPE, stdout=answers, **options)
         try:
             send(talk.stdin, script, size)
         except BrokenPipeError:
@@ -232,6 +234,19 @@ def test_longest_script():
         check((written, ended) == (b'work 1\nwork 1\n', status), 'longest script', '%r, status %d' % (written, ended))
 
 
+def test_longest_lists():
+    """The longest script holds its edits, the shortest ones and those that take most memory, in less
+    than 1 GB."""
+    def limited():
+        resource.setrlimit(resource.RLIMIT_AS, (LIST_BYTES, LIST_BYTES))
+    for held, refusal in ((b'create \n', b'BadName'), (b'insert 1 x\ny\n', b'UnknownFile')):
+        edits = (SCRIPT_BYTES - len(b'begin\ncommit\n')) // len(held)
+        script = b'begin\n' + held * edits + b'commit\n'
+        written, status, _ = run_script(Room({'a.w': WEB}), ['a'], script, preexec_fn=limited)
+        check((written, status) == (b'ok\n' + b'held\n' * edits + b'no %s 1\n' % refusal, 0),
+              'longest list', '%r .. %r, status %d' % (written[:20], written[-40:], status))
+
+
 def test_many_edits():
     script = b''.join(b'replace 3 a.w\nint x%d;\n' % (n % 7) if n % 3 else b'insert 4 a.w\n%d\nremove 4 a.w\n' % n
                       for n in range(7500)) + b'show a.c\nwork\n'
@@ -349,7 +364,7 @@ def test_words():
 def main():
     for test in (test_document, test_stored_talks, test_malformed, test_ends, test_change_file, test_words, test_failing_reader,
                  test_failing_writer, test_many_edits, test_long_lists, test_most_lines,
-                 test_long_texts, test_longest_script):
+                 test_long_texts, test_longest_script, test_longest_lists):
         test()
     print('%d passed, %d failed' % (counts[True], counts[False]))
     return 1 if counts[False] else 0
