@@ -160,8 +160,8 @@ class Comparison:
                        (done.returncode, done.stdout, done.stderr))
 
     def edited(self, folder, webs):
-        """A session that is edited from a whole web into one of its cuts, and back, edit by edit or by
-        a list each, answers as a session started there."""
+        """A session that is edited from a whole web into one of its cuts, and back, edit by edit or
+        by a list each, answers as a session started there."""
         cuts = 0
         for web in webs:
             with open(web, 'rb') as source:

@@ -235,8 +235,8 @@ def test_longest_script():
 
 
 def test_longest_lists():
-    """The longest script holds its edits, the shortest ones and those that take most memory, in less
-    than 1 GB."""
+    """The longest script holds its edits, the shortest ones and those that take most memory, in
+    less than 1 GB."""
     def limited():
         resource.setrlimit(resource.RLIMIT_AS, (LIST_BYTES, LIST_BYTES))
     for held, refusal in ((b'create \n', b'BadName'), (b'insert 1 x\ny\n', b'UnknownFile')):
