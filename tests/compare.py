@@ -3,14 +3,14 @@
 usage: compare.py generated STAGE CTANGLE FIRST COUNT      generated webs, by their seeds
        compare.py short STAGE CTANGLE MOST                 short webs over small alphabets, so many of each kind
        compare.py cut STAGE CTANGLE WEB..                  webs cut after every byte
-       compare.py scripts RETANGLE FIRST COUNT [--no-lists] [--all-work]
-       compare.py edited RETANGLE WEB..                    webs edited line by line into what a cut leaves, and back
+       compare.py scripts RETANGLE FIRST COUNT [--all-work]
+       compare.py edited RETANGLE WEB..                    webs edited line by line into what a cut
+                                                           leaves, and back, and so by lists
 
 STAGE is front or whole. A program at front reads, scans and resolves names: the main file has the unnamed pieces
 alone, and the faults are those that need no graph of names. Whole is all that ctangle does: every output file, all
 faults and the status.
 RETANGLE is a program that reads scripts.
---no-lists: retangle knows no lists of edits and no setting for line marks.
 --all-work: the last work is the number of all nodes that can be expanded.
 The last line is 'N passed, M failed'.
 """
@@ -144,14 +144,14 @@ class Comparison:
             for number in short_webs.some(kind, most):
                 self.compare_web('short web %s %d' % (kind, number), stage, short_webs.web(kind, number), folder)
 
-    def scripts(self, folder, first, count, has_lists, work):
+    def scripts(self, folder, first, count, work):
         for seed in range(first, first + count):
             project, text = generator.script(seed)
             lay(folder, project.files)
             words = ['a', '--out', os.fsdecode(project.out)] + (['--change', 'a'] if project.change else [])
             loaded = programs.load(programs.read_retangle(words), programs.Folder(folder))
             try:
-                answers = Script(Session(*loaded, work, watch), text, has_lists)
+                answers = Script(Session(*loaded, work, watch), text)
             except TooLarge:
                 print('generated script %d is too large' % seed)
                 continue
@@ -159,9 +159,9 @@ class Comparison:
             self.count('generated script %d' % seed, (answers.status, answers.written, b''),
                        (done.returncode, done.stdout, done.stderr))
 
-
     def edited(self, folder, webs):
-        """A session that is edited from a whole web into one of its cuts, and back, answers as a session started there."""
+        """A session that is edited from a whole web into one of its cuts, and back, edit by edit or
+        by a list each, answers as a session started there."""
         cuts = 0
         for web in webs:
             with open(web, 'rb') as source:
@@ -180,6 +180,10 @@ class Comparison:
         answers = b'ok\n' * len(there) + of_part.written + b'ok\n' * len(back) + of_whole.written
         self.count(name, (of_whole.status, answers, b''),
                    self.answers(folder, whole, b''.join(there) + questions + b''.join(back) + questions))
+        answers = listed(there) + of_part.written + listed(back) + of_whole.written
+        script = as_list(there) + questions + as_list(back) + questions
+        self.count(name + ', by lists', (of_whole.status, answers, b''),
+                   self.answers(folder, whole, script))
 
     def answers(self, folder, lines, script):
         lay(folder, [(b'a.w', lines)])
@@ -203,6 +207,15 @@ def edits_into_whole(whole, part):
     return edits + [b'insert %d a.w\n%s\n' % (number, whole[number - 1]) for number in range(len(part) + 1, len(whole) + 1)]
 
 
+def as_list(edits):
+    return b'begin\n' + b''.join(edits) + b'commit\n'
+
+
+def listed(edits):
+    """What a list of these edits is answered, if it is made."""
+    return b'ok\n' + b'held\n' * len(edits) + b'ok\n'
+
+
 def questions_about(*webs):
     """What is asked of each of these webs: every output file that one of them has, and the faults."""
     names = {name for web in webs for name, _ in Tangling(files_with(web), ROLES).files()}
@@ -210,7 +223,7 @@ def questions_about(*webs):
 
 
 def answers_to(script, web):
-    return Script(Session(files_with(web), ROLES), script, has_lists=False)
+    return Script(Session(files_with(web), ROLES), script)
 
 
 def files_with(lines):
@@ -243,8 +256,8 @@ def main():
         elif mode == 'generated':
             comparison.generated(folder, stage, *map(int, rest))
         else:
-            comparison.scripts(folder, *map(int, rest), '--no-lists' not in flags,
-                               'all' if '--all-work' in flags else 'affected')
+            work = 'all' if '--all-work' in flags else 'affected'
+            comparison.scripts(folder, *map(int, rest), work)
     print('%d passed, %d failed' % (comparison.passed, comparison.failed))
     return 1 if comparison.failed else 0
 

@@ -1,6 +1,7 @@
-# 4,000 generated webs (and two that are too large), short webs, webs cut after every byte, in a folder and by the edits of a session, and
-# 4,000 projects with scripts (and two that are too large), against the reference tangler. The file tests/stage says how much the built ctangle does: front or whole
-# (tests/compare.py).
+# 4,000 generated webs (and two that are too large), short webs, webs cut after every byte, in a
+# folder and by the edits of a session, and 4,000 projects with scripts (and two that are too
+# large), each of which sets the marks and has a list of edits, against the reference tangler. The
+# file tests/stage says how much the built ctangle does: front or whole (tests/compare.py).
 
 compare() { # NAME WORD..
     _name=$1
@@ -23,5 +24,5 @@ test_cuts() {
 }
 
 test_scripts() {
-    compare 'scripts' scripts "${RETANGLE:-$top/bin/retangle}" 0 4002 --no-lists
+    compare 'scripts' scripts "${RETANGLE:-$top/bin/retangle}" 0 4002
 }

@@ -47,6 +47,7 @@ use Rattle.tangle_expansion.specs.Limits.{levels}
 use Rattle.tangle_expansion.specs.Projects.{project}
 use Rattle.tangle_expansion.specs.Numbers.{numbers_of, text}
 use Rattle.tangle_expansion.specs.Outputs.{file_text}
+use Rattle.tangle_files.specs.declared.marks.MarkMode.TheVariants.{Full}
 use Rattle.tangle_graph.specs.Nodes.{title_of_node}
 use Rattle.tangle_graph.specs.Outputs.{outputs}
 
@@ -75,7 +76,7 @@ abbrev pub node_of : WebRead → Title → Node
 node_of web title = record {
   depth = depth levels (project web (table_of web)) title;
   weight = weight levels (project web (table_of web)) title;
-  text = text (numbers_of web (table_of web)) (flat levels (project web (table_of web)) title);
+  text = text (numbers_of web (table_of web) Full) (flat levels (project web (table_of web)) title);
 }
 
 -- of the nodes the first, of those that reach a name that contains itself the depth, and the output files
@@ -83,7 +84,7 @@ abbrev pub shown_of : WebRead → List ℕ → List Title → List Title → Sho
 shown_of web out nodes circular = record {
   nodes = map (node_of web) nodes;
   circular = map (depth levels (project web (table_of web))) circular;
-  files = map (λ o. record { name = o.name; bytes = file_text (numbers_of web (table_of web)) o.has_macros o.has_piece (flat levels (project web (table_of web)) (title_of_node (table_of web).names o.node)) }) (outputs web (table_of web) out);
+  files = map (λ o. record { name = o.name; bytes = file_text (numbers_of web (table_of web) Full) o.has_macros o.has_piece (flat levels (project web (table_of web)) (title_of_node (table_of web).names o.node)) }) (outputs web (table_of web) out);
 }
 
 abbrev pub shown : List (List ℕ) → List Line → List ℕ → List Title → List Title → Shown

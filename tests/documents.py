@@ -5,11 +5,13 @@ usage: documents.py [FOLDER]      the folder of the repository
 - docs/definitions.md: each definition stands in the file of specs/ beside it, each file of code is there, each promise
   is a function of the crate with that clause; each file of specs/ and each crate with one is in the map.
 - docs/promises.md: each public call of a crate that has a table there is in it.
-- docs/sessions.md, where it is: the reference answers its conversation so. README.md names each page of docs/.
+- docs/sessions.md, where it is: the reference answers its conversation so; each line of a script is
+  in its table and in docs/retangle.1. README.md names each page of docs/.
 - crates/*/must-fail and tests/wrong-bodies: each public function that is no law has an edit of its own, or of a private
   function that it calls, unless docs/wrong-bodies.md has it in a row '| `CRATE` | without an edit: `TYPE::NAME`, `NAME` |
   why |'. Each text that an edit replaces stands once in its file.
-- crates/tangle_session: work is begun once in a start and once in an edit, and output files are written in one place (ONLY_IN).
+- crates/tangle_session: work is begun once in a start, once in an edit and once in a list of edits,
+  and output files are written in one place (ONLY_IN).
 The last line is 'N passed, M failed'.
 """
 import os
@@ -25,9 +27,11 @@ DEFINITION = r'^ *(?:(?:abbrev|unfoldable) )?pub (?:record |data )?%s(?: |$)'
 FUNCTION = re.compile(r'^\s*(pub |pub\(crate\) )?(?:const )?fn (\w+)', re.M)
 CODED = re.compile(r'`([^`]+)`')
 
-# What the code of a crate calls, and the functions in which it stands, once in each: a session begins one work in a start and one in an
-# edit, and so last_work() counts all that was expanded for it. It writes texts by the one call that writes a file.
-ONLY_IN = {'tangle_session': {'Work::new': {'start', 'apply'}, 'write_file': {'write_output'}, 'write_text': set()}}
+# What the code of a crate calls, and the functions that call it, once in each: a session begins one
+# work in a start, one in an edit and one in a list of edits, and so last_work() counts all that was
+# expanded for it. It writes texts by the one call that writes a file.
+ONLY_IN = {'tangle_session': {'Work::new': {'start', 'apply', 'apply_all'},
+                              'write_file': {'write_output'}, 'write_text': set()}}
 
 counts = {True: 0, False: 0}
 
@@ -117,8 +121,24 @@ def check_conversation(top):
     typed = ''.join(line[2:] for line in lines if line.startswith('> '))
     answered = ''.join(line for line in lines if not line.startswith('> '))
     session = Session(add([], b'a.w', web.encode()), Roles(b'a.w', None, b'a.c'))
-    done = Script(session, typed.encode(), has_lists=False)
+    done = Script(session, typed.encode())
     check(done.written == answered.encode(), 'docs/sessions.md', 'another conversation')
+
+
+def check_commands(crates, top):
+    """Each line of a script, by the table of specs/, is a row of docs/sessions.md and an entry of
+    docs/retangle.1."""
+    table = crates['tangle_script'].specs['Table.antt']
+    commands = {word.strip() for word in re.findall(r'^IsRow c .*?codes "([^"]+)"', table, re.M)}
+    with open(os.path.join(top, 'docs', 'sessions.md'), encoding='utf-8') as source:
+        first_cells = ' '.join(re.findall(r'^\|([^|]*)\|', source.read(), re.M))
+    rows = {re.match(r'[a-z ]*', word).group().strip() for word in CODED.findall(first_cells)}
+    with open(os.path.join(top, 'docs', 'retangle.1'), encoding='utf-8') as source:
+        entries = set(re.findall(r'^\.TP\n\.BI? ([a-z ]*[a-z])', source.read(), re.M))
+    check(commands, 'specs/Table.antt', 'no line of a script is found')
+    for command in sorted(commands):
+        check(command in rows, 'docs/sessions.md', '%s is in no table' % command)
+        check(command in entries, 'docs/retangle.1', '%s has no entry' % command)
 
 
 def check_readme(top):
@@ -244,6 +264,7 @@ def main():
     with open(os.path.join(top, 'docs', 'definitions.md'), encoding='utf-8') as source:
         check_map(crates, source.read())
     check_conversation(top)
+    check_commands(crates, top)
     check_readme(top)
     with open(os.path.join(top, 'docs', 'promises.md'), encoding='utf-8') as source:
         parts = re.split(r'^## `(\w+)`.*$', source.read(), flags=re.M)

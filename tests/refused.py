@@ -2,9 +2,10 @@
 
 usage: refused.py RETANGLE REFUSE TOP       REFUSE is tests/refuse.c as a library, TOP the folder of the repository
 
-Where a growth is refused, one edit is answered 'no NoMemory' and not made, and the others are made and answered; or the run ends with
-status 3 behind an answer, or before the first one; or it did without that memory, and all is answered. The last line is
-'N passed, M failed'.
+Where a growth is refused, one edit is answered 'no NoMemory' and is not made or, in an open list,
+not held; or one list is answered 'no NoMemory 0' and none of its edits is made; and the others are
+made and answered. Or the run ends with status 3 behind an answer, or before the first one; or it
+did without that memory, and all is answered. The last line is 'N passed, M failed'.
 """
 import os
 import subprocess
@@ -30,8 +31,9 @@ def chain(count):
     return b'@ P.\n@c\n@<k0001@>\n' + b''.join(names) + b'@ @<k%04d@>=\n1\n' % count
 
 
-# Webs with scripts in which every kind of command stands: an abbreviation of one name and then of two, names that use each other and a named
-# file, two names of which one uses others below, and a chain of names.
+# Webs with scripts that have every kind of command: an abbreviation of one name and then of two,
+# names that use each other and a named file, two names of which one uses others below, line marks
+# that are set, lists that are made, refused and cancelled, and a chain of names.
 TALKS = {
     'abbreviation': (
         b'@ A.\n@c\n@<Ini...@>\n@ @<Initialize@>=\nx=0;\n',
@@ -46,6 +48,18 @@ TALKS = {
         b'@ P.\n@c\n@<A@>@<S@>\n@ @<A@>=\n@<B@>\n@ @<B@>=\n@<C@>\n@ @<C@>=\n1\n@ @<S@>=\n2\n',
         b'work\nreplace 9 a.w\n3\n' + QUESTIONS + b'replace 9 a.w\n3\n' + QUESTIONS + b'insert 10 a.w\n4\n' + QUESTIONS
         + b'remove 12 a.w\n' + QUESTIONS + FILE_COMES_AND_GOES),
+    'marks': (
+        b'@ A.\n@c\nint x=@<v@>;\n@ @<v@>=\n1\n',
+        b'marks none\n' + QUESTIONS + b'insert 1 a.w\n% top\n' + QUESTIONS + b'marks none\nwork\n'
+        b'marks full\n' + QUESTIONS),
+    'lists': (
+        b'@ P.\n@c\n@<A@>@<S@>\n@ @<A@>=\n@<B@>\n@ @<B@>=\n@<C@>\n@ @<C@>=\n1\n@ @<S@>=\n2\n',
+        b'begin\nreplace 9 a.w\n3\ninsert 10 a.w\n4\n' + QUESTIONS + b'commit\n' + QUESTIONS
+        + b'commit\nbegin\nmarks none\nreplace 9 a.w\n5\ncommit\n' + QUESTIONS
+        + b'begin\nremove 10 a.w\nremove 99 a.w\ncommit\n' + QUESTIONS
+        + b'begin\ncommit\nwork\nbegin\ncreate b.w\ninsert 1 b.w\nz\ndiscard a.w\ncommit\n'
+        b'remove 1 b.w\nbegin\nremove 9 a.w\nremove 9 a.w\nmarks full\ncancel\nreplace 9 a.w\n6\n'
+        + QUESTIONS + b'begin\nremove 9 a.w\nquit\n'),
     'chain': (chain(40), b'work\nreplace 83 a.w\n2\nwork\nreplace 83 a.w\n2\nwork\n'),
 }
 FEWER = 41              # the first edit of the chain expands so many nodes, and the second one none
@@ -61,15 +75,29 @@ def check(holds, name, problem):
 
 
 class Refused(Script):
-    """The answers where the edit of this number gets no memory, and the ends of the answers."""
+    """The answers where the edit of this number gets no memory, and the ends of the answers. A list
+    that is committed counts as an edit more than those that it holds.
+
+    spared: the numbers of what may need no memory, settings of the marks behind an edit in a list.
+    """
 
     def __init__(self, web, script, number):
-        self.left, self.ends = number, [0]
-        super().__init__(Session(add([], b'a.w', web), Roles(b'a.w', None, b'a.c')), script, has_lists=False)
+        self.left, self.ends, self.spared = number, [0], set()
+        super().__init__(Session(add([], b'a.w', web), Roles(b'a.w', None, b'a.c')), script)
 
     def _take(self, edit):
         self.left -= 1
+        if edit[0] == 'marks' and self.held:
+            self.spared.add(-self.left)
         return b'no NoMemory\n' if self.left == 0 else super()._take(edit)
+
+    def _list(self, line):
+        if line == b'commit':
+            self.left -= 1
+            if self.left == 0:
+                self.held = None
+                return b'no NoMemory 0\n'
+        return super()._list(line)
 
     def _put(self, text):
         super()._put(text)
@@ -77,14 +105,16 @@ class Refused(Script):
 
 
 def wanted(web, script):
-    """The ways in which a run may end, (status, written), and what each of them lacks."""
+    """The ways in which a run may end, (status, written), with what each of them lacks; and what
+    has to be refused memory at some time."""
     whole = Refused(web, script, 0)
     ways = {(3, whole.written[:end]): 'the end' for end in whole.ends[:-1]}
     for number in range(-whole.left, 0, -1):
         refused = Refused(web, script, number)
         ways[refused.status, refused.written] = 'edit %d' % number
     ways[whole.status, whole.written] = 'nothing'
-    return ways
+    spared = {'edit %d' % number for number in whole.spared}
+    return ways, [way for way in ways.values() if way.startswith('edit') and way not in spared]
 
 
 def run(folder, script, growth, told):
@@ -94,7 +124,7 @@ def run(folder, script, growth, told):
 
 def refuse_each(name, web, script, room):
     """Refuses each growth in turn: how many runs lack what."""
-    ways, met = wanted(web, script), {}
+    (ways, edits), met = wanted(web, script), {}
     folder, told = os.path.join(room, 'folder'), os.path.join(room, 'told')
     os.makedirs(folder, exist_ok=True)
     with open(os.path.join(folder, 'a.w'), 'wb') as file:
@@ -110,10 +140,9 @@ def refuse_each(name, web, script, room):
               'growth %d refused: status %d, %r, %r' % (growth, done.returncode, done.stdout, done.stderr))
         met[way] = met.get(way, 0) + 1
     check(way == 'nothing', name, 'without a refusal: status %d, %r' % (done.returncode, done.stdout))
-    edits = [way for way in ways.values() if way.startswith('edit')]
     for edit in edits:
         check(edit in met, name, 'no run was refused memory for %s' % edit)
-    print('%s: of %d growths that were refused %d ended the run, %d left an edit out'
+    print('%s: of %d growths that were refused %d ended the run, %d left an edit or a list out'
           % (name, growth - 1, met.get('the end', 0), sum(met.get(edit, 0) for edit in edits)))
     return met
 

@@ -24,6 +24,7 @@ from sessions import Session
 
 PATIENCE = 60           # seconds for an answer, and for a script
 SCRIPT_BYTES = 67108864
+LIST_BYTES = 10 ** 9    # what all held edits of a script fit into
 WEB = b'@ A.\n@c\nint x;\n'
 ROLES = Roles(b'a.w', None, b'a.c')
 
@@ -64,10 +65,11 @@ def send(pipe, text, size):
     pipe.close()
 
 
-def run_script(room, words, script, size=1 << 20):
-    """What is written and the status for a script that is sent in pieces of this size, without waiting."""
+def run_script(room, words, script, size=1 << 20, **options):
+    """What is written and the status for a script that is sent in pieces of this size, without
+    waiting."""
     with tempfile.TemporaryFile() as answers:
-        talk = room.start(words, stdin=subprocess.PIPE, stdout=answers)
+        talk = room.start(words, stdin=subprocess.PIPE, stdout=answers, **options)
         try:
             send(talk.stdin, script, size)
         except BrokenPipeError:
@@ -146,8 +148,16 @@ def answered(script, files=(), roles=ROLES):
     table = []
     for name, text in [(b'a.w', WEB)] + list(files):
         table = add(table, name, text)
-    done = Script(Session(table, roles), script, has_lists=False)
+    done = Script(Session(table, roles), script)
     return done.written, done.status
+
+
+def check_script(name, script, wanted, status=0, files=None, size=1 << 20):
+    """What is written for a script over these files, the web of one piece if none are given."""
+    written, ended, _ = run_script(Room(files or {'a.w': WEB}), ['a'], script, size)
+    check((written, ended) == (wanted, status), name,
+          'to %r, in pieces of %d, the answer is %r, status %d'
+          % (script[-100:], size, written[-200:], ended))
 
 
 MALFORMED = [
@@ -159,31 +169,47 @@ MALFORMED = [
     b'create', b'create ', b'create a.w', b'create ' + b'x' * 255, b'create ' + b'x' * 256, b'create  b', b'create b\xff\x00',
     b'discard', b'discard ', b'discard a.w', b'discard zz', b'discard b\xff\x00',
     b'show', b'show ', b'show zz', b'show a.c ', b'show  a.c', b'show a.c',
-    b'faults ', b'faults 1', b'work ', b'work 1', b'Work', b'quit ', b'quit 1', b'begin', b'commit', b'cancel', b'marks full',
-    b'\x00', b'\xff\xfe', b'\r', b'work\r', b' ', b'', b'x' * 100000,
+    b'faults ', b'faults 1', b'work ', b'work 1', b'Work', b'quit ', b'quit 1', b'begin ', b'Begin',
+    b'begin 1', b' begin', b'commit ', b'Commit', b'commit 1', b'cancel ', b'Cancel', b'marks',
+    b'marks ', b'marks bare', b'marks full ', b'Marks full', b'marks  none', b'marks none ',
+    b'marks\tfull', b'marks full\r', b'marksfull', b'mark full', b'marks nonefull', b'marks full',
+    b'commit', b'cancel', b'\x00', b'\xff\xfe', b'\r', b'work\r', b' ', b'', b'x' * 100000,
 ]
 
 
-def test_malformed():
+def malformed(lines):
     script = b''
-    for line in MALFORMED:
+    for line in lines:
         script += line + b'\n'
         if line.startswith((b'insert ', b'replace ')):
             script += b'@ \n'
-    script += b'show a.c\nfaults\nwork\n'
-    for size in (1, 5, 4095, 4096, 4097, 1 << 20):
-        written, status, _ = run_script(Room({'a.w': WEB}), ['a'], script, size)
-        check((written, status) == answered(script), 'malformed lines', 'in pieces of %d: %r' % (size, written))
-    for line in MALFORMED:                      # each as the last line, which nothing ends
-        written, status, _ = run_script(Room({'a.w': WEB}), ['a'], b'work\n' + line)
-        check((written, status) == answered(b'work\n' + line), 'malformed last line', '%r: %r' % (line[:40], written))
+    return script
+
+
+def test_malformed():
+    questions = b'show a.c\nfaults\nwork\n'
+    in_a_list = malformed(line for line in MALFORMED if line not in (b'commit', b'cancel'))
+    in_a_list = b'begin\n' + in_a_list + questions + b'commit\n' + questions
+    for name, script in (('malformed lines', malformed(MALFORMED) + questions),
+                         ('malformed lines in an open list', in_a_list)):
+        for size in (1, 5, 4095, 4096, 4097, 1 << 20):
+            check_script(name, script, *answered(script), size=size)
+    for before in (b'work\n', b'begin\n'):
+        for line in MALFORMED:                  # each as the last line, which nothing ends
+            check_script('malformed last line', before + line, *answered(before + line))
 
 
 def test_ends():
-    for script in (b'', b'\n', b'quit', b'quit\nwork\n', b'work\nquit\ninsert 1 a.w\n', b'insert 1 a.w', b'insert 1 a.w\n',
-                   b'insert 1 a.w\n\n', b'insert 1 a.w\n@ ', b'replace 3 a.w\n"x\n', b'discard b.w\nshow a.c\n'):
-        written, status, _ = run_script(Room({'a.w': WEB}), ['a'], script)
-        check((written, status) == answered(script), 'ends of scripts', '%r: %r, status %d' % (script, written, status))
+    held = b'begin\nreplace 3 a.w\n"x\n'         # an error, once it is made
+    for script in (b'', b'\n', b'quit', b'quit\nwork\n', b'work\nquit\ninsert 1 a.w\n',
+                   b'insert 1 a.w', b'insert 1 a.w\n', b'insert 1 a.w\n\n', b'insert 1 a.w\n@ ',
+                   b'replace 3 a.w\n"x\n', b'discard b.w\nshow a.c\n', b'begin', b'begin\n',
+                   b'begin\nquit', held, held + b'quit\n', held + b'quit\ncommit\n',
+                   held + b'commit', held + b'cancel', held + b'insert 1 a.w',
+                   held + b'insert 1 a.w\n',
+                   held + b'replace 3 a.w\nx\ncommit\n', held + b'commit\nbegin\nremove 3 a.w\n',
+                   b'begin\nmarks none\nquit\ncommit\n'):
+        check_script('ends of scripts', script, *answered(script))
 
 
 def test_long_texts():
@@ -197,6 +223,8 @@ def test_long_texts():
     fits = b'replace 3 a.w\n' + b'x' * 65535 + b'\nreplace 3 a.w\n' + b'x' * 65535 + b'   \nreplace 3 a.w\n' + b'x' * 65536 + b'\n'
     written, status, _ = run_script(Room({'a.w': WEB}), ['a'], fits)
     check((written, status) == (b'ok\nok\nno LineTooLong\n', 0), 'texts at the limit', '%r' % written)
+    check_script('texts at the limit, in a list', b'begin\n' + fits + b'commit\nwork\n',
+                 b'ok\nheld\nheld\nheld\nno LineTooLong 3\nwork 1\n')
 
 
 def test_longest_script():
@@ -204,6 +232,19 @@ def test_longest_script():
     for more, status in ((b'', 0), (b'\n', 3), (b'work\n', 3)):
         written, ended, _ = run_script(Room({'a.w': WEB}), ['a'], whole + more)
         check((written, ended) == (b'work 1\nwork 1\n', status), 'longest script', '%r, status %d' % (written, ended))
+
+
+def test_longest_lists():
+    """The longest script holds its edits, the shortest ones and those that take most memory, in
+    less than 1 GB."""
+    def limited():
+        resource.setrlimit(resource.RLIMIT_AS, (LIST_BYTES, LIST_BYTES))
+    for held, refusal in ((b'create \n', b'BadName'), (b'insert 1 x\ny\n', b'UnknownFile')):
+        edits = (SCRIPT_BYTES - len(b'begin\ncommit\n')) // len(held)
+        script = b'begin\n' + held * edits + b'commit\n'
+        written, status, _ = run_script(Room({'a.w': WEB}), ['a'], script, preexec_fn=limited)
+        check((written, status) == (b'ok\n' + b'held\n' * edits + b'no %s 1\n' % refusal, 0),
+              'longest list', '%r .. %r, status %d' % (written[:20], written[-40:], status))
 
 
 def test_many_edits():
@@ -215,9 +256,23 @@ def test_many_edits():
           '%r' % written[-100:])
 
 
+def test_long_lists():
+    """A list of ten thousand edits is made, and is refused as a whole where the last one is; so is
+    a list of one file too many."""
+    edits = b''.join(b'insert 3 a.w\nint x%d;\n' % n for n in range(9999))
+    for last in (b'replace 3 a.w\nint y;\n', b'remove 10003 a.w\n'):
+        script = b'begin\n' + edits + last + b'commit\nshow a.c\nwork\n'
+        check_script('a list of ten thousand edits', script, *answered(script))
+    files = b''.join(b'create f%d\n' % n for n in range(256)) + b'insert 1 zz\nx\n'
+    check_script('a list of 256 files', b'begin\n' + files + b'commit\nremove 1 f0\n',
+                 b'ok\n' + b'held\n' * 257 + b'no TooManyFiles 256\nno UnknownFile\n')
+
+
 def test_change_file():
     files = {'a.w': WEB, 'a.ch': b'@x\nint x;\n@y\nint z;\n@z\n'}
-    script = b'show a.c\ndiscard a.ch\nremove 1 a.ch\nfaults\ninsert 1 a.ch\n@x\nshow a.c\n'
+    script = (b'show a.c\ndiscard a.ch\nremove 1 a.ch\nfaults\ninsert 1 a.ch\n@x\nshow a.c\n'
+              b'begin\nreplace 2 a.ch\nint q;\nreplace 3 a.w\nint q;\nmarks none\ncommit\n'
+              b'show a.c\nwork\nbegin\nremove 1 a.ch\ndiscard a.ch\ncommit\nshow a.c\n')
     roles = Roles(b'a.w', b'a.ch', b'a.c')
     written, status, _ = run_script(Room(files), ['a', '--change', 'a'], script)
     check((written, status) == answered(script, [(b'a.ch', files['a.ch'])], roles), 'change file', '%r' % written)
@@ -226,30 +281,36 @@ def test_change_file():
 def test_most_lines():
     files = {'a.w': WEB + b'@i b.w\n', 'b.w': b'\n' * 999999}
     script = (b'insert 1 b.w\nx\ninsert 1 b.w\ny\nremove 1 b.w\ninsert 1000000 b.w\nz\nreplace 1000000 b.w\nw\n'
-              b'insert 1 b.w\nv\nfaults\nquit\n')
-    written, status, _ = run_script(Room(files), ['a'], script)
-    check((written, status) == (b'ok\nno TooManyLines\nok\nok\nok\nno TooManyLines\nfaults 0\nok\n', 0), 'a million lines',
-          '%r, status %d' % (written, status))
+              b'insert 1 b.w\nv\nbegin\nremove 1 b.w\ninsert 1 b.w\nu\ninsert 1 b.w\nt\ncommit\n'
+              b'faults\nquit\n')
+    check_script('a million lines', script,
+                 b'ok\nno TooManyLines\nok\nok\nok\nno TooManyLines\nok\nheld\nheld\nheld\n'
+                 b'no TooManyLines 3\nfaults 0\nok\n', files=files)
 
 
 # ------------------------------------------------------------------ streams that fail
 
 def test_failing_reader():
-    """The reader fails in mid-line: what was ended is answered, and the rest is not carried out."""
-    for rest in (b'repl', b'insert 1 a.w\n% half'):
+    """The reader fails in mid-line: what was ended is answered, and the rest is not carried out; an
+    open list is dropped."""
+    for rest, more in ((b'repl', b''), (b'insert 1 a.w\n% half', b''),
+                       (b'begin\nreplace 3 a.w\nint y;\ncommi', b'ok\nheld\n')):
         server = socket.create_server(('127.0.0.1', 0))
         here = socket.create_connection(server.getsockname())
         there, _ = server.accept()
         talk = Room({'a.w': WEB}).start(['a'], stdin=there, stdout=subprocess.PIPE)
         there.close()
         here.sendall(b'work\n' + rest)
-        got = read_within(talk.stdout, time.monotonic() + PATIENCE)
+        got, end = b'', time.monotonic() + PATIENCE
+        while len(got) < len(b'work 1\n' + more) and time.monotonic() < end:
+            got += read_within(talk.stdout, end)
         time.sleep(0.2)
         here.setsockopt(socket.SOL_SOCKET, socket.SO_LINGER, b'\1\0\0\0\0\0\0\0')      # to close is to reset
         here.close()
         server.close()
         status = talk.wait(PATIENCE)
-        check((got + talk.stdout.read(), status) == (b'work 1\n', 3), 'failing reader', '%r: status %d' % (rest, status))
+        check((got + talk.stdout.read(), status) == (b'work 1\n' + more, 3), 'failing reader',
+              '%r: status %d' % (rest, status))
     folder = os.open('/', os.O_RDONLY)
     talk = Room({'a.w': WEB}).start(['a'], stdin=folder, stdout=subprocess.PIPE)
     os.close(folder)
@@ -258,7 +319,9 @@ def test_failing_reader():
 
 def test_failing_writer():
     """The writer fails at each byte of the answers: what went out is the front of them, and the status is 3."""
-    script = b'work\nreplace 3 a.w\nint y;\nshow a.c\nshow b\nfaults\nquit\n'
+    script = (b'work\nreplace 3 a.w\nint y;\nshow a.c\nshow b\nfaults\nmarks none\nbegin\n'
+              b'remove 9 a.w\nwork\ncommit\nbegin\nreplace 3 a.w\nint z;\ncommit\nshow a.c\nbegin\n'
+              b'cancel\nquit\n')
     whole, _ = answered(script)
     for room in range(len(whole)):
         def limited():
@@ -300,7 +363,8 @@ def test_words():
 
 def main():
     for test in (test_document, test_stored_talks, test_malformed, test_ends, test_change_file, test_words, test_failing_reader,
-                 test_failing_writer, test_many_edits, test_most_lines, test_long_texts, test_longest_script):
+                 test_failing_writer, test_many_edits, test_long_lists, test_most_lines,
+                 test_long_texts, test_longest_script, test_longest_lists):
         test()
     print('%d passed, %d failed' % (counts[True], counts[False]))
     return 1 if counts[False] else 0

@@ -234,9 +234,10 @@ def is_small(tangling):
     return len(tangling.source) <= MOST_LINES and tangling.size() <= MOST_BYTES
 
 
-NO_COMMANDS = [b'', b'insert', b'insert x y', b'remove 9', b'remove 0000000001 a.w', b'remove 007 a.w', b'quit ', b' work',
-               b'create', b'create ', b'marks', b'marks bare', b'work\r', b'replace 1', b'insert 1  a.w', b'show', b'show ',
-               b'nonsense', b'discard a.w']
+NO_COMMANDS = [b'', b'insert', b'insert x y', b'remove 9', b'remove 0000000001 a.w',
+               b'remove 007 a.w', b'quit ', b' work', b'create', b'create ', b'marks',
+               b'marks bare', b'marks full ', b'Begin', b'commit ', b'work\r', b'replace 1',
+               b'insert 1  a.w', b'show', b'show ', b'nonsense', b'discard a.w']
 
 
 def edit_lines(edit):
@@ -250,11 +251,41 @@ def edit_lines(edit):
     return [kind + b' ' + edit[1]]
 
 
+def likely_edit(chance):
+    """An edit of the web that can be made, unless few lines are left of it, or of the marks."""
+    drawn, at = chance.random(), chance.randint(1, 6)
+    if drawn < .2:
+        return 'marks', chance.choice(['full', 'bare', 'bare'])
+    if drawn < .35:
+        return 'remove', b'a.w', at
+    text = clean(chance.choice(section(chance, chance.random() < .5)))
+    return 'insert' if drawn < .6 else 'replace', b'a.w', at, text
+
+
+def list_lines(chance):
+    """A setting of the marks, a list of one to five edits that is made, refused or cancelled, and
+    what is asked then."""
+    edits = [likely_edit(chance) for _ in range(chance.randint(1, 4))]
+    if chance.random() < .25:
+        edits.insert(chance.randint(0, len(edits)), ('remove', b'a.w', 999))
+    lines = edit_lines(('marks', chance.choice(['full', 'bare']))) + [b'begin']
+    for edit in edits:
+        lines += edit_lines(edit)
+        if chance.random() < .15:
+            lines.append(chance.choice([b'work', b'faults', b'show a.c', b'begin', b'']))
+    return lines + [b'cancel' if chance.random() < .1 else b'commit', b'work', b'show a.c']
+
+
 def script(seed, edits=12):
-    """A project and a script of retangle: edits, lists of edits, questions, lines that are no command."""
+    """A project and a script of retangle: edits, lists of edits, questions, lines that are no
+    command. Each script sets the marks and has a list."""
     project, chance = Project(seed, edits), random.Random(seed * 7 + 1)
+    lists = random.Random(seed * 11 + 5)
+    place = lists.randrange(edits)
     lines, names = [], [name for name, _ in project.files] + [b'h.h', b'a.c', b'x@y']
-    for edit in project.edits:
+    for number, edit in enumerate(project.edits):
+        if number == place:
+            lines += list_lines(lists)
         if chance.random() < .10:
             lines.append(chance.choice([b'begin', b'begin', b'commit', b'cancel']))
         lines += edit_lines(edit)

@@ -14,12 +14,12 @@ class WriterFailed(Exception):
 class Script:
     """Answers a script over a session.
 
-    has_lists: it knows lists of edits and the setting for line marks. reader_fails: the reader fails behind these
-    bytes. room: the writer takes so many bytes and then fails.
+    reader_fails: the reader fails behind these bytes. room: the writer takes so many bytes and then
+    fails.
     """
 
-    def __init__(self, session, text, has_lists=True, reader_fails=False, room=None):
-        self.session, self.has_lists, self.room = session, has_lists, room
+    def __init__(self, session, text, reader_fails=False, room=None):
+        self.session, self.room = session, room
         self.is_broken = reader_fails or len(text) > limits.FILE_BYTES
         self.ahead = text[:limits.FILE_BYTES].split(b'\n')[::-1]    # the next line stands last
         if self.is_broken or self.ahead[0] == b'':
@@ -67,7 +67,8 @@ class Script:
             return b'faults %d\n' % len(faults) + b''.join(map(fault_line, faults))
         if line == b'work':
             return b'work %d\n' % self.session.last_work
-        if self.has_lists and (line == b'begin') != (self.held is not None) and line in (b'begin', b'commit', b'cancel'):
+        is_open = self.held is not None
+        if line == b'begin' and not is_open or line in (b'commit', b'cancel') and is_open:
             return self._list(line)
         return b'no BadCommand\n'
 
@@ -80,7 +81,7 @@ class Script:
             return (word.decode(), address.group(2), int(address.group(1))) + (() if text is None else (text,))
         if word in (b'create', b'discard') and line != word:
             return word.decode(), rest
-        if self.has_lists and line in (b'marks full', b'marks none'):
+        if line in (b'marks full', b'marks none'):
             return 'marks', 'full' if rest == b'full' else 'bare'
         return None
 

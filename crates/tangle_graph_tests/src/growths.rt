@@ -6,7 +6,7 @@ use crate::tangling::tangle_web;
 use std::alloc::Global;
 use std::process::Abort;
 use std::test::Fail;
-use tangle_lines::NoMemory;
+use tangle_lines::{MarkMode, NoMemory};
 use tangle_names::NameTable;
 use tangle_scan::{Web, scan};
 use tangle_test_support::{end_refusals, files_with, read, refuse_growth};
@@ -18,7 +18,7 @@ fn count_outputs(
 ) -> Result<(usize, usize, u64), NoMemory>
     requires { table.now ≡ table_of web.now }
 {
-    let tangled = tangle_web(alloc, web, table)?;
+    let tangled = tangle_web(alloc, web, table, MarkMode::Full)?;
     let store = &tangled.store;
     Ok((
         store.outputs().len(),

@@ -1,14 +1,14 @@
 //! The output files of webs, and how many nodes were expanded for them.
 ghost use Rattle.tangle_graph_tests.specs.Keeping.{KeepsWritable};
 
-use crate::tangling::{Tangled, tangle, write_output};
+use crate::tangling::{Tangled, tangle, tangle_with, write_output};
 use std::alloc::Global;
 use std::io::{self, Write};
 use std::process::Abort;
 use std::test::Fail;
 use tangle_expansion::Output;
 use tangle_folders::MemorySink;
-use tangle_lines::{IoSink, WriteFault, put};
+use tangle_lines::{IoSink, MarkMode, WriteFault, put};
 use tangle_test_support::{DOUBLING_FILE, doubling};
 
 // Room for all that a test writes.
@@ -119,6 +119,38 @@ fn check_outputs(
 fn outputs_of_webs(rt: HostRuntime) -> Result<(), Fail> {
     for (text, files, made) in &WEBS {
         check_outputs(&rt, rt.alloc(), text, files, *made)?;
+    }
+    Ok(())
+}
+
+// Webs, with their output files where each mark is a line feed: marks of a piece and behind a use,
+// behind a join, and behind macros.
+const BARE: [(&[u8], &[u8]); 3] = [
+    (
+        b"@ A.\n@c\nint x=@<v@>;\n@ @<v@>=\n1\n",
+        b"a.c\n/*1:*/\n\nint x= /*2:*/\n\n1\n/*:2*/\n;\n/*:1*/\n",
+    ),
+    (
+        b"@ A.\n@c\na@&\nb;\nc;\n",
+        b"a.c\n/*1:*/\n\nab;\nc;\n/*:1*/\n",
+    ),
+    (
+        b"@ A.\n@d N 10\n@c\n@h\nint x=N;\n",
+        b"a.c\n/*1:*/\n\n\n#define N 10\n\n\nint x=N;\n/*:1*/\n",
+    ),
+];
+
+// The web with this text has these output files where each mark is a line feed.
+fn check_bare(rt: &impl Abort, alloc: Global, text: &[u8], files: &[u8]) -> Result<(), Fail> {
+    let tangled = tangle_with(alloc, text, MarkMode::Bare)?;
+    assert!(rt; list_outputs(alloc, &tangled)?.bytes() == files);
+    Ok(())
+}
+
+#[test]
+fn outputs_with_bare_marks(rt: HostRuntime) -> Result<(), Fail> {
+    for (text, files) in &BARE {
+        check_bare(&rt, rt.alloc(), text, files)?;
     }
     Ok(())
 }

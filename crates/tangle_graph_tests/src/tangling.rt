@@ -13,7 +13,7 @@ use tangle_expansion::{
     Kept, Numbers, Output, Work, expandable_nodes_are_light, file_size, write_file,
 };
 use tangle_graph::Store;
-use tangle_lines::{NoMemory, Sink, Source, WriteFault};
+use tangle_lines::{MarkMode, NoMemory, Sink, Source, WriteFault};
 use tangle_names::NameTable;
 use tangle_scan::{Web, scan};
 use tangle_test_support::{files_with, read};
@@ -36,13 +36,18 @@ fn expand_writable(alloc: Global, store: &Store, work: &mut Work) -> Result<Kept
     Ok(expand_all(alloc, store, work)?)
 }
 
-/// Tangles a web, for the main file `a.c`.
-pub(crate) fn tangle_web(alloc: Global, web: &Web, table: &NameTable) -> Result<Tangled, NoMemory>
+/// Tangles a web, for the main file `a.c`, with line marks that are written so.
+pub(crate) fn tangle_web(
+    alloc: Global,
+    web: &Web,
+    table: &NameTable,
+    marks: MarkMode,
+) -> Result<Tangled, NoMemory>
     requires { table.now ≡ table_of web.now }
     ensures { IfOk result (λ tangled. KeepsWritable tangled.store tangled.kept) }
 {
     let store = Store::build(alloc, web, table, b"a.c")?;
-    let numbers = Numbers::build(alloc, web, &store)?;
+    let numbers = Numbers::build(alloc, web, &store, marks)?;
     let mut work = Work::new(alloc);
     let kept = expand_writable(alloc, &store, &mut work)?;
     Ok(Tangled {
@@ -53,22 +58,29 @@ pub(crate) fn tangle_web(alloc: Global, web: &Web, table: &NameTable) -> Result<
     })
 }
 
-/// Tangles a source, for the main file `a.c`.
-fn tangle_source(alloc: Global, source: &Source) -> Result<Tangled, NoMemory>
+// Tangles a source, for the main file `a.c`.
+fn tangle_source(alloc: Global, source: &Source, marks: MarkMode) -> Result<Tangled, NoMemory>
     ensures { IfOk result (λ tangled. KeepsWritable tangled.store tangled.kept) }
 {
     let web = scan(alloc, source)?;
     let table = NameTable::build(alloc, &web)?;
-    tangle_web(alloc, &web, &table)
+    tangle_web(alloc, &web, &table, marks)
+}
+
+/// Tangles the web with this text, for the main file `a.c`, with line marks that are written so.
+pub(crate) fn tangle_with(alloc: Global, text: &[u8], marks: MarkMode) -> Result<Tangled, Fail>
+    ensures { IfOk result (λ tangled. KeepsWritable tangled.store tangled.kept) }
+{
+    let files = files_with(alloc, &[(b"a.w", text)])?;
+    let source = read(alloc, &files, None)?;
+    Ok(tangle_source(alloc, &source, marks)?)
 }
 
 /// Tangles the web with this text, for the main file `a.c`.
 pub(crate) fn tangle(alloc: Global, text: &[u8]) -> Result<Tangled, Fail>
     ensures { IfOk result (λ tangled. KeepsWritable tangled.store tangled.kept) }
 {
-    let files = files_with(alloc, &[(b"a.w", text)])?;
-    let source = read(alloc, &files, None)?;
-    Ok(tangle_source(alloc, &source)?)
+    tangle_with(alloc, text, MarkMode::Full)
 }
 
 /// Whether the output can be written: its node has an expansion, if it has a piece.

@@ -123,8 +123,9 @@ fn a_long_text_with_a_line_feed(rt: HostRuntime) -> Result<(), Fail> {
 }
 
 // Edits that are made of the two files in turn, and all files behind each: insertions behind the last line and before the first, a
-// replacement, a removal, a new file, one that is discarded, and a line that comes and goes.
-const MADE: [(Request<'static>, &[Content]); 8] = [
+// replacement, a removal, a new file, one that is discarded, a line that comes and goes, and how
+// line marks are written, which changes no file.
+const MADE: [(Request<'static>, &[Content]); 10] = [
     (
         (Kind::Insert, b"b.w", 3, b"% end  "),
         &[WEB, (b"b.w", &[b"b", b"c", b"% end"])],
@@ -155,6 +156,14 @@ const MADE: [(Request<'static>, &[Content]); 8] = [
     ),
     (
         (Kind::Remove, b"c.w", 1, b""),
+        &[(b"b.w", &[b"", b" d", b"% end"]), (b"c.w", &[])],
+    ),
+    (
+        (Kind::BareMarks, b"", 0, b""),
+        &[(b"b.w", &[b"", b" d", b"% end"]), (b"c.w", &[])],
+    ),
+    (
+        (Kind::FullMarks, b"", 0, b""),
         &[(b"b.w", &[b"", b" d", b"% end"]), (b"c.w", &[])],
     ),
 ];
@@ -278,12 +287,14 @@ fn refuse_each_growth(rt: &impl Abort, alloc: Global, request: Request) -> Resul
 }
 
 // An edit of each kind.
-const EACH_KIND: [Request<'static>; 5] = [
+const EACH_KIND: [Request<'static>; 7] = [
     (Kind::Insert, b"a.w", 2, b"% top"),
     (Kind::Remove, b"a.w", 5, b""),
     (Kind::Replace, b"a.w", 1, b"@ B."),
     (Kind::Create, b"c.w", 0, b""),
     (Kind::Discard, b"a.w", 0, b""),
+    (Kind::FullMarks, b"", 0, b""),
+    (Kind::BareMarks, b"", 0, b""),
 ];
 
 #[test]

@@ -3,7 +3,7 @@ use crate::fault_lines::assert_faults;
 use std::alloc::Global;
 use std::process::Abort;
 use std::test::Fail;
-use tangle_lines::{Files, Origin, Roles, Source};
+use tangle_lines::{Files, MarkMode, Origin, Roles, Source};
 use tangle_test_support::{files_with, read, repeated};
 
 #[test]
@@ -27,6 +27,18 @@ fn roles_of_three_files(rt: HostRuntime) -> Result<(), Fail> {
     assert!(rt; roles.web() == b"a.w".as_slice());
     assert!(rt; roles.change().ok_or("a change file")? == b"a.ch".as_slice());
     assert!(rt; roles.out() == b"a.c".as_slice());
+    assert_eq!(rt; roles.marks(), MarkMode::Full);
+    Ok(())
+}
+
+#[test]
+fn roles_with_other_marks(rt: HostRuntime) -> Result<(), Fail> {
+    let mut roles = Roles::new(rt.alloc(), b"a.w", None, b"a.c")?;
+    roles.set_marks(MarkMode::Bare);
+    assert_eq!(rt; roles.marks(), MarkMode::Bare);
+    assert!(rt; roles.web() == b"a.w".as_slice());
+    roles.set_marks(MarkMode::Full);
+    assert_eq!(rt; roles.marks(), MarkMode::Full);
     Ok(())
 }
 

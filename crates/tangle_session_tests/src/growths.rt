@@ -135,6 +135,18 @@ fn edits_of_two_branches(rt: HostRuntime) -> Result<(), Fail> {
     refuse_in_steps(&rt, rt.alloc(), TWO_BRANCHES, &steps)
 }
 
+#[test]
+fn edits_of_the_marks(rt: HostRuntime) -> Result<(), Fail> {
+    // Bare, bare again, a line moved down, and full again: nothing is expanded.
+    let steps: [Step; 4] = [
+        (Kind::BareMarks, 0, b"", 0),
+        (Kind::BareMarks, 0, b"", 0),
+        (Kind::Insert, 1, b"% top", 0),
+        (Kind::FullMarks, 0, b"", 0),
+    ];
+    refuse_in_steps(&rt, rt.alloc(), TWO_BRANCHES, &steps)
+}
+
 // Makes the same edit twice: first it affects 41 nodes, and then none. It gives the growths that did not come.
 fn refuse_twice(
     rt: &impl Abort,

@@ -6,7 +6,7 @@ use std::process::Abort;
 use std::test::Fail;
 use tangle_folders::MemorySink;
 use tangle_lines::{Edit, Files, Refusal, Roles};
-use tangle_session::{Session, Shown, ask_all, start_and_edit};
+use tangle_session::{Edits, ListRefusal, Session, Shown, ask_all, start_and_edit};
 use tangle_test_support::{Kind, edit, end_refusals, files_with, refuse_growth};
 
 // More growths than any call makes here.
@@ -19,7 +19,9 @@ const BROKEN_CYCLE: &[u8] =
 // The main file of a web with one piece.
 const ONE_PIECE: &[u8] = b"/*1:*/\n#line 2 \"a.w\"\n\nint x;\n/*:1*/\n";
 
-type Answers = Vec<Result<(), Refusal>>;
+type Answer = Result<(), ListRefusal>;
+
+type Answers = Vec<Answer>;
 
 type Edited = Result<(Session, Answers), (Files, Roles, Refusal)>;
 
@@ -33,10 +35,24 @@ fn push_edit(
     Ok(edits.push(edit(alloc, kind, b"a.w", at, text)?)?)
 }
 
-// An edit of a line that isn't there, and one that breaks the cycle.
-fn push_edits(alloc: Global, edits: &mut Vec<Edit>) -> Result<(), AllocError> {
-    push_edit(alloc, edits, Kind::Insert, 99, b"x")?;
-    push_edit(alloc, edits, Kind::Replace, 7, b"b;")
+// A list of edits that breaks the cycle.
+fn breaking(alloc: Global) -> Result<Vec<Edit>, AllocError> {
+    let mut edits = Vec::new(alloc);
+    push_edit(alloc, &mut edits, Kind::Insert, 7, b"b;")?;
+    push_edit(alloc, &mut edits, Kind::Remove, 8, b"")?;
+    Ok(edits)
+}
+
+// An edit of a line that isn't there, and that list.
+fn push_calls(alloc: Global, calls: &mut Vec<Edits>) -> Result<(), AllocError> {
+    let missing = edit(alloc, Kind::Insert, b"a.w", 99, b"x")?;
+    calls.push(Edits::Single(missing))?;
+    Ok(calls.push(Edits::Several(breaking(alloc)?))?)
+}
+
+// Refused so, with the number 0.
+fn refused(refusal: Refusal) -> Answer {
+    Err(ListRefusal { at: 0, refusal })
 }
 
 // The cycle as a project.
@@ -51,11 +67,11 @@ fn edited_without(
     alloc: Global,
     files: Files,
     roles: Roles,
-    edits: &[Edit],
+    calls: &[Edits],
     nth: u32,
 ) -> (Edited, bool) {
     let is_harnessed = refuse_growth(alloc, nth);
-    let edited = start_and_edit(alloc, files, roles, edits);
+    let edited = start_and_edit(alloc, files, roles, calls);
     (edited, end_refusals(alloc, is_harnessed))
 }
 
@@ -104,21 +120,21 @@ fn told_cycle(alloc: Global) -> Result<MemorySink, Fail> {
     tell_all(alloc, &session)
 }
 
-// The first edit is refused; so is the second where a growth of it was, and else it is made.
+// The edit is refused; so is the list where a growth of it was, and else it is made.
 fn check_answers(
     rt: &impl Abort,
     alloc: Global,
     session: &Session,
-    answers: &[Result<(), Refusal>],
+    answers: &[Answer],
     was_spared: bool,
 ) -> Result<(), Fail> {
     assert_eq!(rt; answers.len(), 2);
-    assert_eq!(rt; answers.first(), Some(&Err(Refusal::NoSuchLine)));
+    assert_eq!(rt; answers.first(), Some(&refused(Refusal::NoSuchLine)));
     if was_spared {
         assert_eq!(rt; answers.last(), Some(&Ok(())));
         return check_whole(rt, alloc, session);
     }
-    assert_eq!(rt; answers.last(), Some(&Err(Refusal::NoMemory)));
+    assert_eq!(rt; answers.last(), Some(&refused(Refusal::NoMemory)));
     assert!(rt; tell_all(alloc, session)?.bytes() == told_cycle(alloc)?.bytes());
     Ok(())
 }
@@ -141,12 +157,12 @@ fn check_edited(
 fn edits_are_spared(
     rt: &impl Abort,
     alloc: Global,
-    edits: &[Edit],
+    calls: &[Edits],
     nth: u32,
 ) -> Result<bool, Fail> {
     let (files, roles) = cycle(alloc)?;
     let before = told_project(alloc, &files, &roles)?;
-    let (edited, was_spared) = edited_without(alloc, files, roles, edits, nth);
+    let (edited, was_spared) = edited_without(alloc, files, roles, calls, nth);
     let checked = check_edited(rt, alloc, &before, &edited, was_spared);
     // what owns a session is let go once, in front of the ways out
     drop(edited);
@@ -155,9 +171,9 @@ fn edits_are_spared(
 }
 
 // Refuses the first growth, the second and so on, until none is refused.
-fn refuse_each(rt: &impl Abort, alloc: Global, edits: &[Edit]) -> Result<(), Fail> {
+fn refuse_each(rt: &impl Abort, alloc: Global, calls: &[Edits]) -> Result<(), Fail> {
     for nth in 1..MOST {
-        if edits_are_spared(rt, alloc, edits, nth)? {
+        if edits_are_spared(rt, alloc, calls, nth)? {
             return Ok(());
         }
     }
@@ -166,9 +182,9 @@ fn refuse_each(rt: &impl Abort, alloc: Global, edits: &[Edit]) -> Result<(), Fai
 
 #[test]
 fn started_and_edited_with_each_growth_refused(rt: HostRuntime) -> Result<(), Fail> {
-    let mut edits = Vec::new(rt.alloc());
-    push_edits(rt.alloc(), &mut edits)?;
-    refuse_each(&rt, rt.alloc(), &edits)
+    let mut calls = Vec::new(rt.alloc());
+    push_calls(rt.alloc(), &mut calls)?;
+    refuse_each(&rt, rt.alloc(), &calls)
 }
 
 // Asks with this growth of the writer refused, and says whether none was; else the writer has failed,

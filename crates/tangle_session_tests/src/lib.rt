@@ -1,5 +1,6 @@
-//! The tests of sessions, of what no clause of theirs says and no conversation shows: refused growths, a writer that fails, and starts that
-//! are refused.
+//! The tests of sessions, of what no clause of theirs says and no conversation shows: refused
+//! growths, a writer that fails, and starts that are refused; and lists of edits by the call that
+//! takes them, with the number of the edit that is refused.
 //!
 //! They ask through the public calls alone, as a program does that keeps a project open.
 #![tactic(auto)]
@@ -8,6 +9,10 @@
 mod growths;
 #[cfg(test)]
 mod headline;
+#[cfg(test)]
+mod list_growths;
+#[cfg(test)]
+mod lists;
 #[cfg(test)]
 mod starts;
 #[cfg(test)]

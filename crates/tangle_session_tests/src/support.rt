@@ -4,7 +4,7 @@ use std::alloc::Global;
 use std::process::Abort;
 use std::test::Fail;
 use tangle_folders::MemorySink;
-use tangle_lines::{Files, Line, Refusal, Roles, put, write_fault};
+use tangle_lines::{Files, Line, MarkMode, Refusal, Roles, put, write_fault};
 use tangle_session::Session;
 use tangle_test_support::files_with;
 
@@ -102,12 +102,21 @@ fn tell_files(files: &Files, sink: &mut MemorySink) -> Result<(), Fail> {
     Ok(())
 }
 
+// How line marks are written.
+fn told_marks(marks: MarkMode) -> &'static [u8] {
+    match marks {
+        MarkMode::Full => b"full",
+        MarkMode::Bare => b"bare",
+    }
+}
+
 // The files and the roles.
 fn tell_project(files: &Files, roles: &Roles, sink: &mut MemorySink) -> Result<(), Fail> {
     tell_files(files, sink)?;
     tell(sink, roles.web())?;
     tell(sink, roles.change().unwrap_or(b"|"))?;
-    tell(sink, roles.out())
+    tell(sink, roles.out())?;
+    tell(sink, told_marks(roles.marks()))
 }
 
 /// What is told of files and roles.
@@ -135,12 +144,18 @@ pub(crate) fn check_handed_back(
     Ok(())
 }
 
-/// All that can be asked of a session: outputs, faults, files, roles, and the last work.
-pub(crate) fn tell_all(alloc: Global, session: &Session) -> Result<MemorySink, Fail> {
+/// What can be asked of a session but for the last work: outputs, faults, files and roles.
+pub(crate) fn tell_shown(alloc: Global, session: &Session) -> Result<MemorySink, Fail> {
     let mut sink = MemorySink::new(alloc, AMPLE);
     tell_outputs(session, &mut sink)?;
     tell_faults(session, &mut sink)?;
     tell_project(session.files(), session.roles(), &mut sink)?;
+    Ok(sink)
+}
+
+/// All that can be asked of a session: the same, and the last work.
+pub(crate) fn tell_all(alloc: Global, session: &Session) -> Result<MemorySink, Fail> {
+    let mut sink = tell_shown(alloc, session)?;
     let mut digits = Buffer::new();
     tell(&mut sink, digits.format(session.last_work()).as_bytes())?;
     Ok(sink)

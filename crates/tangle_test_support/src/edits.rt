@@ -1,6 +1,6 @@
 //! Edits.
 use std::alloc::{AllocError, Global};
-use tangle_lines::Edit;
+use tangle_lines::{Edit, MarkMode};
 
 /// The kinds of edits.
 #[derive(Clone, Copy)]
@@ -10,9 +10,11 @@ pub enum Kind {
     Replace,
     Create,
     Discard,
+    FullMarks,
+    BareMarks,
 }
 
-/// An edit of this kind, of this file, at this line and with this text where it has one.
+/// An edit of this kind, of this file, at this line and with this text where it has them.
 pub fn edit(
     alloc: Global,
     kind: Kind,
@@ -28,5 +30,11 @@ pub fn edit(
         Kind::Replace => Edit::Replace { file, at, text },
         Kind::Create => Edit::Create { file },
         Kind::Discard => Edit::Discard { file },
+        Kind::FullMarks => Edit::Marks {
+            mode: MarkMode::Full,
+        },
+        Kind::BareMarks => Edit::Marks {
+            mode: MarkMode::Bare,
+        },
     })
 }
