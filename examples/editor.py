@@ -16,6 +16,7 @@ RETANGLE in the environment names the program, if it is not `retangle` on the pa
 An editor that is written in Python can use the class Retangle itself.
 """
 import argparse
+import contextlib
 import difflib
 import os
 import subprocess
@@ -63,6 +64,8 @@ class Retangle:
             self.process.stdin.write(request + b'\n' + (b'' if text is None else text + b'\n'))
             self.process.stdin.flush()
         except BrokenPipeError:
+            with contextlib.suppress(BrokenPipeError):
+                self.process.stdin.close()
             raise Ended()
         return self.answer_line()
 

@@ -149,6 +149,13 @@ def test_readme(room, programs):
     check(not is_there(folder, 'hello.c'), 'make with an error', 'hello.c is there')
 
 
+def test_names():
+    """README.md names what is there."""
+    text = re.sub(r'^    .*$', '', read(top, 'README.md').decode(), flags=re.M)
+    for name in re.findall(r'`((?:crates|docs|examples|tests)/[^`]*)`', text):
+        check(is_there(top, name), 'README.md', '%s is not there' % name)
+
+
 def check_make(folder, path, name):
     for file in ('hello', 'hello.c'):
         if is_there(folder, file):
@@ -384,6 +391,7 @@ def main():
     with tempfile.TemporaryDirectory() as room:
         programs = test_install(room)
         test_readme(room, programs)
+        test_names()
         test_commands(room)
         test_ends(room)
         test_edits()
