@@ -98,7 +98,7 @@ def test_install(room):
 def check_page(page):
     """That groff, where it is, understands all of a manual page."""
     if shutil.which('groff'):
-        _, errors, status = run(['groff', '-man', '-ww', '-z', page], '/')
+        _, errors, status = run(['groff', '-man', '-Tascii', '-wmac', '-z', page], '/')
         check(status == 0 and not errors, page, errors)
 
 
