@@ -165,7 +165,7 @@ def line_edits(name, old, new):
     back = common_front(old[front:][::-1], new[front:][::-1])
     old_part, new_part = old[front:len(old) - back], new[front:len(new) - back]
     made = []
-    blocks = difflib.SequenceMatcher(None, old_part, new_part, autojunk=False).get_opcodes()
+    blocks = difflib.SequenceMatcher(None, old_part, new_part).get_opcodes()
     for kind, start, end, new_start, new_end in reversed(blocks):
         if kind != 'equal':
             made += block_edits(name, front + start + 1, end - start, new_part[new_start:new_end])
