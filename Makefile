@@ -1,11 +1,11 @@
 # make             proves and builds the programs into bin/
-# make install     copies them and their manual pages below PREFIX (/usr/local), which DESTDIR precedes
+# make install     copies them and their manual pages to DESTDIR and PREFIX (/usr/local)
 # make uninstall   removes what make install copied
 # make example     tangles the web in examples/, compiles it and runs it, and edits it by a script
-# make check       runs the gate and the tests over the built programs; it ends with 'N passed, M failed'
-# make further     tries the wrong bodies that the gate leaves out for their time, over proved crates
+# make check       runs the gate and the tests over the built programs; 'N passed, M failed' ends it
+# make further     tries the wrong bodies that the gate leaves out for their time
 #
-# The kit's command rt, cc and python3 have to be on the path; to build and to install, rt is enough.
+# The kit's command rt, cc and python3 have to be on the path. To build and install, rt is enough.
 
 PREFIX = /usr/local
 DESTDIR =

@@ -43,7 +43,7 @@ class Retangle:
 
     def __init__(self, web, change=None, out=None):
         arguments = [os.environ.get('RETANGLE', 'retangle'), web]
-        self.lines = {}                 # the lines of the files that were sent, as retangle has them
+        self.lines = {}                 # of the files that were sent, as retangle has them
         self.keep(with_extension(web, b'.w'))
         if change is not None:
             arguments += [b'--change', change]
@@ -136,7 +136,7 @@ def with_extension(name, extension):
 
 
 def lines_of(name):
-    """The lines of a file on the disk, without the spaces at their ends; None if it is not there."""
+    """The lines of a file on the disk, without spaces at their ends; None if it is not there."""
     try:
         with open(name, 'rb') as file:
             lines = [line.rstrip(b' ') for line in file.read().split(b'\n')]

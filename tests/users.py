@@ -1,6 +1,11 @@
-"""What a new user does first: what README.md shows, make install, the editor's client and the recipes of examples/.
+"""What a new user does first, over the built programs.
 
 usage: users.py CTANGLE RETANGLE TOP       TOP is the folder of the repository
+
+- README.md: the web, its C and its fault, the rule for a Makefile, the conversation.
+- make install and make uninstall, with the manual pages.
+- examples/editor.py: as a program, and each save against what ctangle makes of the files.
+- examples/several: both recipes.
 
 The last line is 'N passed, M failed'.
 """
@@ -34,9 +39,10 @@ def same(got, wanted, name):
 
 
 def run(arguments, folder, text=b'', **changed):
-    """Standard output, standard error and the status."""
-    done = subprocess.run(arguments, cwd=folder, input=text, stdout=subprocess.PIPE, stderr=subprocess.PIPE,
-                          timeout=PATIENCE, env=dict(os.environ, **changed))
+    """Standard output, standard error and the status. make is not told of one that runs the tests."""
+    environment = {name: os.environ[name] for name in os.environ if not name.startswith('MAKE')}
+    done = subprocess.run(arguments, cwd=folder, input=text, capture_output=True, timeout=PATIENCE,
+                          env=dict(environment, **changed))
     return done.stdout, done.stderr, done.returncode
 
 
@@ -52,6 +58,15 @@ def write(text, *path):
 
 def is_there(*path):
     return os.path.exists(os.path.join(*path))
+
+
+def new_folder(room, name, **files):
+    """A folder with these files, whose names have _ in place of a dot."""
+    folder = os.path.join(room, name)
+    os.mkdir(folder)
+    for file, text in files.items():
+        write(text, folder, file.replace('_', '.'))
+    return folder
 
 
 # ---------------------------------------------------------------------- make install
@@ -96,16 +111,17 @@ def test_install(room):
 
 
 def check_page(page):
-    """That groff, where it is, understands all of a manual page."""
+    """groff, where it is, understands all of a manual page."""
     if shutil.which('groff'):
         _, errors, status = run(['groff', '-man', '-Tascii', '-wmac', '-z', page], '/')
         check(status == 0 and not errors, page, errors)
 
 
 def check_man(pages):
-    """That man, where it is, finds both pages. In some containers it says instead that it was left out."""
+    """man, where it is, finds both pages. In some containers it only says that it was left out."""
     for name in ('ctangle', 'retangle') if shutil.which('man') else ():
-        page, (found, errors, _) = os.path.join(pages, 'man1', name + '.1'), run(['man', '-M', pages, '-w', name], '/')
+        page = os.path.join(pages, 'man1', name + '.1')
+        found, errors, _ = run(['man', '-M', pages, '-w', name], '/')
         if b'minimized' not in found + errors:
             same(found.decode(), page + '\n', 'man -w ' + name)
 
@@ -126,10 +142,8 @@ def block(begins):
 
 
 def test_readme(room, programs):
-    folder = os.path.join(room, 'hello')
-    os.mkdir(folder)
     web = block(b'@ ')
-    write(web, folder, 'hello.w')
+    folder = new_folder(room, 'hello', hello_w=web)
     same(run([ctangle, 'hello'], folder), (b'', b'', 0), 'README.md, ctangle hello')
     same(read(folder, 'hello.c'), block(b'/*1:*/'), 'README.md, hello.c')
     check_conversation(folder, block(b'$ retangle hello'))
@@ -145,24 +159,9 @@ def test_readme(room, programs):
 
     write(web + b'"\n', folder, 'hello.w')
     _, errors, status = run(['make', 'hello.c'], folder, PATH=path)
-    check(status != 0 and b'hello.w:7: error: quoted text did not end\n' in errors, 'make with an error', errors)
+    check(status != 0 and b'hello.w:7: error: quoted text did not end\n' in errors,
+          'make with an error', errors)
     check(not is_there(folder, 'hello.c'), 'make with an error', 'hello.c is there')
-
-
-def test_names():
-    """README.md names what is there."""
-    text = re.sub(r'^    .*$', '', read(top, 'README.md').decode(), flags=re.M)
-    for name in re.findall(r'`((?:crates|docs|examples|tests)/[^`]*)`', text):
-        check(is_there(top, name), 'README.md', '%s is not there' % name)
-
-
-def check_make(folder, path, name):
-    for file in ('hello', 'hello.c'):
-        if is_there(folder, file):
-            os.remove(os.path.join(folder, file))
-    _, errors, status = run(['make', 'hello'], folder, PATH=path)
-    check(status == 0, name, errors)
-    same(run(['./hello'], folder), (b'hello, world\n', b'', 0), name)
 
 
 def check_conversation(folder, conversation):
@@ -174,18 +173,38 @@ def check_conversation(folder, conversation):
     same(run([retangle] + words, folder, typed)[0], answered, 'README.md, retangle')
 
 
+def check_make(folder, path, name):
+    for file in ('hello', 'hello.c'):
+        if is_there(folder, file):
+            os.remove(os.path.join(folder, file))
+    _, errors, status = run(['make', 'hello'], folder, PATH=path)
+    check(status == 0, name, errors)
+    same(run(['./hello'], folder), (b'hello, world\n', b'', 0), name)
+
+
+def test_names():
+    """README.md names what is there."""
+    text = re.sub(r'^    .*$', '', read(top, 'README.md').decode(), flags=re.M)
+    for name in re.findall(r'`((?:crates|docs|examples|tests)/[^`]*)`', text):
+        check(is_there(top, name), 'README.md', '%s is not there' % name)
+
+
 # ---------------------------------------------------------------------- the editor's client
 
-class Commands:
+CLIENT = [sys.executable, '-B', os.path.join(top, 'examples', 'editor.py')]
+
+
+class Client:
     """The client as a program: each command is answered before the next one is sent."""
 
     def __init__(self, folder, *arguments):
-        self.process = subprocess.Popen(
-            [sys.executable, '-B', os.path.join(top, 'examples', 'editor.py'), *arguments], cwd=folder,
-            stdin=subprocess.PIPE, stdout=subprocess.PIPE, env=dict(os.environ, RETANGLE=retangle))
+        self.folder = folder
+        self.process = subprocess.Popen(CLIENT + list(arguments), cwd=folder,
+                                        stdin=subprocess.PIPE, stdout=subprocess.PIPE,
+                                        env=dict(os.environ, RETANGLE=retangle))
 
-    def ask(self, command):
-        """What is printed, up to the answer to a line that is no command."""
+    def prints(self, command, wanted):
+        """Compares what is printed, up to the answer to a line that is no command."""
         self.process.stdin.write(command + b'\nend\n')
         self.process.stdin.flush()
         printed = b''
@@ -193,105 +212,122 @@ class Commands:
             if line == b'no such command\n':
                 break
             printed += line
-        return printed
+        same(printed, wanted, 'editor.py, %s' % command.decode())
 
-    def end(self):
+    def saves(self, name, text, wanted):
+        """The same when a file was saved with this text, or removed."""
+        if text is None:
+            os.remove(os.path.join(self.folder, name))
+        else:
+            write(text, self.folder, name)
+        self.prints(b'save ' + name.encode(), wanted)
+
+    def ends(self, status):
         self.process.stdin.close()
-        rest = self.process.stdout.read()
-        return rest, self.process.wait(PATIENCE)
+        same(self.process.stdout.read(), b'', 'editor.py, the end')
+        same(self.process.wait(PATIENCE), status, 'editor.py, the status')
 
 
-def saved(client, folder, name, text):
-    """What the client prints when a file was saved with this text, or was removed."""
-    if text is None:
-        os.remove(os.path.join(folder, name))
-    else:
-        write(text, folder, name)
-    return client.ask(b'save ' + os.fsencode(name))
+WITH_B_AND_C = b'''\
+/*1:*/
+#line 2 "a.w"
+
+int z= /*2:*/
+#line 2 "b.w"
+
+1
+/*:2*/
+#line 3 "a.w"
+;
+#line 1 "b.w"
+int b;
+/*:1*//*3:*/
+#line 4 "b.w"
+
+#line 1 "c.w"
+int c;
+/*:3*/
+'''
+NO_C = b'a.w:5: error: included file not found: c.w\n'
+NO_V = b'a.w:3: error: undefined: <v>\n'
 
 
-def test_commands(room):
-    folder = os.path.join(room, 'commands')
-    os.mkdir(folder)
-    write(b'@ A.\n@c\nint x;\n@i b.w\n', folder, 'a.w')
-    write(b'int y;\n', folder, 'b.w')
-    client = Commands(folder, 'a')
-    same(client.ask(b'faults'), b'', 'editor.py, faults')
-    same(client.ask(b'show a.h'), b'no output file a.h\n', 'editor.py, show')
+def test_client(room):
+    folder = new_folder(room, 'client', a_w=b'@ A.\n@c\nint x;\n@i b.w\n', b_w=b'int y;\n')
+    client = Client(folder, 'a')
+    client.prints(b'faults', b'')
+    client.prints(b'show a.h', b'no output file a.h\n')
 
     # spaces at the end of a line are no change
-    text = b'@ A.\n@c  \nint z=@<v@>;\n@i b.w\n@i c.w\n'
-    faults = b'a.w:5: error: included file not found: c.w\na.w:3: error: undefined: <v>\n'
-    same(saved(client, folder, 'a.w', text), faults + b'saved a.w: edits 2, faults 2\n', 'editor.py, save')
-    same(client.ask(b'faults'), faults, 'editor.py, faults')
-    same(client.ask(b'work'), b'1\n', 'editor.py, work')
+    web = b'@ A.\n@c  \nint z=@<v@>;\n@i b.w\n@i c.w\n'
+    client.saves('a.w', web, NO_C + NO_V + b'saved a.w: edits 2, faults 2\n')
+    client.prints(b'faults', NO_C + NO_V)
+    client.prints(b'work', b'1\n')
 
-    # a file that comes, one that was included from the start, and one that goes
-    same(saved(client, folder, 'c.w', b'int c;\n'), b'a.w:3: error: undefined: <v>\nsaved c.w: edits 2, faults 1\n',
-         'editor.py, a new file')
-    same(saved(client, folder, 'b.w', b'int b;\n@ @<v@>=\n1\n@ @c\n'), b'saved b.w: edits 5, faults 0\n',
-         'editor.py, an included file')
-    same(client.ask(b'show a.c'), b'/*1:*/\n#line 2 "a.w"\n\nint z= /*2:*/\n#line 2 "b.w"\n\n1\n/*:2*/\n#line 3 "a.w"\n;\n'
-         b'#line 1 "b.w"\nint b;\n/*:1*//*3:*/\n#line 4 "b.w"\n\n#line 1 "c.w"\nint c;\n/*:3*/\n', 'editor.py, show')
-    same(saved(client, folder, 'c.w', None), b'a.w:5: error: included file not found: c.w\nsaved c.w: edits 1, faults 1\n',
-         'editor.py, a file that went')
+    # a new file, one that was included from the start, and one that is removed
+    client.saves('c.w', b'int c;\n', NO_V + b'saved c.w: edits 2, faults 1\n')
+    client.saves('b.w', b'int b;\n@ @<v@>=\n1\n@ @c\n', b'saved b.w: edits 5, faults 0\n')
+    client.prints(b'show a.c', WITH_B_AND_C)
+    client.saves('c.w', None, NO_C + b'saved c.w: edits 1, faults 1\n')
 
-    # a list that is refused changes nothing, and can be saved again when it is mended
-    long = text.replace(b'int z', b'int zz').replace(b'@i c.w', b'x' * (LINE_BYTES + 1))
-    same(saved(client, folder, 'a.w', long), b'a.w was not saved: edit 1: LineTooLong\n', 'editor.py, a line too long')
-    same(client.ask(b'faults'), b'a.w:5: error: included file not found: c.w\n', 'editor.py, a refused list')
-    same(saved(client, folder, 'a.w', None), b'a.w was not saved: edit 1: RoleFile\n', 'editor.py, the web went')
-    same(saved(client, folder, 'a.w', text[:-7]), b'saved a.w: edits 1, faults 0\n', 'editor.py, save')
-    same(client.end(), (b'', 0), 'editor.py, the end')
+    # a refused list changes nothing, and the file can be saved again
+    long = web.replace(b'int z', b'int zz').replace(b'@i c.w', b'x' * (LINE_BYTES + 1))
+    client.saves('a.w', long, b'a.w was not saved: edit 1: LineTooLong\n')
+    client.prints(b'faults', NO_C)
+    client.saves('a.w', None, b'a.w was not saved: edit 1: RoleFile\n')
+    client.saves('a.w', web.replace(b'@i c.w\n', b''), b'saved a.w: edits 1, faults 0\n')
+    client.ends(0)
 
 
-def test_ends(room):
-    folder = os.path.join(room, 'ends')
-    os.mkdir(folder)
-    program = [sys.executable, '-B', os.path.join(top, 'examples', 'editor.py')]
-    same(run(program + ['a'], folder, b'faults\n', RETANGLE=retangle), (b'', b'retangle: cannot read a.w\n', 3),
-         'editor.py without a web')
+def test_ends_of_the_client(room):
+    folder = new_folder(room, 'ends')
+    same(run(CLIENT + ['a'], folder, b'faults\n', RETANGLE=retangle),
+         (b'', b'retangle: cannot read a.w\n', 3), 'editor.py without a web')
     write(b'@ A.\n@c\n@<v@>\n', folder, 'a.w')
+    same(run(CLIENT + ['a'], folder, b'faults\nquit\nwork\n', RETANGLE=retangle),
+         (NO_V, b'', 1), 'editor.py, a fault at the end')
     write(b'@x\n@<v@>\n@y\n1\n@z\n', folder, 'b.ch')
-    same(run(program + ['a'], folder, b'faults\nquit\nwork\n', RETANGLE=retangle),
-         (b'a.w:3: error: undefined: <v>\n', b'', 1), 'editor.py, a fault at the end')
-    same(run(program + ['--change', 'b', '--out', 'z', 'a'], folder, b'show z.c\n', RETANGLE=retangle),
-         (b'/*1:*/\n#line 2 "a.w"\n\n#line 4 "b.ch"\n1\n/*:1*/\n', b'', 0), 'editor.py, change and out')
+    output = b'/*1:*/\n#line 2 "a.w"\n\n#line 4 "b.ch"\n1\n/*:1*/\n'
+    words = ['--change', 'b', '--out', 'z', 'a']
+    same(run(CLIENT + words, folder, b'show z.c\n', RETANGLE=retangle), (output, b'', 0),
+         'editor.py, change and out')
 
 
 def test_edits():
     """The edits of a save turn any lines into any others."""
-    chance = random.Random(1)
+    name, chance = 'the edits of a save', random.Random(1)
     for _ in range(500):
-        old, new = ([chance.choice([b'', b'a', b'b', b'c']) for _ in range(chance.randrange(9))] for _ in range(2))
-        lines, made = old, editor.edits(b'f', old, new)
-        for request, text in made:
+        old, new = ([chance.choice([b'', b'a', b'b', b'c']) for _ in range(chance.randrange(9))]
+                    for _ in range(2))
+        lines = old
+        for request, text in editor.edits(b'f', old, new):
             kind, line, _ = request.decode().split(' ')
             lines = edited_lines(lines, kind, int(line), text or b'')
-        same(lines, new, 'the edits of a save')
-    same(editor.edits(b'f', [b'a', b'b', b'c'], [b'a', b'x', b'c']), [(b'replace 2 f', b'x')], 'the edits of a save')
+        same(lines, new, name)
+    same(editor.edits(b'f', [b'a', b'b', b'c'], [b'a', b'x', b'c']), [(b'replace 2 f', b'x')], name)
+
+
+OUTPUTS = ['calc.c', 'stack.c', 'stack.h']
 
 
 def mutated(lines, chance):
     """The lines with a few of them gone, doubled, moved or in each other's place."""
     lines = list(lines)
     for _ in range(chance.randrange(1, 5)):
-        at = chance.randrange(len(lines) + 1)
-        lines[at:at + chance.randrange(3)] = chance.sample(lines, min(len(lines), chance.randrange(3)))
+        at, others = chance.randrange(len(lines) + 1), min(len(lines), chance.randrange(3))
+        lines[at:at + chance.randrange(3)] = chance.sample(lines, others)
     return lines
 
 
 def test_saves(room):
     """After each save the client shows what ctangle makes of the files."""
-    folder = os.path.join(room, 'saves')
+    folder, chance, before = os.path.join(room, 'saves'), random.Random(2), os.getcwd()
     shutil.copytree(os.path.join(top, 'examples', 'several'), folder)
-    with open(os.path.join(folder, 'calc.w'), 'rb') as web:
-        first = web.read().split(b'\n')[:-1]
-    chance, before = random.Random(2), os.getcwd()
-    os.chdir(folder)
     os.environ['RETANGLE'] = retangle
+    os.chdir(folder)
     try:
-        client, lines = editor.Retangle(b'calc'), first
+        first = lines = read('calc.w').split(b'\n')[:-1]
+        client = editor.Retangle(b'calc')
         for _ in range(60):
             lines = mutated(lines, chance) if chance.randrange(8) else first
             write(b''.join(line + b'\n' for line in lines), 'calc.w')
@@ -304,30 +340,33 @@ def test_saves(room):
 
 
 def check_shown(client):
-    outputs = [b'calc.c', b'stack.c', b'stack.h']
-    for name in filter(os.path.exists, outputs):
+    for name in filter(os.path.exists, OUTPUTS):
         os.remove(name)
     errors = run([ctangle, 'calc'], '.')[1]
     same(client.faults(), errors.split(b'\n')[:-1], 'the faults after a save')
-    for name in outputs:
-        same(client.show(name), read(name) if os.path.exists(name) else None, 'an output after a save')
+    for name in OUTPUTS:
+        wanted = read(name) if os.path.exists(name) else None
+        same(client.show(name.encode()), wanted, 'an output after a save')
 
 
 # ---------------------------------------------------------------------- recipes
+
+SECONDS = 10 ** 9       # nanoseconds
+
 
 def make_older(folder):
     """Lets ten seconds pass for all files of a folder, so that what is written next is newer."""
     for name in os.listdir(folder):
         path = os.path.join(folder, name)
-        time = os.stat(path).st_mtime_ns - 10 ** 10
+        time = os.stat(path).st_mtime_ns - 10 * SECONDS
         os.utime(path, ns=(time, time))
 
 
-def times(folder, *names):
+def times(folder, names):
     return [os.stat(os.path.join(folder, name)).st_mtime_ns for name in names]
 
 
-def made(folder, makefile, web):
+def make(folder, makefile, web):
     """Whether make succeeds with this text of the web, and standard error."""
     make_older(folder)
     write(web, folder, 'calc.w')
@@ -335,56 +374,63 @@ def made(folder, makefile, web):
     return status == 0, errors
 
 
+def must_make(folder, makefile, web):
+    done, errors = make(folder, makefile, web)
+    check(done and not errors, makefile, errors)
+
+
+def must_fail(folder, makefile, web):
+    """A line that is added to the web is an error."""
+    done, errors = make(folder, makefile, web + b'"\n')
+    line = web.count(b'\n') + 1
+    check(not done and b'calc.w:%d: error: quoted text did not end\n' % line in errors,
+          makefile + ', an error', errors)
+
+
 def test_recipe(room, makefile):
-    """The folder in which the recipe made the program, and the web."""
+    """The folder in which a recipe made the program, and the web."""
     folder = os.path.join(room, makefile)
     shutil.copytree(os.path.join(top, 'examples', 'several'), folder)
     web = read(folder, 'calc.w')
-    done, errors = made(folder, makefile, web)
-    check(done and not errors, makefile, errors)
+    must_make(folder, makefile, web)
     same(run(['./calc', '2', '3', '+', '4', 'x'], folder)[0], b'20\n', makefile)
     same(run(['./calc', '2', '3', '-'], folder)[0], b'-1\n', makefile)
-    done, errors = made(folder, makefile, web.replace(b'%g', b'%.2f'))
-    check(done, makefile, errors)
+    must_make(folder, makefile, web.replace(b'%g', b'%.2f'))
     same(run(['./calc', '2', '3', '-'], folder)[0], b'-1.00\n', makefile)
     return folder, web
 
 
-OUTPUTS = ['calc.c', 'stack.c', 'stack.h']
-
-
 def test_several(room):
     folder, web = test_recipe(room, 'Makefile')
-    done, errors = made(folder, 'Makefile', web + b'"\n')
-    check(not done and b'calc.w:63: error: quoted text did not end\n' in errors, 'Makefile, an error', errors)
-    check(not any(is_there(folder, name) for name in OUTPUTS), 'Makefile, an error', 'an output is left')
+    must_fail(folder, 'Makefile', web)
+    left = [name for name in OUTPUTS if is_there(folder, name)]
+    same(left, [], 'Makefile, outputs after an error')
 
 
 def test_unchanged(room):
-    name = 'unchanged.mk'
-    folder, web = test_recipe(room, name)
-    kept = OUTPUTS + ['calc.o', 'stack.o', 'calc']
-    made(folder, name, web)
-    before = times(folder, *kept)
-    check(made(folder, name, web)[0], name, 'make fails')
-    same(times(folder, *kept), [time - 10 ** 10 for time in before], 'unchanged.mk, the same web')
+    makefile = 'unchanged.mk'
+    folder, web = test_recipe(room, makefile)
+    must_make(folder, makefile, web)
+    made = OUTPUTS + ['calc.o', 'stack.o', 'calc']
+    before = times(folder, made)
+    must_make(folder, makefile, web)
+    same(times(folder, made), [time - 10 * SECONDS for time in before], makefile + ', the same web')
 
     # the main file alone changes
-    done, errors = made(folder, name, web.replace(b'%g', b'%.2f'))
-    after = dict(zip(kept, times(folder, *kept)))
-    check(done and after['stack.o'] < after['calc.c'], 'unchanged.mk, one file', errors or after)
-    same([after[file] for file in ('stack.c', 'stack.h', 'stack.o')],
-         [before[kept.index(file)] - 2 * 10 ** 10 for file in ('stack.c', 'stack.h', 'stack.o')], 'unchanged.mk, one file')
+    stack = ['stack.c', 'stack.h', 'stack.o']
+    before = times(folder, stack)
+    must_make(folder, makefile, web.replace(b'%g', b'%.2f'))
+    same(times(folder, stack), [time - 10 * SECONDS for time in before], makefile + ', other files')
+    same(run(['./calc', '1'], folder)[0], b'1.00\n', makefile + ', one file')
 
-    # an error touches no output, and a file that is missing is made again
-    outputs = [read(folder, file) for file in OUTPUTS]
-    done, errors = made(folder, name, web + b'"\n')
-    check(not done and b'calc.w:63: error: quoted text did not end\n' in errors, 'unchanged.mk, an error', errors)
-    same([read(folder, file) for file in OUTPUTS], outputs, 'unchanged.mk, an error')
-    check(made(folder, name, web)[0], name, 'make fails')
+    # an error changes no output, and a missing output is made again
+    outputs = [read(folder, name) for name in OUTPUTS]
+    must_fail(folder, makefile, web)
+    same([read(folder, name) for name in OUTPUTS], outputs, makefile + ', outputs after an error')
+    must_make(folder, makefile, web)
     os.remove(os.path.join(folder, 'stack.h'))
-    check(run(['make', '-f', name, 'CTANGLE=' + ctangle], folder)[2] == 0 and is_there(folder, 'stack.h'),
-          'unchanged.mk, a missing file', 'it is not made')
+    _, errors, status = run(['make', '-f', makefile, 'CTANGLE=' + ctangle], folder)
+    check(status == 0 and is_there(folder, 'stack.h'), makefile + ', a missing output', errors)
 
 
 def main():
@@ -392,8 +438,8 @@ def main():
         programs = test_install(room)
         test_readme(room, programs)
         test_names()
-        test_commands(room)
-        test_ends(room)
+        test_client(room)
+        test_ends_of_the_client(room)
         test_edits()
         test_saves(room)
         test_several(room)

@@ -1,4 +1,4 @@
-# What a new user does first: README, make install, the editor's client and the recipes of examples/ (tests/users.py).
+# What a new user does first: README, make install, and what examples/ has (tests/users.py).
 
 test_users() {
     retangle=${RETANGLE:-$top/bin/retangle}

@@ -1,7 +1,7 @@
 % One web, three files: stack.h, stack.c and calc.c.
 % What seldom changes comes first: text that is put in above a file moves its line marks.
 
-@* A stack. Its header is a file of its own, since its name begins with an at sign and a parenthesis.
+@* A stack. Its header is a file of its own, since an at sign and a parenthesis open its name.
 
 @(stack.h@>=
 void push(double number);
@@ -26,7 +26,7 @@ double pop(void)
     return depth > 0 ? numbers[--depth] : 0;
 }
 
-@* A calculator. It takes numbers and signs as arguments, each sign after its two numbers, and prints the result.
+@* A calculator. It takes numbers and signs, each sign after its two numbers, and prints the result.
 
 @c
 #include <stdio.h>

@@ -1,7 +1,8 @@
-# The same web, but a file that comes out as it was stays as it is, and nothing is compiled again for it.
+# The same web, but a file that comes out as it was stays as it is, and nothing is compiled again
+# for it.
 #
-# The web is tangled in the folder `new`, where it finds its sources under their names. A web with an error
-# changes no file outside of it.
+# The web is tangled in the folder `new`, where it finds its sources under their names. A web with
+# an error changes no file outside of it.
 
 CTANGLE = ctangle
 
@@ -15,7 +16,8 @@ calc: calc.o stack.o
 calc.o: calc.c stack.h
 stack.o: stack.c stack.h
 
-# The recipe is empty: make then looks at the time of each file, which is the old one if the file stayed as it is.
+# The recipe is empty: make then looks at the time of each file, which is the old one if the file
+# stayed as it is.
 $(outputs): tangled ;
 
 tangled: $(sources) $(if $(missing),again)
