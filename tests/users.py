@@ -39,7 +39,7 @@ def same(got, wanted, name):
 
 
 def run(arguments, folder, text=b'', **changed):
-    """Standard output, standard error and the status. make is not told of one that runs the tests."""
+    """Standard output, standard error and the status. A make that runs the tests is hidden."""
     environment = {name: os.environ[name] for name in os.environ if not name.startswith('MAKE')}
     done = subprocess.run(arguments, cwd=folder, input=text, capture_output=True, timeout=PATIENCE,
                           env=dict(environment, **changed))
