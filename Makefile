@@ -1,9 +1,17 @@
-# make           proves and builds the programs into bin/
-# make example   tangles the web in examples/, compiles it and runs it, and edits it by a script
-# make check     runs the gate and the tests over the built programs; it ends with 'N passed, M failed'
-# make further   tries the wrong bodies that the gate leaves out for their time, over proved crates
+# make             proves and builds the programs into bin/
+# make install     copies them and their manual pages to DESTDIR and PREFIX (/usr/local)
+# make uninstall   removes what make install copied
+# make example     tangles the web in examples/, compiles it and runs it, and edits it by a script
+# make check       runs the gate and the tests over the built programs; 'N passed, M failed' ends it
+# make further     tries the wrong bodies that the gate leaves out for their time
 #
-# The kit's command rt, cc and python3 have to be on the path.
+# The kit's command rt, cc and python3 have to be on the path. To build and install, rt is enough.
+
+PREFIX = /usr/local
+DESTDIR =
+
+programs = $(DESTDIR)$(PREFIX)/bin
+pages = $(DESTDIR)$(PREFIX)/share/man/man1
 
 sources := $(shell find crates crates.txt -name out -prune -o -type f -print)
 
@@ -21,6 +29,15 @@ bin/retangle: $(sources)
 	mkdir -p bin
 	cp crates/retangle/out/retangle $@
 
+install: bin/ctangle bin/retangle
+	install -d "$(programs)" "$(pages)"
+	install -m 755 bin/ctangle bin/retangle "$(programs)"
+	install -m 644 docs/ctangle.1 docs/retangle.1 "$(pages)"
+
+uninstall:
+	rm -f "$(programs)/ctangle" "$(programs)/retangle"
+	rm -f "$(pages)/ctangle.1" "$(pages)/retangle.1"
+
 example: bin/ctangle bin/retangle
 	$(MAKE) -C examples run CTANGLE=../bin/ctangle RETANGLE=../bin/retangle
 
@@ -36,4 +53,4 @@ further:
 clean:
 	rm -rf bin examples/out
 
-.PHONY: all example bench check further clean
+.PHONY: all install uninstall example bench check further clean

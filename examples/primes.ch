@@ -1,4 +1,4 @@
-A change file gives a web other lines without touching it. What stands outside the changes is a comment.
+A change file gives a web other lines without touching it. Text outside the changes is a comment.
 
 This change looks further than the web does.
 

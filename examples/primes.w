@@ -2,10 +2,10 @@
 % Everything before the first section is passed over.
 
 @* Primes. This program prints the primes below |LIMIT|, a line of them, and how many there are.
-A number is prime if the sieve of the included file leaves it standing.
+A number is prime if the sieve of the included file does not cross it out.
 
-What stands in angle brackets is the name of a part that is told in sections of its own. Its text
-goes where the name stands. A name that begins like one other may be cut short with three dots.
+A text in angle brackets is the name of a part that has sections of its own. The text of the part
+goes where its name is. A name that begins like one other may be cut short with three dots.
 
 @c
 #include <stdio.h>
@@ -29,7 +29,7 @@ int main(void)
     return 0;
 }
 
-@ The bound stands alone, so that a change file can put another in its place.
+@ The bound is a part of its own, so that a change file can put another in its place.
 
 @<Bound of the search@>=
 enum { LIMIT = 50 };

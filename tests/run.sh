@@ -4,7 +4,7 @@
 #
 # usage: tests/run.sh [PART..]
 #
-# The parts are documents, example, cases, talks, machine, limits, memory, comparison, cuts and scripts; without a word all are run. Several
+# The parts are documents, users, example, cases, talks, machine, limits, memory, comparison, cuts and scripts; without a word all are run. Several
 # run side by side, as many at a time as there are processors; what each says is shown when all have ended.
 #
 # CTANGLE=PATH and RETANGLE=PATH take other programs.
@@ -29,7 +29,7 @@ chmod 755 "$room"
 . "$top/tests/lib.sh"
 
 # The longest parts come first.
-[ $# -gt 0 ] || set -- scripts comparison cuts memory limits talks cases machine example documents
+[ $# -gt 0 ] || set -- scripts comparison cuts memory limits talks cases machine users example documents
 if [ $# -gt 1 ]; then
     printf '%s\n' "$@" | xargs -P "$(nproc)" -I PART sh -c '"$0" "$1" >"$2/$1" 2>&1' "$0" PART "$room"
     for part; do
@@ -44,6 +44,7 @@ cp "$program" "$room/ctangle"
 chmod 755 "$room/ctangle"
 
 . "$top/tests/documents.sh"
+. "$top/tests/users.sh"
 . "$top/tests/example.sh"
 . "$top/tests/cases.sh"
 . "$top/tests/talks.sh"

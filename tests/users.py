@@ -1,0 +1,452 @@
+"""What a new user does first, over the built programs.
+
+usage: users.py CTANGLE RETANGLE TOP       TOP is the folder of the repository
+
+- README.md: the web, its C and its fault, the rule for a Makefile, the conversation.
+- make install and make uninstall, with the manual pages.
+- examples/editor.py: as a program, and each save against what ctangle makes of the files.
+- examples/several: both recipes.
+
+The last line is 'N passed, M failed'.
+"""
+import os
+import random
+import re
+import shutil
+import subprocess
+import sys
+import tempfile
+
+ctangle, retangle, top = (os.path.abspath(path) for path in sys.argv[1:4])
+sys.path[:0] = [os.path.join(top, 'examples'), os.path.join(top, 'tests', 'reference')]
+import editor
+from sessions import edited_lines
+
+PATIENCE = 60           # seconds for a run
+LINE_BYTES = 65535
+
+counts = {True: 0, False: 0}
+
+
+def check(holds, name, problem):
+    counts[bool(holds)] += 1
+    if not holds:
+        print('FAIL %s: %s' % (name, problem))
+
+
+def same(got, wanted, name):
+    check(got == wanted, name, '%r, not %r' % (got, wanted))
+
+
+def run(arguments, folder, text=b'', **changed):
+    """Standard output, standard error and the status. A make that runs the tests is hidden."""
+    environment = {name: os.environ[name] for name in os.environ if not name.startswith('MAKE')}
+    done = subprocess.run(arguments, cwd=folder, input=text, capture_output=True, timeout=PATIENCE,
+                          env=dict(environment, **changed))
+    return done.stdout, done.stderr, done.returncode
+
+
+def read(*path):
+    with open(os.path.join(*path), 'rb') as file:
+        return file.read()
+
+
+def write(text, *path):
+    with open(os.path.join(*path), 'wb') as file:
+        file.write(text)
+
+
+def is_there(*path):
+    return os.path.exists(os.path.join(*path))
+
+
+def new_folder(room, name, **files):
+    """A folder with these files, whose names have _ in place of a dot."""
+    folder = os.path.join(room, name)
+    os.mkdir(folder)
+    for file, text in files.items():
+        write(text, folder, file.replace('_', '.'))
+    return folder
+
+
+# ---------------------------------------------------------------------- make install
+
+def files_below(folder):
+    return sorted(os.path.relpath(os.path.join(place, name), folder)
+                  for place, _, names in os.walk(folder) for name in names)
+
+
+def copy_to_install(room):
+    """A folder with what make install copies, so that nothing is built."""
+    source = os.path.join(room, 'source')
+    os.makedirs(os.path.join(source, 'bin'))
+    shutil.copytree(os.path.join(top, 'docs'), os.path.join(source, 'docs'))
+    shutil.copy(os.path.join(top, 'Makefile'), source)
+    shutil.copy(ctangle, os.path.join(source, 'bin', 'ctangle'))
+    shutil.copy(retangle, os.path.join(source, 'bin', 'retangle'))
+    return source
+
+
+def test_install(room):
+    """The folder of the programs that were installed."""
+    make = ['make', '-s', '-o', 'bin/ctangle', '-o', 'bin/retangle']
+    source, root = copy_to_install(room), os.path.join(room, 'an empty root')
+    _, errors, status = run(make + ['install', 'PREFIX=/usr', 'DESTDIR=' + root], source)
+    check(status == 0, 'make install', errors)
+    pages = ['usr/share/man/man1/ctangle.1', 'usr/share/man/man1/retangle.1']
+    same(files_below(root), ['usr/bin/ctangle', 'usr/bin/retangle'] + pages, 'make install')
+    for page in pages:
+        same(read(root, page), read(top, 'docs', os.path.basename(page)), page)
+        check_page(os.path.join(root, page))
+    run(make + ['uninstall', 'PREFIX=/usr', 'DESTDIR=' + root], source)
+    same(files_below(root), [], 'make uninstall')
+
+    prefix = os.path.join(room, 'prefix')
+    run(make + ['install', 'PREFIX=' + prefix], source)
+    programs = os.path.join(prefix, 'bin')
+    same(run([os.path.join(programs, 'ctangle')], room),
+         (b'', b'usage: ctangle [flags] web [change [out]]\n', 2), 'an installed program')
+    check_man(os.path.join(prefix, 'share', 'man'))
+    return programs
+
+
+def check_page(page):
+    """groff, where it is, understands all of a manual page."""
+    if shutil.which('groff'):
+        _, errors, status = run(['groff', '-man', '-Tascii', '-wmac', '-z', page], '/')
+        check(status == 0 and not errors, page, errors)
+
+
+def check_man(pages):
+    """man, where it is, finds both pages. In some containers it only says that it was left out."""
+    for name in ('ctangle', 'retangle') if shutil.which('man') else ():
+        page = os.path.join(pages, 'man1', name + '.1')
+        found, errors, _ = run(['man', '-M', pages, '-w', name], '/')
+        if b'minimized' not in found + errors:
+            same(found.decode(), page + '\n', 'man -w ' + name)
+
+
+# ---------------------------------------------------------------------- README
+
+def blocks_of(text):
+    """The indented blocks of a document."""
+    blocks = re.findall(rb'(?:^(?:    .*)?\n)*^    .*\n', text, re.M)
+    return [re.sub(b'^    ', b'', block, flags=re.M).strip(b'\n') + b'\n' for block in blocks]
+
+
+def block(begins):
+    """The only block of README.md that begins so."""
+    found = [block for block in blocks_of(read(top, 'README.md')) if block.startswith(begins)]
+    same(len(found), 1, 'README.md, blocks that begin with %r' % begins)
+    return found[0]
+
+
+def test_readme(room, programs):
+    web = block(b'@ ')
+    folder = new_folder(room, 'hello', hello_w=web)
+    same(run([ctangle, 'hello'], folder), (b'', b'', 0), 'README.md, ctangle hello')
+    same(read(folder, 'hello.c'), block(b'/*1:*/'), 'README.md, hello.c')
+    check_conversation(folder, block(b'$ retangle hello'))
+
+    write(b''.join(web.splitlines(True)[:-2]), folder, 'hello.w')
+    same(run([ctangle, 'hello'], folder), (b'', block(b'hello.w:'), 1), 'README.md, the fault')
+
+    write(web, folder, 'hello.w')
+    path = programs + os.pathsep + os.environ['PATH']
+    check_make(folder, path, 'make hello without a Makefile')
+    write(block(b'.DELETE_ON_ERROR:'), folder, 'Makefile')
+    check_make(folder, path, 'make hello by the rule of README.md')
+
+    write(web + b'"\n', folder, 'hello.w')
+    _, errors, status = run(['make', 'hello.c'], folder, PATH=path)
+    check(status != 0 and b'hello.w:7: error: quoted text did not end\n' in errors,
+          'make with an error', errors)
+    check(not is_there(folder, 'hello.c'), 'make with an error', 'hello.c is there')
+
+
+def check_conversation(folder, conversation):
+    """What begins with > is typed, and the rest is answered."""
+    lines = conversation.splitlines(True)
+    words = lines[0].split()[2:]
+    typed = b''.join(line[2:] for line in lines[1:] if line.startswith(b'> '))
+    answered = b''.join(line for line in lines[1:] if not line.startswith(b'> '))
+    same(run([retangle] + words, folder, typed)[0], answered, 'README.md, retangle')
+
+
+def check_make(folder, path, name):
+    for file in ('hello', 'hello.c'):
+        if is_there(folder, file):
+            os.remove(os.path.join(folder, file))
+    _, errors, status = run(['make', 'hello'], folder, PATH=path)
+    check(status == 0, name, errors)
+    same(run(['./hello'], folder), (b'hello, world\n', b'', 0), name)
+
+
+def test_names():
+    """README.md names what is there."""
+    text = re.sub(r'^    .*$', '', read(top, 'README.md').decode(), flags=re.M)
+    for name in re.findall(r'`((?:crates|docs|examples|tests)/[^`]*)`', text):
+        check(is_there(top, name), 'README.md', '%s is not there' % name)
+
+
+# ---------------------------------------------------------------------- the editor's client
+
+CLIENT = [sys.executable, '-B', os.path.join(top, 'examples', 'editor.py')]
+
+
+class Client:
+    """The client as a program: each command is answered before the next one is sent."""
+
+    def __init__(self, folder, *arguments):
+        self.folder = folder
+        self.process = subprocess.Popen(CLIENT + list(arguments), cwd=folder,
+                                        stdin=subprocess.PIPE, stdout=subprocess.PIPE,
+                                        env=dict(os.environ, RETANGLE=retangle))
+
+    def prints(self, command, wanted):
+        """Compares what is printed, up to the answer to a line that is no command."""
+        self.process.stdin.write(command + b'\nend\n')
+        self.process.stdin.flush()
+        printed = b''
+        for line in self.process.stdout:
+            if line == b'no such command\n':
+                break
+            printed += line
+        same(printed, wanted, 'editor.py, %s' % command.decode())
+
+    def saves(self, name, text, wanted):
+        """The same when a file was saved with this text, or removed."""
+        if text is None:
+            os.remove(os.path.join(self.folder, name))
+        else:
+            write(text, self.folder, name)
+        self.prints(b'save ' + name.encode(), wanted)
+
+    def ends(self, status):
+        self.process.stdin.close()
+        same(self.process.stdout.read(), b'', 'editor.py, the end')
+        same(self.process.wait(PATIENCE), status, 'editor.py, the status')
+
+
+WITH_B_AND_C = b'''\
+/*1:*/
+#line 2 "a.w"
+
+int z= /*2:*/
+#line 2 "b.w"
+
+1
+/*:2*/
+#line 3 "a.w"
+;
+#line 1 "b.w"
+int b;
+/*:1*//*3:*/
+#line 4 "b.w"
+
+#line 1 "c.w"
+int c;
+/*:3*/
+'''
+NO_C = b'a.w:5: error: included file not found: c.w\n'
+NO_V = b'a.w:3: error: undefined: <v>\n'
+
+
+def test_client(room):
+    folder = new_folder(room, 'client', a_w=b'@ A.\n@c\nint x;\n@i b.w\n', b_w=b'int y;\n')
+    client = Client(folder, 'a')
+    client.prints(b'faults', b'')
+    client.prints(b'show a.h', b'no output file a.h\n')
+
+    # spaces at the end of a line are no change
+    web = b'@ A.\n@c  \nint z=@<v@>;\n@i b.w\n@i c.w\n'
+    client.saves('a.w', web, NO_C + NO_V + b'saved a.w: edits 2, faults 2\n')
+    client.prints(b'faults', NO_C + NO_V)
+    client.prints(b'work', b'1\n')
+
+    # a new file, one that was included from the start, and one that is removed
+    client.saves('c.w', b'int c;\n', NO_V + b'saved c.w: edits 2, faults 1\n')
+    client.saves('b.w', b'int b;\n@ @<v@>=\n1\n@ @c\n', b'saved b.w: edits 5, faults 0\n')
+    client.prints(b'show a.c', WITH_B_AND_C)
+    client.saves('c.w', None, NO_C + b'saved c.w: edits 1, faults 1\n')
+
+    # a refused list changes nothing, and the file can be saved again
+    long = web.replace(b'int z', b'int zz').replace(b'@i c.w', b'x' * (LINE_BYTES + 1))
+    client.saves('a.w', long, b'a.w was not saved: edit 1: LineTooLong\n')
+    client.prints(b'faults', NO_C)
+    client.saves('a.w', None, b'a.w was not saved: edit 1: RoleFile\n')
+    client.saves('a.w', web.replace(b'@i c.w\n', b''), b'saved a.w: edits 1, faults 0\n')
+    client.ends(0)
+
+
+def test_ends_of_the_client(room):
+    folder = new_folder(room, 'ends')
+    same(run(CLIENT + ['a'], folder, b'faults\n', RETANGLE=retangle),
+         (b'', b'retangle: cannot read a.w\n', 3), 'editor.py without a web')
+    write(b'@ A.\n@c\n@<v@>\n', folder, 'a.w')
+    same(run(CLIENT + ['a'], folder, b'faults\nquit\nwork\n', RETANGLE=retangle),
+         (NO_V, b'', 1), 'editor.py, a fault at the end')
+    write(b'@x\n@<v@>\n@y\n1\n@z\n', folder, 'b.ch')
+    output = b'/*1:*/\n#line 2 "a.w"\n\n#line 4 "b.ch"\n1\n/*:1*/\n'
+    words = ['--change', 'b', '--out', 'z', 'a']
+    same(run(CLIENT + words, folder, b'show z.c\n', RETANGLE=retangle), (output, b'', 0),
+         'editor.py, change and out')
+
+
+def test_edits():
+    """The edits of a save turn any lines into any others."""
+    name, chance = 'the edits of a save', random.Random(1)
+    for _ in range(500):
+        old, new = ([chance.choice([b'', b'a', b'b', b'c']) for _ in range(chance.randrange(9))]
+                    for _ in range(2))
+        lines = old
+        for request, text in editor.edits(b'f', old, new):
+            kind, line, _ = request.decode().split(' ')
+            lines = edited_lines(lines, kind, int(line), text or b'')
+        same(lines, new, name)
+    same(editor.edits(b'f', [b'a', b'b', b'c'], [b'a', b'x', b'c']), [(b'replace 2 f', b'x')], name)
+
+
+OUTPUTS = ['calc.c', 'stack.c', 'stack.h']
+
+
+def mutated(lines, chance):
+    """The lines with a few of them gone, doubled, moved or in each other's place."""
+    lines = list(lines)
+    for _ in range(chance.randrange(1, 5)):
+        at, others = chance.randrange(len(lines) + 1), min(len(lines), chance.randrange(3))
+        lines[at:at + chance.randrange(3)] = chance.sample(lines, others)
+    return lines
+
+
+def test_saves(room):
+    """After each save the client shows what ctangle makes of the files."""
+    folder, chance, before = os.path.join(room, 'saves'), random.Random(2), os.getcwd()
+    shutil.copytree(os.path.join(top, 'examples', 'several'), folder)
+    os.environ['RETANGLE'] = retangle
+    os.chdir(folder)
+    try:
+        first = lines = read('calc.w').split(b'\n')[:-1]
+        client = editor.Retangle(b'calc')
+        for _ in range(60):
+            lines = mutated(lines, chance) if chance.randrange(8) else first
+            write(b''.join(line + b'\n' for line in lines), 'calc.w')
+            client.save(b'calc.w')
+            check_shown(client)
+        client.quit()
+    finally:
+        os.chdir(before)
+        del os.environ['RETANGLE']
+
+
+def check_shown(client):
+    for name in filter(os.path.exists, OUTPUTS):
+        os.remove(name)
+    errors = run([ctangle, 'calc'], '.')[1]
+    same(client.faults(), errors.split(b'\n')[:-1], 'the faults after a save')
+    for name in OUTPUTS:
+        wanted = read(name) if os.path.exists(name) else None
+        same(client.show(name.encode()), wanted, 'an output after a save')
+
+
+# ---------------------------------------------------------------------- recipes
+
+SECONDS = 10 ** 9       # nanoseconds
+
+
+def make_older(folder):
+    """Lets ten seconds pass for all files of a folder, so that what is written next is newer."""
+    for name in os.listdir(folder):
+        path = os.path.join(folder, name)
+        time = os.stat(path).st_mtime_ns - 10 * SECONDS
+        os.utime(path, ns=(time, time))
+
+
+def times(folder, names):
+    return [os.stat(os.path.join(folder, name)).st_mtime_ns for name in names]
+
+
+def make(folder, makefile, web):
+    """Whether make succeeds with this text of the web, and standard error."""
+    make_older(folder)
+    write(web, folder, 'calc.w')
+    _, errors, status = run(['make', '-f', makefile, 'CTANGLE=' + ctangle], folder)
+    return status == 0, errors
+
+
+def must_make(folder, makefile, web):
+    done, errors = make(folder, makefile, web)
+    check(done and not errors, makefile, errors)
+
+
+def must_fail(folder, makefile, web):
+    """A line that is added to the web is an error."""
+    done, errors = make(folder, makefile, web + b'"\n')
+    line = web.count(b'\n') + 1
+    check(not done and b'calc.w:%d: error: quoted text did not end\n' % line in errors,
+          makefile + ', an error', errors)
+
+
+def test_recipe(room, makefile):
+    """The folder in which a recipe made the program, and the web."""
+    folder = os.path.join(room, makefile)
+    shutil.copytree(os.path.join(top, 'examples', 'several'), folder)
+    web = read(folder, 'calc.w')
+    must_make(folder, makefile, web)
+    same(run(['./calc', '2', '3', '+', '4', 'x'], folder)[0], b'20\n', makefile)
+    same(run(['./calc', '2', '3', '-'], folder)[0], b'-1\n', makefile)
+    must_make(folder, makefile, web.replace(b'%g', b'%.2f'))
+    same(run(['./calc', '2', '3', '-'], folder)[0], b'-1.00\n', makefile)
+    return folder, web
+
+
+def test_several(room):
+    folder, web = test_recipe(room, 'Makefile')
+    must_fail(folder, 'Makefile', web)
+    left = [name for name in OUTPUTS if is_there(folder, name)]
+    same(left, [], 'Makefile, outputs after an error')
+
+
+def test_unchanged(room):
+    makefile = 'unchanged.mk'
+    folder, web = test_recipe(room, makefile)
+    must_make(folder, makefile, web)
+    made = OUTPUTS + ['calc.o', 'stack.o', 'calc']
+    before = times(folder, made)
+    must_make(folder, makefile, web)
+    same(times(folder, made), [time - 10 * SECONDS for time in before], makefile + ', the same web')
+
+    # the main file alone changes
+    stack = ['stack.c', 'stack.h', 'stack.o']
+    before = times(folder, stack)
+    must_make(folder, makefile, web.replace(b'%g', b'%.2f'))
+    same(times(folder, stack), [time - 10 * SECONDS for time in before], makefile + ', other files')
+    same(run(['./calc', '1'], folder)[0], b'1.00\n', makefile + ', one file')
+
+    # an error changes no output, and a missing output is made again
+    outputs = [read(folder, name) for name in OUTPUTS]
+    must_fail(folder, makefile, web)
+    same([read(folder, name) for name in OUTPUTS], outputs, makefile + ', outputs after an error')
+    must_make(folder, makefile, web)
+    os.remove(os.path.join(folder, 'stack.h'))
+    _, errors, status = run(['make', '-f', makefile, 'CTANGLE=' + ctangle], folder)
+    check(status == 0 and is_there(folder, 'stack.h'), makefile + ', a missing output', errors)
+
+
+def main():
+    with tempfile.TemporaryDirectory() as room:
+        programs = test_install(room)
+        test_readme(room, programs)
+        test_names()
+        test_client(room)
+        test_ends_of_the_client(room)
+        test_edits()
+        test_saves(room)
+        test_several(room)
+        test_unchanged(room)
+    print('%d passed, %d failed' % (counts[True], counts[False]))
+    return 1 if counts[False] else 0
+
+
+if __name__ == '__main__':
+    sys.exit(main())
