@@ -113,8 +113,9 @@ impl Files {
         Ok(Files { table })
     }
 
-    /// Makes an edit. The files keep their order, and one that is discarded closes up. An edit of lines makes anew the
-    /// list of the lines of its file alone.
+    /// Makes an edit. The files keep their order, and one that is discarded closes up. An edit of
+    /// lines changes the list of the lines of its file alone: in place where no other table shares
+    /// it, else a new list is made. [`Edit::Marks`] changes no file.
     ///
     /// # Errors
     ///

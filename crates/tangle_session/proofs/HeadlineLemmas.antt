@@ -79,13 +79,13 @@ stands_made : (files : FileTable) (roles : RolesRead) (lists : List (List Edit))
     → Stands files roles lists before → AreMade before edits after → Stands files roles (lists ++ edits ∷ []) after
 stands_made files roles lists before after edits stands are =
     let files_now : after.files ≡ files_after files (lists ++ edits ∷ []) =
-        are.files ∙ ap (λ fs. edited_all fs edits) stands.files_are ∙ sym (files_more files lists edits) in
+    are.files ∙ ap (λ fs. edited_all fs edits) stands.files_are ∙ sym (files_more files lists edits) in
     let roles_now : after.roles ≡ roles_with roles (lists ++ edits ∷ []) =
-        are.roles ∙ ap (λ rs. roles_after rs edits) stands.roles_are ∙ sym (roles_more roles lists edits) in
+    are.roles ∙ ap (λ rs. roles_after rs edits) stands.roles_are ∙ sym (roles_more roles lists edits) in
     let web_before : web_at before.files before.roles ≡ web_after files roles lists =
-        ap (λ fs. web_at fs before.roles) stands.files_are ∙ ap (web_at (files_after files lists)) stands.roles_are in
+    ap (λ fs. web_at fs before.roles) stands.files_are ∙ ap (web_at (files_after files lists)) stands.roles_are in
     let web_now : web_at after.files after.roles ≡ web_after files roles (lists ++ edits ∷ []) =
-        ap (λ fs. web_at fs after.roles) files_now ∙ ap (web_at (files_after files (lists ++ edits ∷ []))) roles_now in
+    ap (λ fs. web_at fs after.roles) files_now ∙ ap (web_at (files_after files (lists ++ edits ∷ []))) roles_now in
     record {
       files_are = files_now;
       roles_are = roles_now;
@@ -156,7 +156,7 @@ several_answered before after edits (Ok done) files roles work refused only err 
   where
     none : (o : Option ListRefusal) → IfSome o (λ refused. (Ok done ≡ Err refused) ⊎ (Ok done ≡ Err list_memory)) → o ≡ None
     none None h = refl
-    none (Some refused) h = elim h [ | inl h ↦ absurd (cc) | inr h ↦ absurd (cc) ]
+    none (Some refused) h = elim h [ inl h ↦ absurd (cc) | inr h ↦ absurd (cc) ]
 several_answered before after edits (Err refused) files roles work refused_for only err =
     (reason (list_refusal before.files before.roles edits.items) refused_for only, err)
   where
@@ -166,7 +166,7 @@ several_answered before after edits (Err refused) files roles work refused_for o
     reason : (o : Option ListRefusal) → IfSome o (λ r. (told ≡ Err r) ⊎ (told ≡ Err list_memory)) → IfNone o (IsOkUnless told list_memory)
         → (o ≡ Some refused) ⊎ (refused ≡ list_memory)
     reason None h only = inr only
-    reason (Some r) h only = elim h [ | inl is ↦ inl (cc) | inr is ↦ inr (cc) ]
+    reason (Some r) h only = elim h [ inl is ↦ inl (cc) | inr is ↦ inr (cc) ]
 
 -- why a start is refused
 

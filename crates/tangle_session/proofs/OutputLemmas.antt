@@ -152,7 +152,7 @@ look_up web marks name (o ∷ os) = by (bytes_eq name o.name) (look_up web marks
   where
     by : (b : Bool) → lookup (bytes_eq name) (map (written web marks) os) ≡ option_map (output_bytes web marks) (find (λ o. bytes_eq name o.name) os)
         → cond b (Some (output_bytes web marks o)) (lookup (bytes_eq name) (map (written web marks) os))
-            ≡ option_map (output_bytes web marks) (cond b (Some o) (find (λ o. bytes_eq name o.name) os))
+        ≡ option_map (output_bytes web marks) (cond b (Some o) (find (λ o. bytes_eq name o.name) os))
     by true e = refl
     by false e = e
 

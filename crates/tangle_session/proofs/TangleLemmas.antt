@@ -167,7 +167,7 @@ module _ (files : FileTable) (roles : RolesRead) (tangled : Tangled) (hold : Hol
           ∙ same_text (web_at files roles) tangled.ground.store tangled.kept hold.ground.store hold.ground.store_names hold.kept roles.marks output fit
 
     pub truth_at : ((source : SourceRead) (web : WebRead) (node : Title) → PiecesStandAtTheirLines source web
-            → IsTrueToLines source web node (text (numbers_of web (table_of web) Full) (flat_of (project_of web) node)))
+        → IsTrueToLines source web node (text (numbers_of web (table_of web) Full) (flat_of (project_of web) node)))
         → roles.marks ≡ Full → IsTrueFile files roles name
     truth_at law full = record {
       output = output;

@@ -185,7 +185,7 @@ pub data ListsLastExpanded (files : FileTable) (roles : RolesRead) (nodes : List
   ByStart : ListsExpandable (web_at files roles) nodes → ListsLastExpanded files roles nodes []
   ByLast : (earlier : List (List Edit)) (last : List Edit)
       → ListsAffected (web_after files roles earlier)
-          (web_after files roles (earlier ++ last ∷ [])) nodes
+      (web_after files roles (earlier ++ last ∷ [])) nodes
       → ListsLastExpanded files roles nodes (earlier ++ last ∷ [])
 
 -- The count that is shown is that of these nodes. Here the files and the roles are those of the

@@ -28,12 +28,7 @@ pub(crate) struct Ground {
 impl Ground {
     /// What a web is made into, for a main file of this name and line marks that are written so. The
     /// faults are those of names as yet; the store has those of the graph.
-    fn of_web(
-        alloc: Global,
-        web: &Web,
-        out: &[u8],
-        marks: MarkMode,
-    ) -> Result<Ground, NoMemory>
+    fn of_web(alloc: Global, web: &Web, out: &[u8], marks: MarkMode) -> Result<Ground, NoMemory>
         ensures names { IfOk result (λ made. made.table.names ≡ (table_of web.now).names) }
         ensures store { IfOk result (λ made. IsStoreOf (project_of web.now) made.store) }
         ensures store_names { IfOk result (λ made. made.store.names ≡ (table_of web.now).names) }
