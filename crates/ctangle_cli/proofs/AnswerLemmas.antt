@@ -1,22 +1,30 @@
--- Answers to the requests of a script: a text in several parts, and what came of an edit.
-use Rattle.std.proofs.Common.{◌≡◌, inl, inr, ℕ, true, List, ◌++◌, Option, None, Some, Result, Ok, Err, ap, subst, sym, refl, length, codes}
-use Rattle.std.specs.Prelude.{IfNone, IfSome, IsOkUnless, OnErr, OnOk}
+-- Answers to the requests of a script: a text in several parts, and what came of an edit or a list.
+use Rattle.std.proofs.Common.{◌≡◌, ◌⊎◌, inl, inr, ℕ, true, false, List, [], ◌++◌, Option, None, Some, Result, Ok, Err, ap, subst, sym, refl, length, codes}
+use Rattle.std.specs.Prelude.{IfNone, IfSome, IsOkUnless, OnErr, OnOk, is_some}
+use Rattle.std.specs.Global.{Global}
 use Rattle.std.specs.Option.{option_map}
+use Rattle.std.specs.declared.vec.Vec.{Vec}
 use Rattle.tangle_streams.specs.Streams.{Stream}
+use Rattle.tangle_files.specs.Edited.{edited_all, roles_after}
 use Rattle.tangle_files.specs.declared.edits.Edit.{Edit}
-use Rattle.tangle_files.specs.declared.edits.Edit.TheVariants.{Insert, Replace, Remove, Create, Discard}
+use Rattle.tangle_files.specs.declared.edits.Edit.TheVariants.{Insert, Replace, Remove, Create, Discard, Marks}
+use Rattle.tangle_files.specs.declared.marks.MarkMode.TheVariants.{Full, Bare}
 use Rattle.tangle_files.specs.declared.refusal.Refusal.{Refusal}
-use Rattle.tangle_files.specs.declared.refusal.Refusal.TheVariants.{BadName, FileExists, TooManyFiles, LineTooLong, TooManyLines, NoMemory, UnknownFile, NoSuchLine, BadLine, NoWeb, NoChange, RoleFile, NoOutput, WriteFault}
+use Rattle.tangle_files.specs.declared.refusal.Refusal.TheVariants.{BadName, FileExists, TooManyFiles, LineTooLong, TooManyLines, NoMemory, UnknownFile}
+use Rattle.tangle_files.specs.declared.refusal.Refusal.TheVariants.{NoSuchLine, BadLine, NoWeb, NoChange, RoleFile, NoOutput, WriteFault}
 use Rattle.tangle_script.specs.Requests.{is_edit}
+use Rattle.tangle_script.specs.Requests.Request.{Begin, Commit, Cancel}
 use Rattle.tangle_script.specs.Script.{Replies, WritesText}
-use Rattle.tangle_files.specs.Edited.{edited}
-use Rattle.tangle_session.specs.Edits.{session_refusal}
+use Rattle.tangle_session.specs.Edits.{list_memory, list_refusal, session_refusal}
 use Rattle.tangle_session.specs.Files.{web_at}
-use Rattle.tangle_session.specs.Sessions.{ListsAffected, SessionRead}
+use Rattle.tangle_session.specs.Sessions.{AreMade, ListsAffected, SessionRead}
 use Rattle.tangle_session.specs.Writes.{WritesOut}
-use Rattle.ctangle_cli.specs.Conversation.{AnswersEdit, IsApplied, answers, done_line, request_for, shown}
-use Rattle.ctangle_cli.specs.Conversation.AnswersEdit.{IsMade, IsRefused}
-use Rattle.ctangle_cli.specs.Messages.{TakesAll, TakesFront, refusal_name}
+use Rattle.tangle_session.specs.declared.refusing.ListRefusal.{ListRefusal}
+use Rattle.ctangle_cli.specs.Conversation.{AnswersIn, AnswersList, ConversationRead, answers, in_conversation, list_line, list_refused_line}
+use Rattle.ctangle_cli.specs.Conversation.{refused_line, request_for, shown}
+use Rattle.ctangle_cli.specs.Conversation.AnswersEdit.{IsRefused}
+use Rattle.ctangle_cli.specs.Conversation.AnswersList.{IsListMade, IsListRefused, IsListOutOfMemory}
+use Rattle.ctangle_cli.specs.Messages.{TakesAll, TakesFront}
 use Rattle.ctangle_cli.proofs.RunLemmas.{whole_then_cut, whole_then_whole}
 
 -- bytes after a text that was written so far
@@ -35,12 +43,14 @@ pub some_has_bytes : (found : Option (List ℕ)) (size : ℕ) → Some size ≡ 
 some_has_bytes None size e = absurd (cc)
 some_has_bytes (Some bytes) size e = let same : size ≡ length bytes = cc in (bytes, refl, sym same)
 
-answers_edit : (s t : SessionRead) (made : Edit) (text : List ℕ) → AnswersEdit s made text t → answers s (request_for made) text t
+answers_edit : (s t : ConversationRead) (made : Edit) (text : List ℕ) → AnswersIn s.draft s made text t → answers s (request_for made) text t
 answers_edit s t (Insert file at line) text h = (Insert file at line, refl, h)
 answers_edit s t (Replace file at line) text h = (Replace file at line, refl, h)
 answers_edit s t (Remove file at) text h = (Remove file at, refl, h)
 answers_edit s t (Create file) text h = (Create file, refl, h)
 answers_edit s t (Discard file) text h = (Discard file, refl, h)
+answers_edit s t (Marks Full) text h = (Marks Full, refl, h)
+answers_edit s t (Marks Bare) text h = (Marks Bare, refl, h)
 
 asks_for_edit : (made : Edit) → is_edit (request_for made) ≡ true
 asks_for_edit (Insert file at line) = refl
@@ -48,27 +58,74 @@ asks_for_edit (Replace file at line) = refl
 asks_for_edit (Remove file at) = refl
 asks_for_edit (Create file) = refl
 asks_for_edit (Discard file) = refl
+asks_for_edit (Marks Full) = refl
+asks_for_edit (Marks Bare) = refl
 
-applied : (s t : SessionRead) (made : Edit) (done : Result (Unit {0}) Refusal) → OnOk done (t.files ≡ edited s.files made) → OnOk done (t.roles ≡ s.roles)
-    → OnOk done (ListsAffected (web_at s.files s.roles) (web_at t.files t.roles) t.work) → OnOk done (IsApplied s made t)
-applied s t made (Ok x) files roles work = record { files = files; roles = roles; work = work }
-applied s t made (Err refusal) files roles work = tt
+abbrev Same : Result (Unit {0}) Refusal → Result (Unit {0}) Refusal → Type 0
+Same a b = a ≡ b
 
--- what a session does with an edit answers the request for it
-pub replies_to_edit : (s t : SessionRead) (made : Edit) (done : Result (Unit {0}) Refusal) → OnOk done (t.files ≡ edited s.files made) → OnOk done (t.roles ≡ s.roles)
-    → OnOk done (ListsAffected (web_at s.files s.roles) (web_at t.files t.roles) t.work) → IfSome (session_refusal s.files s.roles made) (λ refusal. done ≡ Err refusal) → IfNone (session_refusal s.files s.roles made) (IsOkUnless done NoMemory)
-    → OnErr done (t ≡ s) → Replies answers s (request_for made) (done_line done) t
-replies_to_edit s t made done files roles work refused only stays =
-    by done (session_refusal s.files s.roles made) refl (applied s t made done files roles work) refused only stays
+-- what a session does with an edit, while no list is open, answers the request for it
+pub refused_now : (s t : SessionRead) (d : Option (Vec Edit Global)) (made : Edit) (refusal : Refusal) → d ≡ None
+    → IfSome (session_refusal s.files s.roles made) (λ other. Same (Err refusal) (Err other))
+    → IfNone (session_refusal s.files s.roles made) (refusal ≡ NoMemory) → t ≡ s
+    → Replies answers (in_conversation s d) (request_for made) (refused_line refusal) (in_conversation t d)
+refused_now s t d made refusal none refused only stays =
+    rw none (by (session_refusal s.files s.roles made) refl refused only)
   where
-    by : (r : Result (Unit {0}) Refusal) (o : Option Refusal) → session_refusal s.files s.roles made ≡ o → OnOk r (IsApplied s made t) → IfSome o (λ refusal. r ≡ Err refusal)
-        → IfNone o (IsOkUnless r NoMemory) → OnErr r (t ≡ s) → Replies answers s (request_for made) (done_line r) t
-    by (Ok x) None e a f n k = inl (answers_edit s t made _ (IsMade e refl a))
-    by (Ok x) (Some refusal) e a f n k = absurd (cc)
-    by (Err refusal) None e a f n k = inr (asks_for_edit made, ap (λ r. codes "no " ++ refusal_name r ++ codes "\n") n, k)
-    by (Err refusal) (Some other) e a f n k =
+    by : (o : Option Refusal) → session_refusal s.files s.roles made ≡ o → IfSome o (λ other. Same (Err refusal) (Err other)) → IfNone o (refusal ≡ NoMemory)
+        → Replies answers (record { session = s; draft = None }) (request_for made) (refused_line refusal) (record { session = t; draft = None })
+    by None e f n = inr (asks_for_edit made, ap refused_line n, ap (λ x. record { session = x; draft = None }) stays)
+    by (Some other) e f n =
         let same : refusal ≡ other = cc in
-        inl (answers_edit s t made _ (IsRefused other e (ap (λ r. codes "no " ++ refusal_name r ++ codes "\n") same) k))
+        inl (answers_edit (record { session = s; draft = None }) (record { session = t; draft = None }) made _ (IsRefused other e (ap refused_line same) stays, refl))
+
+-- lists that are opened, made and dropped
+
+pub bad_begin : (session : SessionRead) (d : Option (Vec Edit Global)) → is_some d ≡ true → answers (in_conversation session d) Begin (codes "no BadCommand\n") (in_conversation session d)
+bad_begin session None h = absurd (cc)
+bad_begin session (Some held) h = (refl, refl)
+
+pub begun : (session : SessionRead) (d : Option (Vec Edit Global)) (empty : Vec Edit Global) → is_some d ≡ false → empty.items ≡ []
+    → answers (in_conversation session d) Begin (codes "ok\n") (in_conversation session (Some empty))
+begun session None empty h e = (refl, ap (λ l. record { session = session; draft = Some l }) e)
+begun session (Some held) empty h e = absurd (cc)
+
+pub bad_cancel : (session : SessionRead) (d : Option (Vec Edit Global)) → is_some d ≡ false → answers (in_conversation session d) Cancel (codes "no BadCommand\n") (in_conversation session d)
+bad_cancel session None h = (refl, refl)
+bad_cancel session (Some held) h = absurd (cc)
+
+pub cancelled : (session : SessionRead) (d : Option (Vec Edit Global)) → is_some d ≡ true → answers (in_conversation session d) Cancel (codes "ok\n") (in_conversation session None)
+cancelled session None h = absurd (cc)
+cancelled session (Some held) h = (refl, refl)
+
+pub bad_commit : (session : SessionRead) (d : Option (Vec Edit Global)) → d ≡ None → answers (in_conversation session d) Commit (codes "no BadCommand\n") (in_conversation session None)
+bad_commit session d none = rw none (refl, refl)
+
+made_whole : (s t : SessionRead) (made : List Edit) (done : Result (Unit {0}) ListRefusal) → OnOk done (t.files ≡ edited_all s.files made)
+    → OnOk done (t.roles ≡ roles_after s.roles made) → OnOk done (ListsAffected (web_at s.files s.roles) (web_at t.files t.roles) t.work) → OnOk done (AreMade s made t)
+made_whole s t made (Ok x) files roles work = record { files = files; roles = roles; work = work }
+made_whole s t made (Err refused) files roles work = tt
+
+pub list_answered : (s t : SessionRead) (made : List Edit) (done : Result (Unit {0}) ListRefusal) → OnOk done (t.files ≡ edited_all s.files made)
+    → OnOk done (t.roles ≡ roles_after s.roles made) → OnOk done (ListsAffected (web_at s.files s.roles) (web_at t.files t.roles) t.work)
+    → IfSome (list_refusal s.files s.roles made) (λ refused. (done ≡ Err refused) ⊎ (done ≡ Err list_memory))
+    → IfNone (list_refusal s.files s.roles made) (IsOkUnless done list_memory) → OnErr done (t ≡ s) → AnswersList s made (list_line done) t
+list_answered s t made done files roles work refused only stays =
+    by done (list_refusal s.files s.roles made) refl (made_whole s t made done files roles work) refused only stays
+  where
+    by : (r : Result (Unit {0}) ListRefusal) (o : Option ListRefusal) → list_refusal s.files s.roles made ≡ o → OnOk r (AreMade s made t)
+        → IfSome o (λ refused. (r ≡ Err refused) ⊎ (r ≡ Err list_memory)) → IfNone o (IsOkUnless r list_memory) → OnErr r (t ≡ s) → AnswersList s made (list_line r) t
+    by (Ok x) None e a f n k = IsListMade e refl a
+    by (Ok x) (Some refused) e a f n k = elim f [ inl h ↦ absurd (cc) | inr h ↦ absurd (cc) ]
+    by (Err r) None e a f n k = IsListOutOfMemory (ap list_refused_line n) k
+    by (Err r) (Some refused) e a f n k = elim f [
+      | inl h ↦ (let same : r ≡ refused = cc in IsListRefused refused e (ap list_refused_line same) k)
+      | inr h ↦ (let same : r ≡ list_memory = cc in IsListOutOfMemory (ap list_refused_line same) k)
+    ]
+
+pub committed : (s t : SessionRead) (d : Option (Vec Edit Global)) (held : Vec Edit Global) (text : List ℕ) → d ≡ Some held → AnswersList s held.items text t
+    → answers (in_conversation s d) Commit text (in_conversation t None)
+committed s t d held text some h = rw some (h, refl)
 
 -- an output that was not written whole
 pub output_is_cut : (a b : Stream) (bytes : List ℕ) (refusal : Refusal) → WritesOut a b bytes (Err refusal) → TakesFront a b bytes

@@ -4,7 +4,6 @@ mod MissingLemmas
 mod Quiet
 mod RunLemmas
 mod WriteLemmas
-mod OutputLemmas
 mod WorkedWebs
 mod RetangleLemmas
 mod WorkedWords

@@ -10,7 +10,7 @@ use Rattle.tangle_files.specs.Lines.{FileTable, cut}
 use Rattle.tangle_lines.specs.Faults.{Finding, Spot, fault_at, fault_about, fault_counting, fault_unplaced}
 use Rattle.tangle_lines.specs.Reading.{reads_in}
 use Rattle.tangle_lexer.specs.Steps.{tokens_from, lexeme, names_from}
-use Rattle.tangle_files.specs.Roles.{RolesRead}
+use Rattle.tangle_files.specs.Roles.{RolesRead, roles_of}
 use Rattle.tangle_names.specs.NameTable.{table_of}
 use Rattle.tangle_expansion.specs.Limits.{levels, heaviest}
 use Rattle.tangle_graph.specs.Faults.{graph_faults}
@@ -27,14 +27,14 @@ tangle_of files roles = record {
 
 -- the web in the first of these files; the web alone; and with a change file
 abbrev tangled_files : FileTable → Tangling
-tangled_files files = tangle_of files (record { web = codes "a.w"; change = None; out = codes "a.c" })
+tangled_files files = tangle_of files (roles_of (codes "a.w") None (codes "a.c"))
 
 abbrev tangled_web : List ℕ → Tangling
 tangled_web web = tangled_files ((codes "a.w", cut web) ∷ [])
 
 abbrev tangled_change : List ℕ → List ℕ → Tangling
 tangled_change web change =
-    tangle_of ((codes "a.w", cut web) ∷ (codes "a.ch", cut change) ∷ []) (record { web = codes "a.w"; change = Some (codes "a.ch"); out = codes "a.c" })
+    tangle_of ((codes "a.w", cut web) ∷ (codes "a.ch", cut change) ∷ []) (roles_of (codes "a.w") (Some (codes "a.ch")) (codes "a.c"))
 
 abbrev gives : List Finding → List ℕ → Tangling
 gives faults text = record { faults = faults; outputs = (codes "a.c", text) ∷ [] }
@@ -155,7 +155,7 @@ other_bytes : tangled_web (codes "@ A.\n@c\ncaf" ++ 0xE9 ∷ 0 ∷ codes "=1 \t\
 unfolding source_at web_at reads_in tokens_from lexeme names_from levels heaviest digits
 other_bytes = refl
 
-names_are_escaped : tangle_of ((codes "a\"b\\c", cut (codes "@ A.\n@c\nx\n")) ∷ []) (record { web = codes "a\"b\\c"; change = None; out = codes "a.c" })
+names_are_escaped : tangle_of ((codes "a\"b\\c", cut (codes "@ A.\n@c\nx\n")) ∷ []) (roles_of (codes "a\"b\\c") None (codes "a.c"))
     ≡ gives [] (codes "/*1:*/\n#line 2 \"a\\\"b\\\\c\"\n\nx\n/*:1*/\n")
 unfolding source_at web_at reads_in tokens_from lexeme names_from levels heaviest digits
 names_are_escaped = refl

@@ -2,10 +2,11 @@
 use Rattle.std.proofs.Common.{◌≡◌, true, false, [], ◌∷◌, None, Some, codes, refl}
 use Rattle.clap.specs.Words.{takes}
 use Rattle.clap.proofs.OnLiterals.{clap_on_literals}
+use Rattle.tangle_files.specs.Roles.{roles_of}
 use Rattle.ctangle_cli.specs.RetangleWords.{retangle_app, retangle_names_of}
 
 pub web_and_out : retangle_names_of (codes "retangle" ∷ codes "a" ∷ codes "--out" ∷ codes "z" ∷ [])
-    ≡ Some (record { web = codes "a.w"; change = None; out = codes "z.c" })
+    ≡ Some (roles_of (codes "a.w") None (codes "z.c"))
 unfolding retangle_names_of clap_on_literals
 web_and_out = refl
 
@@ -14,7 +15,7 @@ unfolding clap_on_literals
 web_and_out_are_taken = refl
 
 pub change_before_web : retangle_names_of (codes "retangle" ∷ codes "--change=b" ∷ codes "x/y.web" ∷ [])
-    ≡ Some (record { web = codes "x/y.web"; change = Some (codes "b.ch"); out = codes "y.c" })
+    ≡ Some (roles_of (codes "x/y.web") (Some (codes "b.ch")) (codes "y.c"))
 unfolding retangle_names_of clap_on_literals
 change_before_web = refl
 

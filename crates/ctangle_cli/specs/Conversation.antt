@@ -1,18 +1,41 @@
 -- How a session answers the requests of a script.
-use Rattle.std.specs.Prelude.{◌≡◌, ℕ, Bool, List, ◌++◌, codes, decimal, length, Option, None, Some, Result, Ok, Err}
+use Rattle.std.specs.Prelude.{◌≡◌, ◌+◌, ℕ, Bool, List, [], ◌∷◌, ◌++◌, codes, decimal, length}
+use Rattle.std.specs.Prelude.{Option, None, Some, Result, Ok, Err}
+use Rattle.std.specs.Global.{Global}
 use Rattle.std.specs.List.{list_any}
+use Rattle.std.specs.Option.{option_map}
+use Rattle.std.specs.declared.vec.Vec.{Vec}
 use Rattle.tangle_lines.specs.Faults.{Finding, is_error}
 use Rattle.tangle_files.specs.declared.edits.Edit.{Edit}
 use Rattle.tangle_files.specs.declared.edits.Edit.TheVariants as edit
+use Rattle.tangle_files.specs.declared.marks.MarkMode.{MarkMode}
+use Rattle.tangle_files.specs.declared.marks.MarkMode.TheVariants.{Full, Bare}
 use Rattle.tangle_files.specs.declared.refusal.Refusal.{Refusal}
+use Rattle.tangle_files.specs.declared.refusal.Refusal.TheVariants as refusal
 use Rattle.tangle_script.specs.Requests.{Request}
-use Rattle.tangle_script.specs.Requests.Request.{Insert, Replace, Remove, Create, Discard, Show, Faults, Work, Quit, BadCommand}
-use Rattle.tangle_files.specs.Edited.{edited}
-use Rattle.tangle_session.specs.Edits.{session_refusal}
-use Rattle.tangle_session.specs.Files.{web_at}
-use Rattle.tangle_session.specs.Sessions.{ListsAffected, SessionRead}
+use Rattle.tangle_script.specs.Requests.Request.{Insert, Replace, Remove, Create, Discard}
+use Rattle.tangle_script.specs.Requests.Request.{Show, MarksFull, MarksNone, Begin, Commit, Cancel}
+use Rattle.tangle_script.specs.Requests.Request.{Faults, Work, Quit, BadCommand}
+use Rattle.tangle_session.specs.Edits.{list_memory, list_refusal, session_refusal}
+use Rattle.tangle_session.specs.Sessions.{AreMade, SessionRead}
 use Rattle.tangle_session.specs.Tangle.{AreFaultsOf, output_at}
+use Rattle.tangle_session.specs.declared.refusing.ListRefusal.{ListRefusal}
 use Rattle.ctangle_cli.specs.Messages.{fault_lines, refusal_name}
+use Rattle.ctangle_cli.specs.declared.conversation.Taken.{Taken}
+use Rattle.ctangle_cli.specs.declared.conversation.Taken.TheVariants.{Made, Held}
+
+-- a session, and the list of edits that is open, if one is
+pub record ConversationRead : Type 0 where
+  pub session : SessionRead
+  pub draft : Option (List Edit)
+
+abbrev pub in_conversation : SessionRead → Option (Vec Edit Global) → ConversationRead
+in_conversation session draft =
+    record { session = session; draft = option_map (λ d. d.items) draft }
+
+abbrev pub marks_request : MarkMode → Request
+marks_request Full = MarksFull
+marks_request Bare = MarksNone
 
 -- the request that asks for an edit
 abbrev pub request_for : Edit → Request
@@ -21,27 +44,92 @@ request_for (edit.Replace file at text) = Replace at file.items text.items
 request_for (edit.Remove file at) = Remove at file.items
 request_for (edit.Create file) = Create file.items
 request_for (edit.Discard file) = Discard file.items
+request_for (edit.Marks mode) = marks_request mode
 
--- the line that tells what came of an edit
-abbrev pub done_line : {T : Type 0} → Result T Refusal → List ℕ
-done_line (Ok done) = codes "ok\n"
-done_line (Err refusal) = codes "no " ++ refusal_name refusal ++ codes "\n"
+abbrev pub refused_line : Refusal → List ℕ
+refused_line refusal = codes "no " ++ refusal_name refusal ++ codes "\n"
 
--- the session after an edit that is made: the edited files, the same roles, and what the edit affects
-pub record IsApplied (s : SessionRead) (made : Edit) (t : SessionRead) : Type 0 where
-  pub files : t.files ≡ edited s.files made
-  pub roles : t.roles ≡ s.roles
-  pub work : ListsAffected (web_at s.files s.roles) (web_at t.files t.roles) t.work
+-- the line that says that an edit was made, or is held in the list that is open
+abbrev pub word_line : Taken → List ℕ
+word_line Made = codes "ok\n"
+word_line Held = codes "held\n"
+
+-- the line that says what came of an edit
+abbrev pub taken_line : Result Taken Refusal → List ℕ
+taken_line (Ok taken) = word_line taken
+taken_line (Err refusal) = refused_line refusal
+
+-- the number of the edit that a list is refused for, from 1; 0 where memory ran out
+abbrev pub edit_number_of : Refusal → ℕ → ℕ
+edit_number_of refusal.NoMemory at = 0
+edit_number_of _ at = at + 1
+
+abbrev pub edit_number : ListRefusal → ℕ
+edit_number refused = edit_number_of refused.refusal refused.at
+
+abbrev pub list_refused_line : ListRefusal → List ℕ
+list_refused_line refused =
+    codes "no " ++ refusal_name refused.refusal ++ codes " " ++ decimal (edit_number refused)
+    ++ codes "\n"
+
+-- the line that says what came of a list of edits
+abbrev pub list_line : {T : Type 0} → Result T ListRefusal → List ℕ
+list_line (Ok done) = codes "ok\n"
+list_line (Err refused) = list_refused_line refused
 
 -- an edit is made and answered so, or is refused and changes nothing
-pub data AnswersEdit (s : SessionRead) (made : Edit) (text : List ℕ) (t : SessionRead) : Type 0 where
-  IsMade : session_refusal s.files s.roles made ≡ None → text ≡ codes "ok\n" → IsApplied s made t → AnswersEdit s made text t
-  IsRefused : (refusal : Refusal) → session_refusal s.files s.roles made ≡ Some refusal → text ≡ codes "no " ++ refusal_name refusal ++ codes "\n"
-      → t ≡ s → AnswersEdit s made text t
+pub data AnswersEdit (s : SessionRead) (made : Edit) (text : List ℕ) (t : SessionRead) :
+    Type 0 where
+  IsMade : session_refusal s.files s.roles made ≡ None → text ≡ codes "ok\n"
+      → AreMade s (made ∷ []) t → AnswersEdit s made text t
+  IsRefused : (refusal : Refusal) → session_refusal s.files s.roles made ≡ Some refusal
+      → text ≡ refused_line refusal → t ≡ s → AnswersEdit s made text t
+
+-- so is a list of edits, which may also run out of memory, and then changes nothing
+pub data AnswersList (s : SessionRead) (made : List Edit) (text : List ℕ) (t : SessionRead) :
+    Type 0 where
+  IsListMade : list_refusal s.files s.roles made ≡ None → text ≡ codes "ok\n" → AreMade s made t
+      → AnswersList s made text t
+  IsListRefused : (refused : ListRefusal) → list_refusal s.files s.roles made ≡ Some refused
+      → text ≡ list_refused_line refused → t ≡ s → AnswersList s made text t
+  IsListOutOfMemory : text ≡ list_refused_line list_memory → t ≡ s → AnswersList s made text t
+
+-- an edit is made while no list is open, and is held last in the list that is open
+abbrev pub AnswersIn :
+    Option (List Edit) → ConversationRead → Edit → List ℕ → ConversationRead → Type 0
+AnswersIn None s made text t = AnswersEdit s.session made text t.session × (t.draft ≡ None)
+AnswersIn (Some held) s made text t =
+    (text ≡ codes "held\n")
+    × (t ≡ record { session = s.session; draft = Some (held ++ made ∷ []) })
 
 -- the answer to a request for an edit
-abbrev pub AnswersRequest : SessionRead → Request → List ℕ → SessionRead → Type 0
-AnswersRequest s request text t = (made : Edit) × (request_for made ≡ request) × AnswersEdit s made text t
+abbrev pub AnswersRequest : ConversationRead → Request → List ℕ → ConversationRead → Type 0
+AnswersRequest s request text t =
+    (made : Edit) × (request_for made ≡ request) × AnswersIn s.draft s made text t
+
+abbrev pub IsBad : ConversationRead → List ℕ → ConversationRead → Type 0
+IsBad s text t = (text ≡ codes "no BadCommand\n") × (t ≡ s)
+
+-- a list is opened, where none is open
+abbrev pub AnswersBegin :
+    Option (List Edit) → ConversationRead → List ℕ → ConversationRead → Type 0
+AnswersBegin None s text t =
+    (text ≡ codes "ok\n") × (t ≡ record { session = s.session; draft = Some [] })
+AnswersBegin (Some held) s text t = IsBad s text t
+
+-- the edits of the list that is open are made, all or none, and the list is closed
+abbrev pub AnswersCommit :
+    Option (List Edit) → ConversationRead → List ℕ → ConversationRead → Type 0
+AnswersCommit None s text t = IsBad s text t
+AnswersCommit (Some held) s text t =
+    AnswersList s.session held text t.session × (t.draft ≡ None)
+
+-- the list that is open is dropped
+abbrev pub AnswersCancel :
+    Option (List Edit) → ConversationRead → List ℕ → ConversationRead → Type 0
+AnswersCancel None s text t = IsBad s text t
+AnswersCancel (Some held) s text t =
+    (text ≡ codes "ok\n") × (t ≡ record { session = s.session; draft = None })
 
 -- an output file of this name as it is shown, or that there is none
 abbrev pub shown : List ℕ → Option (List ℕ) → List ℕ
@@ -49,26 +137,38 @@ shown name None = codes "no NoOutput\n"
 shown name (Some bytes) = codes "= " ++ name ++ codes " " ++ decimal (length bytes) ++ codes "\n" ++ bytes
 
 -- how many faults there are, and their lines
-abbrev pub told_faults : List Finding → List ℕ
-told_faults faults = codes "faults " ++ decimal (length faults) ++ codes "\n" ++ fault_lines faults
+abbrev pub listed_faults : List Finding → List ℕ
+listed_faults faults =
+    codes "faults " ++ decimal (length faults) ++ codes "\n" ++ fault_lines faults
 
--- the faults of the files as they stand are told
-abbrev pub TellsFaults : SessionRead → List ℕ → Type 0
-TellsFaults s text = (faults : List Finding) × AreFaultsOf s.files s.roles faults × (text ≡ told_faults faults)
+-- the faults of the files are listed
+abbrev pub ListsFaults : SessionRead → List ℕ → Type 0
+ListsFaults s text =
+    (faults : List Finding) × AreFaultsOf s.files s.roles faults × (text ≡ listed_faults faults)
 
--- this text answers the request of a session, and the other one is the session after it
-abbrev pub answers : SessionRead → Request → List ℕ → SessionRead → Type 0
+-- This text answers the request, and the other conversation is the one after it. Questions are
+-- answered from the session, whether a list is open or not, and change nothing.
+abbrev pub answers : ConversationRead → Request → List ℕ → ConversationRead → Type 0
 answers s (Insert at file line) text t = AnswersRequest s (Insert at file line) text t
 answers s (Replace at file line) text t = AnswersRequest s (Replace at file line) text t
 answers s (Remove at file) text t = AnswersRequest s (Remove at file) text t
 answers s (Create file) text t = AnswersRequest s (Create file) text t
 answers s (Discard file) text t = AnswersRequest s (Discard file) text t
-answers s (Show file) text t = (text ≡ shown file (output_at s.files s.roles file)) × (t ≡ s)
-answers s Faults text t = TellsFaults s text × (t ≡ s)
-answers s Work text t = (text ≡ codes "work " ++ decimal (length s.work) ++ codes "\n") × (t ≡ s)
+answers s MarksFull text t = AnswersRequest s MarksFull text t
+answers s MarksNone text t = AnswersRequest s MarksNone text t
+answers s Begin text t = AnswersBegin s.draft s text t
+answers s Commit text t = AnswersCommit s.draft s text t
+answers s Cancel text t = AnswersCancel s.draft s text t
+answers s (Show file) text t =
+    (text ≡ shown file (output_at s.session.files s.session.roles file)) × (t ≡ s)
+answers s Faults text t = ListsFaults s.session text × (t ≡ s)
+answers s Work text t =
+    (text ≡ codes "work " ++ decimal (length s.session.work) ++ codes "\n") × (t ≡ s)
 answers s Quit text t = (text ≡ codes "ok\n") × (t ≡ s)
-answers s BadCommand text t = (text ≡ codes "no BadCommand\n") × (t ≡ s)
+answers s BadCommand text t = IsBad s text t
 
--- whether an error is among the faults of the files as they stand
-abbrev pub HasError : SessionRead → Bool → Type 0
-HasError s error = (faults : List Finding) × AreFaultsOf s.files s.roles faults × (error ≡ list_any is_error faults)
+-- whether an error is among the faults of the files
+abbrev pub HasError : ConversationRead → Bool → Type 0
+HasError s error =
+    (faults : List Finding) × AreFaultsOf s.session.files s.session.roles faults
+    × (error ≡ list_any is_error faults)

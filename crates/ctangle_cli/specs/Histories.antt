@@ -1,25 +1,66 @@
 -- The edits of a script, as calls of a history.
-use Rattle.std.specs.Prelude.{◌≡◌, ◌++◌, ◌∷◌, [], ℕ, List, codes, true, false, Result}
+use Rattle.std.specs.Prelude.{◌≡◌, ◌++◌, ◌∷◌, [], ℕ, Bool, List, codes, true, false}
+use Rattle.std.specs.Prelude.{Option, None, Some, Result, Ok, Err}
 use Rattle.tangle_files.specs.declared.edits.Edit.{Edit}
 use Rattle.tangle_files.specs.declared.refusal.Refusal.{Refusal}
 use Rattle.tangle_script.specs.Requests.{Command, Request, is_edit, request_of}
-use Rattle.tangle_session.specs.Headline.{Call}
-use Rattle.ctangle_cli.specs.Conversation.{done_line, request_for}
+use Rattle.tangle_script.specs.Requests.Request.{Begin, Commit, Cancel}
+use Rattle.tangle_session.specs.Edits.{of_first}
+use Rattle.tangle_session.specs.Headline.{Call, OneEdit, ListOf}
+use Rattle.tangle_session.specs.declared.refusing.ListRefusal.{ListRefusal}
+use Rattle.ctangle_cli.specs.Conversation.{list_line, refused_line, request_for}
 
--- What became of a request that was answered by this text: one call, of the edit that it asks for
--- and with the answer that the text says; or none, where it asks for no edit, or where there was no
--- memory for the texts of its edit.
-pub data IsCallOf (request : Request) (text : List ℕ) : List Call → Type 0 where
+-- the answer to one edit, as a call of a history has it
+abbrev pub one_answer : Result (Unit {0}) Refusal → Result (Unit {0}) ListRefusal
+one_answer (Ok done) = Ok done
+one_answer (Err refusal) = Err (of_first refusal)
+
+-- the line that says what came of one edit
+abbrev pub one_line : Result (Unit {0}) Refusal → List ℕ
+one_line (Ok done) = codes "ok\n"
+one_line (Err refusal) = refused_line refusal
+
+-- whether the request opens or closes a list, where this list is open, or none is
+abbrev pub is_of_list : Option (List Edit) → Request → Bool
+is_of_list None Begin = true
+is_of_list None _ = false
+is_of_list (Some held) Commit = true
+is_of_list (Some held) Cancel = true
+is_of_list (Some held) _ = false
+
+-- What became of a request that was answered by this text: the calls of it, of which there is one or
+-- none, and the list that is open before and after it, if one is.
+pub data IsCallOf (request : Request) (text : List ℕ) :
+    Option (List Edit) → List Call → Option (List Edit) → Type 0 where
+  -- an edit was handed over, and answered as the text says
   IsEdit : (edit : Edit) (answer : Result (Unit {0}) Refusal)
-      → request_for edit ≡ request → text ≡ done_line answer
-      → IsCallOf request text ((edit, answer) ∷ [])
-  IsNoEdit : is_edit request ≡ false → IsCallOf request text []
-  IsOutOfMemory : is_edit request ≡ true → text ≡ codes "no NoMemory\n" → IsCallOf request text []
+      → request_for edit ≡ request → text ≡ one_line answer
+      → IsCallOf request text None ((OneEdit edit, one_answer answer) ∷ []) None
+  -- an edit is held in the list that is open
+  IsHeld : (held : List Edit) (edit : Edit) → request_for edit ≡ request → text ≡ codes "held\n"
+      → IsCallOf request text (Some held) [] (Some (held ++ edit ∷ []))
+  -- a list was opened
+  IsOpened : request ≡ Begin → text ≡ codes "ok\n" → IsCallOf request text None [] (Some [])
+  -- the edits of the list were handed over at once, and answered as the text says
+  IsCommitted : (held : List Edit) (answer : Result (Unit {0}) ListRefusal) → request ≡ Commit
+      → text ≡ list_line answer
+      → IsCallOf request text (Some held) ((ListOf held, answer) ∷ []) None
+  -- the list was dropped
+  IsDropped : (held : List Edit) → request ≡ Cancel → text ≡ codes "ok\n"
+      → IsCallOf request text (Some held) [] None
+  -- the request asks for none of these
+  IsNoEdit : (draft : Option (List Edit)) → is_edit request ≡ false
+      → is_of_list draft request ≡ false → IsCallOf request text draft [] draft
+  -- memory ran out for the texts of an edit, or for holding it
+  IsOutOfMemory : (draft : Option (List Edit)) → is_edit request ≡ true
+      → text ≡ codes "no NoMemory\n" → IsCallOf request text draft [] draft
 
 -- what became of commands that were answered by this text, one after another
-abbrev pub AreCallsOf : List Command → List ℕ → List Call → Type 0
-AreCallsOf [] text calls = (text ≡ []) × (calls ≡ [])
-AreCallsOf (command ∷ commands) text calls =
-    (first rest : List ℕ) × (call later : List Call)
+abbrev pub AreCallsOf :
+    List Command → List ℕ → Option (List Edit) → List Call → Option (List Edit) → Type 0
+AreCallsOf [] text old calls new = (text ≡ []) × (calls ≡ []) × (new ≡ old)
+AreCallsOf (command ∷ commands) text old calls new =
+    (first rest : List ℕ) × (call later : List Call) × (between : Option (List Edit))
     × (text ≡ first ++ rest) × (calls ≡ call ++ later)
-    × IsCallOf (request_of command) first call × AreCallsOf commands rest later
+    × IsCallOf (request_of command) first old call between
+    × AreCallsOf commands rest between later new

@@ -2,7 +2,7 @@
 use Rattle.std.specs.Prelude.{ℕ, Bool, false, ◌==◌, ◌||◌, ◌&&◌, not, nat_lt, length, filter, List, [], ◌∷◌, ◌++◌, codes, Option, None, Some, if◌then◌else◌}
 use Rattle.std.specs.List.{list_any, after_last, before_last}
 use Rattle.std.specs.Str.{bytes_eq}
-use Rattle.tangle_files.specs.Roles.{RolesRead}
+use Rattle.tangle_files.specs.Roles.{RolesRead, roles_of}
 
 -- a word of two bytes or more that begins with a hyphen (45) or a plus sign (43)
 abbrev pub is_flag : List ℕ → Bool
@@ -45,7 +45,7 @@ out_of web None = main_name web
 out_of web (Some word) = out_name word
 
 abbrev pub completed_names : List ℕ → Option (List ℕ) → Option (List ℕ) → RolesRead
-completed_names web change out = record { web = web_name web; change = change_of change; out = out_of (web_name web) out }
+completed_names web change out = roles_of (web_name web) (change_of change) (out_of (web_name web) out)
 
 -- the names given are a web, perhaps a change file, and then perhaps the main file
 abbrev pub named_by : List (List ℕ) → Option RolesRead

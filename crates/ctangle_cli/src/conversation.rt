@@ -1,22 +1,33 @@
-//! A session answers the requests of a script.
-ghost use Rattle.std.specs.Prelude.{◌≡◌, ◌++◌, ℕ, List, Some, codes, decimal, length, true, IfOk};
+//! A session answers the requests of a script, with a list of edits that is open at times.
+ghost use Rattle.std.specs.Prelude.{◌≡◌, ◌++◌, ◌∷◌, [], ℕ, List, Option, None, Some};
+ghost use Rattle.std.specs.Prelude.{codes, decimal, length, true, IfErr, IfOk, OnErr, OnOk};
 ghost use Rattle.std.specs.List.{list_any};
+ghost use Rattle.tangle_files.specs.declared.edits.Edit.{Edit as EditRead};
+ghost use Rattle.tangle_files.specs.declared.refusal.Refusal.TheVariants.{NoMemory as no_memory};
 ghost use Rattle.tangle_streams.specs.Streams.{Stream};
 ghost use Rattle.tangle_lines.specs.Faults.{is_error};
 ghost use Rattle.tangle_script.specs.Endings.{TalkEnds};
 ghost use Rattle.tangle_script.specs.Requests.{is_edit};
-ghost use Rattle.tangle_script.specs.Requests.Request.{Create as create, Discard as discard, Insert as insert, Remove as remove, Replace as replace};
+ghost use Rattle.tangle_script.specs.Requests.Request.{Begin as begin_request};
+ghost use Rattle.tangle_script.specs.Requests.Request.{Cancel as cancel_request};
+ghost use Rattle.tangle_script.specs.Requests.Request.{Commit as commit_request};
+ghost use Rattle.tangle_script.specs.Requests.Request.{Create as create, Discard as discard};
+ghost use Rattle.tangle_script.specs.Requests.Request.{Insert as insert, Remove as remove};
+ghost use Rattle.tangle_script.specs.Requests.Request.{Replace as replace};
 ghost use Rattle.tangle_script.specs.Script.{Replies, WritesText, talk};
 ghost use Rattle.tangle_session.specs.Tangle.{output_at};
-ghost use Rattle.ctangle_cli.specs.Conversation.{HasError, answers, done_line, request_for, shown, told_faults};
+ghost use Rattle.ctangle_cli.specs.Conversation.{HasError, answers, edit_number};
+ghost use Rattle.ctangle_cli.specs.Conversation.{in_conversation, list_line, listed_faults};
+ghost use Rattle.ctangle_cli.specs.Conversation.{marks_request, request_for, shown};
+ghost use Rattle.ctangle_cli.specs.Conversation.{taken_line, word_line};
 ghost use Rattle.ctangle_cli.specs.Messages.{fault_lines};
 
 use crate::messages::{name_of, write_faults};
 use itoa::Buffer;
 use std::alloc::{AllocError, Global};
-use tangle_lines::{Edit, Fault, Refusal, Sink, put};
+use tangle_lines::{Edit, Fault, MarkMode, Refusal, Sink, put};
 use tangle_script::{Project, Request, SinkFailed, run_script};
-use tangle_session::Session;
+use tangle_session::{ListRefusal, Session};
 use tangle_streams::Feed;
 
 // Writes the bytes after what was written so far, unless the sink failed in that.
@@ -37,16 +48,59 @@ fn say<S: Sink>(
     }
 }
 
-// Says what came of an edit.
-fn say_done<S: Sink>(done: Result<(), Refusal>, sink: &mut S) -> Result<(), SinkFailed>
-    ensures { WritesText (S.stream sink.old) (S.stream sink.new) (done_line done) result }
+// What became of an edit that was not refused.
+#[derive(Clone, Copy, Debug, PartialEq, Eq)]
+enum Taken {
+    Made,
+    Held,
+}
+
+fn word_of(taken: Taken) -> &'static [u8]
+    ensures { result.now ≡ word_line taken }
 {
-    match done {
-        Ok(()) => say(sink, Ok(()), b"ok\n"),
+    match taken {
+        Taken::Made => b"ok\n",
+        Taken::Held => b"held\n",
+    }
+}
+
+// Says what came of an edit.
+fn say_taken<S: Sink>(taken: Result<Taken, Refusal>, sink: &mut S) -> Result<(), SinkFailed>
+    ensures { WritesText (S.stream sink.old) (S.stream sink.new) (taken_line taken) result }
+{
+    match taken {
+        Ok(taken) => say(sink, Ok(()), word_of(taken)),
         Err(refusal) => {
             let no = say(sink, Ok(()), b"no ");
             let name = say(sink, no, name_of(refusal));
             say(sink, name, b"\n")
+        }
+    }
+}
+
+// The number of the edit that a list is refused for, from 1; 0 where memory ran out.
+fn number_of(refused: ListRefusal) -> u128
+    ensures { result ≡ edit_number refused }
+{
+    match refused.refusal {
+        Refusal::NoMemory => 0,
+        _ => refused.at as u128 + 1,
+    }
+}
+
+// Says what came of a list of edits.
+fn say_list<S: Sink>(done: Result<(), ListRefusal>, sink: &mut S) -> Result<(), SinkFailed>
+    ensures { WritesText (S.stream sink.old) (S.stream sink.new) (list_line done) result }
+{
+    match done {
+        Ok(()) => say(sink, Ok(()), b"ok\n"),
+        Err(refused) => {
+            let mut digits = Buffer::new();
+            let no = say(sink, Ok(()), b"no ");
+            let name = say(sink, no, name_of(refused.refusal));
+            let space = say(sink, name, b" ");
+            let number = say(sink, space, digits.format(number_of(refused)).as_bytes());
+            say(sink, number, b"\n")
         }
     }
 }
@@ -71,8 +125,10 @@ fn say_output<S: Sink>(
     so_far: Result<(), SinkFailed>,
     sink: &mut S,
 ) -> Result<(), SinkFailed>
-    ensures { (old : Stream) (text bytes : List ℕ) → output_at session.now.files session.now.roles name.now ≡ Some bytes
-        → WritesText old (S.stream sink.old) text so_far → WritesText old (S.stream sink.new) (text ++ bytes) result }
+    ensures { (old : Stream) (text bytes : List ℕ)
+        → output_at session.now.files session.now.roles name.now ≡ Some bytes
+        → WritesText old (S.stream sink.old) text so_far
+        → WritesText old (S.stream sink.new) (text ++ bytes) result }
 {
     match so_far {
         Err(failed) => Err(failed),
@@ -115,9 +171,10 @@ fn say_lines<S: Sink>(
     }
 }
 
-// Tells how many faults there are, and their lines.
-fn tell_faults<S: Sink>(faults: &[Fault], sink: &mut S) -> Result<(), SinkFailed>
-    ensures { WritesText (S.stream sink.old) (S.stream sink.new) (told_faults faults.now) result }
+// Says how many faults there are, and their lines.
+fn list_faults<S: Sink>(faults: &[Fault], sink: &mut S) -> Result<(), SinkFailed>
+    ensures { WritesText (S.stream sink.old) (S.stream sink.new)
+        (listed_faults faults.now) result }
 {
     let mut digits = Buffer::new();
     let word = say(sink, Ok(()), b"faults ");
@@ -126,9 +183,10 @@ fn tell_faults<S: Sink>(faults: &[Fault], sink: &mut S) -> Result<(), SinkFailed
     say_lines(faults, line, sink)
 }
 
-// Tells the last work.
-fn tell_work<S: Sink>(work: u64, sink: &mut S) -> Result<(), SinkFailed>
-    ensures { WritesText (S.stream sink.old) (S.stream sink.new) (codes "work " ++ decimal work ++ codes "\n") result }
+// Says how many nodes were expanded last.
+fn say_work<S: Sink>(work: u64, sink: &mut S) -> Result<(), SinkFailed>
+    ensures { WritesText (S.stream sink.old) (S.stream sink.new)
+        (codes "work " ++ decimal work ++ codes "\n") result }
 {
     let mut digits = Buffer::new();
     let word = say(sink, Ok(()), b"work ");
@@ -176,29 +234,118 @@ fn discarding(alloc: Global, file: &[u8]) -> Result<Edit, AllocError>
     Ok(Edit::Discard { file })
 }
 
-// Makes the edit that a request asks for, if there was memory for it.
-fn make_edit(session: &mut Session, edit: Result<Edit, AllocError>) -> Result<(), Refusal>
-    ensures { (request : _) → IfOk edit (λ made. request_for made ≡ request) → is_edit request ≡ true
-        → Replies answers session.old request (done_line result) session.new }
+fn setting(mode: MarkMode) -> Result<Edit, AllocError>
+    ensures { IfOk result (λ made. request_for made ≡ marks_request mode) }
 {
-    match edit {
-        Ok(edit) => session.apply(&edit),
+    Ok(Edit::Marks { mode })
+}
+
+// Puts an edit last in the list.
+fn hold(held: &mut Vec<Edit>, edit: Edit) -> Result<(), Refusal>
+    ensures ok { OnOk result (held.new.items ≡ held.old.items ++ edit ∷ []) }
+    ensures err { OnErr result (held.new.items ≡ held.old.items) }
+    ensures short { IfErr result (λ refusal. refusal ≡ no_memory) }
+{
+    match held.push(edit) {
+        Ok(()) => Ok(()),
         Err(_) => Err(Refusal::NoMemory),
     }
 }
 
-// Makes the edit that a request asks for, and says what came of it.
+// Makes the edit that a request asks for, or holds it while a list is open, if there was memory for
+// its texts.
+fn take_edit(
+    session: &mut Session,
+    draft: &mut Option<Vec<Edit>>,
+    edit: Result<Edit, AllocError>,
+) -> Result<Taken, Refusal>
+    ensures { (request : _) → IfOk edit (λ made. request_for made ≡ request)
+        → is_edit request ≡ true
+        → Replies answers (in_conversation session.old draft.old) request (taken_line result)
+        (in_conversation session.new draft.new) }
+{
+    match edit {
+        Err(_) => Err(Refusal::NoMemory),
+        Ok(edit) => match draft {
+            Some(held) => match hold(held, edit) {
+                Ok(()) => Ok(Taken::Held),
+                Err(refusal) => Err(refusal),
+            },
+            None => match session.apply(&edit) {
+                Ok(()) => Ok(Taken::Made),
+                Err(refusal) => Err(refusal),
+            },
+        },
+    }
+}
+
+// Does what a request for an edit asks for, and says what came of it.
 fn answer_edit<S: Sink>(
     session: &mut Session,
+    draft: &mut Option<Vec<Edit>>,
     edit: Result<Edit, AllocError>,
     sink: &mut S,
 ) -> Result<(), SinkFailed>
-    ensures { (request : _) → IfOk edit (λ made. request_for made ≡ request) → is_edit request ≡ true
-        → (text : List ℕ) × Replies answers session.old request text session.new
+    ensures { (request : _) → IfOk edit (λ made. request_for made ≡ request)
+        → is_edit request ≡ true
+        → (text : List ℕ) × Replies answers (in_conversation session.old draft.old) request text
+        (in_conversation session.new draft.new)
         × WritesText (S.stream sink.old) (S.stream sink.new) text result }
 {
-    let done = make_edit(session, edit);
-    say_done(done, sink)
+    let taken = take_edit(session, draft, edit);
+    say_taken(taken, sink)
+}
+
+// Opens a list, if none is open.
+fn begin<S: Sink>(
+    alloc: Global,
+    draft: &mut Option<Vec<Edit>>,
+    sink: &mut S,
+) -> Result<(), SinkFailed>
+    ensures { (session : _) → (text : List ℕ)
+        × answers (in_conversation session draft.old) begin_request text
+        (in_conversation session draft.new)
+        × WritesText (S.stream sink.old) (S.stream sink.new) text result }
+{
+    if draft.is_some() {
+        return say(sink, Ok(()), b"no BadCommand\n");
+    }
+    *draft = Some(Vec::new(alloc));
+    say(sink, Ok(()), b"ok\n")
+}
+
+// Drops the list, if one is open.
+fn cancel<S: Sink>(draft: &mut Option<Vec<Edit>>, sink: &mut S) -> Result<(), SinkFailed>
+    ensures { (session : _) → (text : List ℕ)
+        × answers (in_conversation session draft.old) cancel_request text
+        (in_conversation session draft.new)
+        × WritesText (S.stream sink.old) (S.stream sink.new) text result }
+{
+    if draft.is_some() {
+        *draft = None;
+        return say(sink, Ok(()), b"ok\n");
+    }
+    say(sink, Ok(()), b"no BadCommand\n")
+}
+
+// Makes the edits of the list, all or none, and closes it, if one is open.
+fn commit<S: Sink>(
+    session: &mut Session,
+    draft: &mut Option<Vec<Edit>>,
+    sink: &mut S,
+) -> Result<(), SinkFailed>
+    ensures { (text : List ℕ)
+        × answers (in_conversation session.old draft.old) commit_request text
+        (in_conversation session.new draft.new)
+        × WritesText (S.stream sink.old) (S.stream sink.new) text result }
+{
+    match draft.take() {
+        None => say(sink, Ok(()), b"no BadCommand\n"),
+        Some(held) => {
+            let done = session.apply_all(&held);
+            say_list(done, sink)
+        }
+    }
 }
 
 fn is_error_among(faults: &[Fault]) -> bool
@@ -213,12 +360,14 @@ struct Conversation;
 impl Project for Conversation {
     type Held = Session;
 
-    ghost use Rattle.tangle_session.specs.Sessions.{SessionRead};
-    ghost use Rattle.ctangle_cli.specs.Conversation.{HasError, answers};
+    type Draft = Option<Vec<Edit>>;
 
-    ghost State = { SessionRead };
+    ghost use Rattle.ctangle_cli.specs.Conversation.{ConversationRead, HasError};
+    ghost use Rattle.ctangle_cli.specs.Conversation.{answers, in_conversation};
 
-    ghost state = { λ session. session };
+    ghost State = { ConversationRead };
+
+    ghost state = { in_conversation };
 
     ghost answers = { answers };
 
@@ -227,22 +376,30 @@ impl Project for Conversation {
     fn answer<S: Sink>(
         alloc: Global,
         session: &mut Session,
+        draft: &mut Option<Vec<Edit>>,
         request: &Request<'_>,
         sink: &mut S,
     ) -> Result<(), SinkFailed> {
         match request {
             Request::Insert { at, file, text } => {
-                answer_edit(session, insertion(alloc, *at, file, text), sink)
+                answer_edit(session, draft, insertion(alloc, *at, file, text), sink)
             }
             Request::Replace { at, file, text } => {
-                answer_edit(session, replacement(alloc, *at, file, text), sink)
+                answer_edit(session, draft, replacement(alloc, *at, file, text), sink)
             }
-            Request::Remove { at, file } => answer_edit(session, removal(alloc, *at, file), sink),
-            Request::Create { file } => answer_edit(session, creation(alloc, file), sink),
-            Request::Discard { file } => answer_edit(session, discarding(alloc, file), sink),
+            Request::Remove { at, file } => {
+                answer_edit(session, draft, removal(alloc, *at, file), sink)
+            }
+            Request::Create { file } => answer_edit(session, draft, creation(alloc, file), sink),
+            Request::Discard { file } => answer_edit(session, draft, discarding(alloc, file), sink),
+            Request::MarksFull => answer_edit(session, draft, setting(MarkMode::Full), sink),
+            Request::MarksNone => answer_edit(session, draft, setting(MarkMode::Bare), sink),
+            Request::Begin => begin(alloc, draft, sink),
+            Request::Commit => commit(session, draft, sink),
+            Request::Cancel => cancel(draft, sink),
             Request::Show { file } => show(session, file, sink),
-            Request::Faults => tell_faults(session.faults(), sink),
-            Request::Work => tell_work(session.last_work(), sink),
+            Request::Faults => list_faults(session.faults(), sink),
+            Request::Work => say_work(session.last_work(), sink),
             Request::Quit => say(sink, Ok(()), b"ok\n"),
             Request::BadCommand => say(sink, Ok(()), b"no BadCommand\n"),
         }
@@ -253,16 +410,21 @@ impl Project for Conversation {
     }
 }
 
-/// Answers a script.
+/// Answers a script of edits and questions: the status that the program ends with. While a list of
+/// edits is open, edits are held, and questions are answered from the session. At the end of the run
+/// an open list is dropped.
 pub fn run_retangle<R: Feed, W: Sink>(
     alloc: Global,
     session: &mut Session,
     r: &mut R,
     w: &mut W,
 ) -> u8
-    ensures { TalkEnds answers HasError
-        (talk session.old (W.stream w.old) (R.coming r.old) (R.failures r.old))
-        (talk session.new (W.stream w.new) (R.coming r.new) (R.failures r.new)) result }
+    ensures { (draft : Option (List EditRead)) × TalkEnds answers HasError
+        (talk (record { session = session.old; draft = None })
+        (W.stream w.old) (R.coming r.old) (R.failures r.old))
+        (talk (record { session = session.new; draft = draft })
+        (W.stream w.new) (R.coming r.new) (R.failures r.new)) result }
 {
-    run_script::<Conversation, R, W>(alloc, session, r, w)
+    let mut draft = None;
+    run_script::<Conversation, R, W>(alloc, session, &mut draft, r, w)
 }

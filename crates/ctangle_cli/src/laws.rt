@@ -9,14 +9,12 @@ ghost use Rattle.std.specs.Str.{bytes_eq};
 ghost use Rattle.tangle_script.specs.Requests.{Command};
 ghost use Rattle.tangle_script.specs.Script.{Dialogue};
 ghost use Rattle.tangle_session.specs.Headline.{Call, History};
-ghost use Rattle.tangle_session.specs.Sessions.{SessionRead};
 ghost use Rattle.tangle_session.specs.Tangle.{outputs_of};
-ghost use Rattle.ctangle_cli.specs.Conversation.{answers};
+ghost use Rattle.ctangle_cli.specs.Conversation.{ConversationRead, answers};
 ghost use Rattle.ctangle_cli.specs.Histories.{AreCallsOf};
 ghost use Rattle.ctangle_cli.specs.Loading.{Ending, load_of, missing_of, rounds_from, with_round};
 
-use tangle_expansion::names_resolve_inside;
-use tangle_names::names_are_the_full_names;
+use tangle_session::outputs_are_found_by_their_names;
 
 /// Loading goes round by round: a round that adds a file is followed by the rounds from there, one that adds none is the
 /// last, and where one ends loading, it ends so. So the bound on the rounds is no part of what loading gives.
@@ -39,18 +37,20 @@ pub fn missing_names_are_not_there()
 
 /// No two outputs of files have one name, so none is written over another in a run.
 pub fn output_names_differ()
-    ensures { (files : FileTable) (roles : RolesRead) → IsDistinct bytes_eq (map (λ output. output.0) (outputs_of files roles)) }
+    ensures { (files : FileTable) (roles : RolesRead)
+        → IsDistinct bytes_eq (map (λ output. output.0) (outputs_of files roles)) }
 {
-    names_resolve_inside();
-    names_are_the_full_names();
+    outputs_are_found_by_their_names();
 }
 
 /// Where commands of a script are answered, one after another, the history of the session goes on:
-/// each edit is one call more, with the answer that was written, unless there was no memory for its
-/// texts; nothing else changes the session. So the headline holds at each line of a script.
+/// each edit that is handed over, and each list of edits, is one call more, with the answer that was
+/// written; held edits and questions change nothing, nor does an edit for which memory ran out. So
+/// the headline holds at each line of a script.
 pub fn the_answers_of_a_script_are_a_history()
-    ensures { (files : FileTable) (roles : RolesRead) (calls : List Call) (old new : SessionRead)
-        (commands : List Command) (text : List ℕ)
-        → History files roles calls old → Dialogue answers old commands text new
-        → (more : List Call) × AreCallsOf commands text more × History files roles (calls ++ more) new }
+    ensures { (files : FileTable) (roles : RolesRead) (calls : List Call)
+        (old new : ConversationRead) (commands : List Command) (text : List ℕ)
+        → History files roles calls old.session → Dialogue answers old commands text new
+        → (more : List Call) × AreCallsOf commands text old.draft more new.draft
+        × History files roles (calls ++ more) new.session }
 {}

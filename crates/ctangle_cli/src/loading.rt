@@ -426,9 +426,10 @@ pub fn load<F: Folder>(
     if let Some(name) = first_bad(words) {
         return Err(refused(alloc, name, Refusal::BadName));
     }
-    let Ok(roles) = Roles::new(alloc, words.web(), words.change(), words.out()) else {
+    let Ok(mut roles) = Roles::new(alloc, words.web(), words.change(), words.out()) else {
         return Err(LoadFault::NoMemory);
     };
+    roles.set_marks(words.marks());
     let files = load_files(alloc, &roles, folder)?;
     Ok((files, roles))
 }

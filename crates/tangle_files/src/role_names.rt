@@ -3,33 +3,40 @@ ghost use Rattle.std.specs.Prelude.{◌≡◌};
 ghost use Rattle.std.specs.Option.{option_copied, option_map};
 ghost use Rattle.tangle_files.specs.Roles.{roles_of};
 
+use crate::marks::MarkMode;
 use std::marker::Model;
 
 /// The names of the web, of the change file if there is one, and of the main file, as they were
 /// given: nothing is known of them. [`Roles`](crate::Roles) has such names that are files' names.
-/// Their value is that of roles whose line marks are written in full.
+/// Beside them is how line marks are written.
 #[derive(Drop)]
 pub struct RoleNames {
     web: Vec<u8>,
     change: Option<Vec<u8>>,
     out: Vec<u8>,
+    marks: MarkMode,
 }
 
 impl Model for RoleNames {
     ghost use Rattle.std.specs.Option.{option_map};
-    ghost use Rattle.tangle_files.specs.Roles.{RolesRead, roles_of};
+    ghost use Rattle.tangle_files.specs.Roles.{RolesRead};
 
     ghost Value = { RolesRead };
 
-    ghost view = { λ r. roles_of r.web.items (option_map (λ c. c.items) r.change) r.out.items };
+    ghost view = { λ r. record { web = r.web.items; change = option_map (λ c. c.items) r.change; out = r.out.items; marks = r.marks } };
 }
 
 impl RoleNames {
-    /// These names.
+    /// These names. Line marks are written in full.
     pub fn new(web: Vec<u8>, change: Option<Vec<u8>>, out: Vec<u8>) -> Self
         ensures { result ≡ roles_of web.items (option_map (λ c. c.items) change) out.items }
     {
-        RoleNames { web, change, out }
+        RoleNames {
+            web,
+            change,
+            out,
+            marks: MarkMode::Full,
+        }
     }
 
     /// The name of the web.
@@ -54,5 +61,19 @@ impl RoleNames {
         ensures { result.now ≡ self.now.out }
     {
         self.out.as_slice()
+    }
+
+    /// How line marks are written.
+    pub fn marks(&self) -> MarkMode
+        ensures { result ≡ self.now.marks }
+    {
+        self.marks
+    }
+
+    /// Sets how line marks are written from here on.
+    pub(crate) fn set_marks(&mut self, marks: MarkMode)
+        ensures { self.new ≡ record self.old { marks = marks } }
+    {
+        self.marks = marks;
     }
 }

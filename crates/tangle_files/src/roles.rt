@@ -17,7 +17,6 @@ use tangle_streams::NoMemory;
 #[derive(Drop)]
 pub struct Roles {
     names: RoleNames,
-    marks: MarkMode,
 }
 
 impl Model for Roles {
@@ -25,7 +24,7 @@ impl Model for Roles {
 
     ghost Value = { RolesRead };
 
-    ghost view = { λ r. record r.names { marks = r.marks } };
+    ghost view = { λ r. r.names };
 }
 
 impl Roles {
@@ -56,7 +55,6 @@ impl Roles {
         let out = Vec::from_slice(alloc, out)?;
         Ok(Roles {
             names: RoleNames::new(web, change, out),
-            marks: MarkMode::Full,
         })
     }
 
@@ -85,14 +83,14 @@ impl Roles {
     pub fn marks(&self) -> MarkMode
         ensures { result ≡ self.now.marks }
     {
-        self.marks
+        self.names.marks()
     }
 
     /// Sets how line marks are written from here on.
     pub fn set_marks(&mut self, marks: MarkMode)
         ensures { self.new ≡ record self.old { marks = marks } }
     {
-        self.marks = marks;
+        self.names.set_marks(marks);
     }
 
     /// Whether the web, and the change file that is named, are in the table.

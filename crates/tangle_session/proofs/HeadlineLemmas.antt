@@ -1,8 +1,6 @@
 -- What a history leaves: the files with the accepted edits made, and what is shown of them.
 use Rattle.std.proofs.Common.{◌≡◌, ◌∙◌, ℕ, List, [], ◌∷◌, ◌++◌, length, map, refl, ap, sym, subst, arith, inl, inr, append_assoc, append-nil}
 use Rattle.std.specs.Prelude.{◌⊎◌, Option, None, Some, Ok, Err, Result, option_map, unwrap_or, zip, IfNone, IfSome, IsOkUnless, OnErr, OnOk}
-use Rattle.std.specs.Global.{Global}
-use Rattle.std.specs.declared.vec.Vec.{Vec}
 use Rattle.tangle_streams.specs.Streams.{Stream}
 use Rattle.tangle_files.specs.Edited.{edited, edited_all, edited_roles, joined, roles_after}
 use Rattle.tangle_files.specs.Lines.{FileTable}
@@ -17,26 +15,24 @@ use Rattle.tangle_scan.specs.Web.{web_of}
 use Rattle.tangle_names.specs.NameTable.{table_of}
 use Rattle.tangle_expansion.specs.declared.nodes.Node.{Node}
 use Rattle.tangle_session.specs.Files.{source_at, web_at}
-use Rattle.tangle_session.specs.Headline.{Call, History, Started, Edited, IsAnswered, ListsLastExpanded, ByStart, ByLast, IsPlainTangling}
+use Rattle.tangle_session.specs.Headline.{Call, EditsRead, OneEdit, ListOf, History, Started, Edited, IsAnswered, ListsLastExpanded, ByStart, ByLast, IsPlainTangling}
 use Rattle.tangle_session.specs.Headline.{NoOutputReachesACycle, EachCycleIsReported, ShowsPlainTangling, ShowsLastWork}
 use Rattle.tangle_session.specs.Headline.{accepted, edits_of, files_after, roles_with, web_after}
 use Rattle.tangle_session.specs.Sessions.{AreMade, ListsAffected, SessionRead}
 use Rattle.tangle_session.specs.Tangle.{AreFaultsOf, output_at, outputs_of}
 use Rattle.tangle_session.specs.Writes.{IsTrueFile, WritesOutput}
-use Rattle.tangle_session.specs.declared.headline.Edits.{Edits}
-use Rattle.tangle_session.specs.declared.headline.Edits.TheVariants.{Single, Several}
 use Rattle.tangle_session.specs.declared.headline.Shown.{Shown}
 use Rattle.tangle_session.specs.declared.refusing.ListRefusal.{ListRefusal}
 
 -- one call more
 
-accepted_one : (edits : Edits) (done : Unit {0}) (calls : List Call)
+accepted_one : (edits : EditsRead) (done : Unit {0}) (calls : List Call)
     → accepted (calls ++ (edits, Ok done) ∷ []) ≡ accepted calls ++ edits_of edits ∷ []
 accepted_one edits done [] = refl
 accepted_one edits done ((e, Ok d) ∷ calls) = ap (λ l. edits_of e ∷ l) (accepted_one edits done calls)
 accepted_one edits done ((e, Err r) ∷ calls) = accepted_one edits done calls
 
-accepted_none : (edits : Edits) (refused : ListRefusal) (calls : List Call)
+accepted_none : (edits : EditsRead) (refused : ListRefusal) (calls : List Call)
     → accepted (calls ++ (edits, Err refused) ∷ []) ≡ accepted calls
 accepted_none edits refused [] = refl
 accepted_none edits refused ((e, Ok d) ∷ calls) = ap (λ l. edits_of e ∷ l) (accepted_none edits refused calls)
@@ -61,6 +57,10 @@ files_more files lists edits = ap (edited_all files) (joined_one lists edits) �
 roles_more : (roles : RolesRead) (lists : List (List Edit)) (edits : List Edit)
     → roles_with roles (lists ++ edits ∷ []) ≡ roles_after (roles_with roles lists) edits
 roles_more roles lists edits = ap (roles_after roles) (joined_one lists edits) ∙ roles_then roles (joined lists) edits
+
+pub map_push : {X Y : Type 0} (f : X → Y) (xs : List X) (x : X) → map f (xs ++ x ∷ []) ≡ map f xs ++ f x ∷ []
+map_push f [] x = refl
+map_push f (y ∷ xs) x = ap (λ l. f y ∷ l) (map_push f xs x)
 
 pub zip_more : {X Y : Type 0} (xs : List X) (ys : List Y) (x : X) (y : Y) → length xs ≡ length ys → zip (xs ++ x ∷ []) (ys ++ y ∷ []) ≡ zip xs ys ++ (x, y) ∷ []
 zip_more [] [] x y e = refl
@@ -94,19 +94,19 @@ stands_made files roles lists before after edits stands are =
           (subst (λ web. ListsAffected web (web_at after.files after.roles) after.work) web_before are.work));
     }
 
-stands_edited : (files : FileTable) (roles : RolesRead) (calls : List Call) (before after : SessionRead) (edits : Edits) (answer : Result (Unit {0}) ListRefusal)
+stands_edited : (files : FileTable) (roles : RolesRead) (calls : List Call) (before after : SessionRead) (edits : EditsRead) (answer : Result (Unit {0}) ListRefusal)
     → Stands files roles (accepted calls) before → IsAnswered before edits answer after → Stands files roles (accepted (calls ++ (edits, answer) ∷ [])) after
-stands_edited files roles calls before after (Single edit) (Ok done) stands is =
-    subst (λ lists. Stands files roles lists after) (sym (accepted_one (Single edit) done calls))
+stands_edited files roles calls before after (OneEdit edit) (Ok done) stands is =
+    subst (λ lists. Stands files roles lists after) (sym (accepted_one (OneEdit edit) done calls))
     (stands_made files roles (accepted calls) before after (edit ∷ []) stands is.1)
-stands_edited files roles calls before after (Several edits) (Ok done) stands is =
-    subst (λ lists. Stands files roles lists after) (sym (accepted_one (Several edits) done calls))
-    (stands_made files roles (accepted calls) before after edits.items stands is.1)
-stands_edited files roles calls before after (Single edit) (Err refused) stands is =
-    subst (λ lists. Stands files roles lists after) (sym (accepted_none (Single edit) refused calls))
+stands_edited files roles calls before after (ListOf edits) (Ok done) stands is =
+    subst (λ lists. Stands files roles lists after) (sym (accepted_one (ListOf edits) done calls))
+    (stands_made files roles (accepted calls) before after edits stands is.1)
+stands_edited files roles calls before after (OneEdit edit) (Err refused) stands is =
+    subst (λ lists. Stands files roles lists after) (sym (accepted_none (OneEdit edit) refused calls))
     (subst (λ s. Stands files roles (accepted calls) s) (sym is.1) stands)
-stands_edited files roles calls before after (Several edits) (Err refused) stands is =
-    subst (λ lists. Stands files roles lists after) (sym (accepted_none (Several edits) refused calls))
+stands_edited files roles calls before after (ListOf edits) (Err refused) stands is =
+    subst (λ lists. Stands files roles lists after) (sym (accepted_none (ListOf edits) refused calls))
     (subst (λ s. Stands files roles (accepted calls) s) (sym is.1) stands)
 
 pub stands : {files : FileTable} {roles : RolesRead} {calls : List Call} {session : SessionRead} → History files roles calls session → Stands files roles (accepted calls) session
@@ -134,31 +134,31 @@ pub one_made : (before after : SessionRead) (edit : Edit) (done : Unit {0})
     → after.files ≡ edited before.files edit → after.roles ≡ edited_roles before.roles edit
     → ListsAffected (web_at before.files before.roles) (web_at after.files after.roles) after.work
     → IfSome (session_refusal before.files before.roles edit) (λ refusal. Ok done ≡ Err refusal)
-    → IsAnswered before (Single edit) (Ok done) after
+    → IsAnswered before (OneEdit edit) (Ok done) after
 one_made before after edit done files roles work refused =
     (no_refusal (session_refusal before.files before.roles edit) done refused, record { files = files; roles = roles; work = work })
 
 pub one_refused : (before after : SessionRead) (edit : Edit) (refusal : Refusal) (answer : Result (Unit {0}) Refusal) → answer ≡ Err refusal
     → IfSome (session_refusal before.files before.roles edit) (λ r. answer ≡ Err r)
     → IfNone (session_refusal before.files before.roles edit) (IsOkUnless answer NoMemory)
-    → after ≡ before → IsAnswered before (Single edit) (Err (of_first refusal)) after
+    → after ≡ before → IsAnswered before (OneEdit edit) (Err (of_first refusal)) after
 one_refused before after edit refusal answer is refused only same =
     (ap of_first (first_reason (session_refusal before.files before.roles edit) refusal answer is refused only), same)
 
-pub several_answered : (before after : SessionRead) (edits : Vec Edit Global) (answer : Result (Unit {0}) ListRefusal)
-    → OnOk answer (after.files ≡ edited_all before.files edits.items) → OnOk answer (after.roles ≡ roles_after before.roles edits.items)
+pub several_answered : (before after : SessionRead) (edits : List Edit) (answer : Result (Unit {0}) ListRefusal)
+    → OnOk answer (after.files ≡ edited_all before.files edits) → OnOk answer (after.roles ≡ roles_after before.roles edits)
     → OnOk answer (ListsAffected (web_at before.files before.roles) (web_at after.files after.roles) after.work)
-    → IfSome (list_refusal before.files before.roles edits.items) (λ refused. (answer ≡ Err refused) ⊎ (answer ≡ Err list_memory))
-    → IfNone (list_refusal before.files before.roles edits.items) (IsOkUnless answer list_memory)
-    → OnErr answer (after ≡ before) → IsAnswered before (Several edits) answer after
+    → IfSome (list_refusal before.files before.roles edits) (λ refused. (answer ≡ Err refused) ⊎ (answer ≡ Err list_memory))
+    → IfNone (list_refusal before.files before.roles edits) (IsOkUnless answer list_memory)
+    → OnErr answer (after ≡ before) → IsAnswered before (ListOf edits) answer after
 several_answered before after edits (Ok done) files roles work refused only err =
-    (none (list_refusal before.files before.roles edits.items) refused, record { files = files; roles = roles; work = work })
+    (none (list_refusal before.files before.roles edits) refused, record { files = files; roles = roles; work = work })
   where
     none : (o : Option ListRefusal) → IfSome o (λ refused. (Ok done ≡ Err refused) ⊎ (Ok done ≡ Err list_memory)) → o ≡ None
     none None h = refl
     none (Some refused) h = elim h [ inl h ↦ absurd (cc) | inr h ↦ absurd (cc) ]
 several_answered before after edits (Err refused) files roles work refused_for only err =
-    (reason (list_refusal before.files before.roles edits.items) refused_for only, err)
+    (reason (list_refusal before.files before.roles edits) refused_for only, err)
   where
     told : Result (Unit {0}) ListRefusal
     told = Err refused

@@ -86,14 +86,23 @@ pub record IsPlainTangling (files : FileTable) (roles : RolesRead)
 
 -- 2. A history: edits from a start on, each with its answer.
 
--- one edit, or a list of edits, and its answer: it is accepted (`Ok`), or refused for a reason
--- (`Err`), which has the number of the first edit that is refused
-abbrev pub Call : Type 0
-Call = Edits × Result (Unit {0}) ListRefusal
+-- what is handed over at once: one edit, or a list of edits that are made all or none
+pub data EditsRead : Type 0 where
+  OneEdit : (edit : Edit) → EditsRead
+  ListOf : (edits : List Edit) → EditsRead
 
-abbrev pub edits_of : Edits → List Edit
-edits_of (Single edit) = edit ∷ []
-edits_of (Several edits) = edits.items
+abbrev pub edits_read : Edits → EditsRead
+edits_read (Single edit) = OneEdit edit
+edits_read (Several edits) = ListOf edits.items
+
+-- the edits, and their answer: they are accepted (`Ok`), or refused for a reason (`Err`), which has
+-- the number of the first edit that is refused
+abbrev pub Call : Type 0
+Call = EditsRead × Result (Unit {0}) ListRefusal
+
+abbrev pub edits_of : EditsRead → List Edit
+edits_of (OneEdit edit) = edit ∷ []
+edits_of (ListOf edits) = edits
 
 -- the edits of each call that was accepted, in order
 abbrev pub accepted : List Call → List (List Edit)
@@ -112,16 +121,16 @@ roles_with roles lists = roles_after roles (joined lists)
 -- only where no refusal applies to it. It is refused for the first reason that applies or, where
 -- none does, out of memory, which may come before any other reason is found in a list; then nothing
 -- changes.
-abbrev pub IsAnswered : SessionRead → Edits → Result (Unit {0}) ListRefusal → SessionRead → Type 0
-IsAnswered before (Single edit) (Ok done) after =
+abbrev pub IsAnswered : SessionRead → EditsRead → Result (Unit {0}) ListRefusal → SessionRead → Type 0
+IsAnswered before (OneEdit edit) (Ok done) after =
     (session_refusal before.files before.roles edit ≡ None) × AreMade before (edit ∷ []) after
-IsAnswered before (Single edit) (Err refused) after =
+IsAnswered before (OneEdit edit) (Err refused) after =
     (refused ≡ of_first (unwrap_or (session_refusal before.files before.roles edit) NoMemory))
     × (after ≡ before)
-IsAnswered before (Several edits) (Ok done) after =
-    (list_refusal before.files before.roles edits.items ≡ None) × AreMade before edits.items after
-IsAnswered before (Several edits) (Err refused) after =
-    ((list_refusal before.files before.roles edits.items ≡ Some refused) ⊎ (refused ≡ list_memory))
+IsAnswered before (ListOf edits) (Ok done) after =
+    (list_refusal before.files before.roles edits ≡ None) × AreMade before edits after
+IsAnswered before (ListOf edits) (Err refused) after =
+    ((list_refusal before.files before.roles edits ≡ Some refused) ⊎ (refused ≡ list_memory))
     × (after ≡ before)
 
 -- The session was started with these files and roles, which expanded each node that can be
@@ -132,7 +141,7 @@ pub data History (files : FileTable) (roles : RolesRead) : List Call → Session
       → ListsExpandable (web_at files roles) session.work
       → History files roles [] session
   Edited : {calls : List Call} {after : SessionRead}
-      (before : SessionRead) (edits : Edits) (answer : Result (Unit {0}) ListRefusal)
+      (before : SessionRead) (edits : EditsRead) (answer : Result (Unit {0}) ListRefusal)
       → History files roles calls before → IsAnswered before edits answer after
       → History files roles (calls ++ (edits, answer) ∷ []) after
 

@@ -1,6 +1,6 @@
 //! The headline: a session that was edited shows what plain tangling gives.
 //! `specs/Headline.antt` has it on one page.
-ghost use Rattle.std.specs.Prelude.{◌≡◌, [], List, length, zip};
+ghost use Rattle.std.specs.Prelude.{◌≡◌, [], List, length, map, zip};
 ghost use Rattle.std.specs.Prelude.{IfOk, IfSome, IfNone, IsOkUnless, Err};
 ghost use Rattle.std.specs.Vec.{vec_capacity};
 ghost use Rattle.tangle_files.specs.Lines.{FileTable};
@@ -8,7 +8,7 @@ ghost use Rattle.tangle_files.specs.Roles.{RolesRead};
 ghost use Rattle.tangle_files.specs.declared.refusal.Refusal.TheVariants.{NoMemory as no_memory};
 ghost use Rattle.tangle_session.specs.Headline.{Call, History, IsAnswered};
 ghost use Rattle.tangle_session.specs.Headline.{ShowsLastWork, ShowsPlainTangling};
-ghost use Rattle.tangle_session.specs.Headline.{accepted, files_after, roles_with};
+ghost use Rattle.tangle_session.specs.Headline.{accepted, edits_read, files_after, roles_with};
 ghost use Rattle.tangle_session.specs.Sessions.{start_refusal};
 
 use crate::laws::{no_output_reaches_a_cycle, self_containing_names_are_told};
@@ -42,7 +42,7 @@ pub enum Edits {
 
 /// Hands one edit, or a list of edits, to a session. The refusal of one edit has the number 0.
 fn hand_over(session: &mut Session, edits: &Edits) -> Result<(), ListRefusal>
-    ensures { IsAnswered session.old edits.now result session.new }
+    ensures { IsAnswered session.old (edits_read edits.now) result session.new }
 {
     match edits {
         Edits::Single(edit) => match session.apply(edit) {
@@ -63,7 +63,7 @@ fn edit_each(
     requires room { vec_capacity answers ≡ length edits.now }
     ensures answered { length result.items ≡ length edits.now }
     ensures history { (files : FileTable) (roles : RolesRead) → History files roles [] session.old
-        → History files roles (zip edits.now result.items) session.new }
+        → History files roles (zip (map edits_read edits.now) result.items) session.new }
 {
     for call in edits {
         answers.push_reserved(hand_over(session, call));
@@ -86,7 +86,7 @@ pub fn start_and_edit(
 ) -> Result<(Session, Vec<Result<(), ListRefusal>>), (Files, Roles, Refusal)>
     ensures answered { IfOk result (λ made. length made.1.items ≡ length edits.now) }
     ensures history { IfOk result (λ made.
-        History files roles (zip edits.now made.1.items) made.0) }
+        History files roles (zip (map edits_read edits.now) made.1.items) made.0) }
     ensures refused { IfSome (start_refusal files roles) (λ refusal.
         result ≡ Err (files, roles, refusal)) }
     ensures only { IfNone (start_refusal files roles)

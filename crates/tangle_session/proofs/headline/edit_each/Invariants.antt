@@ -1,7 +1,7 @@
-use Rattle.std.proofs.Common.{◌≡◌, [], length, take, zip, vec_capacity, vec_len}
+use Rattle.std.proofs.Common.{◌≡◌, [], length, map, take, zip, vec_capacity, vec_len}
 use Rattle.tangle_files.specs.Lines.{FileTable}
 use Rattle.tangle_files.specs.Roles.{RolesRead}
-use Rattle.tangle_session.specs.Headline.{History}
+use Rattle.tangle_session.specs.Headline.{History, edits_read}
 use Rattle.tangle_session.proofs.headline.edit_each.Given as goal
 
 -- the edits so far are a history, each with its answer, and the others' answers have room
@@ -11,5 +11,5 @@ invariant-loop-call l = record {
   answered : length l.answers.items ≡ l.call-index;
   room : vec_capacity l.answers ≡ length l.edits;
   history : (files : FileTable) (roles : RolesRead) → History files roles [] l.fn.session
-      → History files roles (zip (take l.call-index l.edits) l.answers.items) l.session;
+      → History files roles (zip (map edits_read (take l.call-index l.edits)) l.answers.items) l.session;
 }

@@ -1,6 +1,6 @@
 use Rattle.std.proofs.Common.{[]}
 use Rattle.ctangle_cli.proofs.RunLemmas.{TakesAll-none}
-use Rattle.ctangle_cli.proofs.conversation.tell_work.Goals as goal
+use Rattle.ctangle_cli.proofs.conversation.say_work.Goals as goal
 
 pub returns : goal.returns
 returns g c =
