@@ -1,6 +1,6 @@
 -- Worked webs come out: the output files and the faults. None of their names contains itself, so the faults of the graph are those of
 -- a graph without cycles.
-use Rattle.std.proofs.Common.{◌≡◌, ℕ, zero, suc, false, List, [], ◌∷◌, ◌++◌, None, Some, refl}
+use Rattle.std.proofs.Common.{◌≡◌, ℕ, zero, suc, false, List, [], ◌∷◌, ◌++◌, Option, None, Some, refl}
 use Rattle.std.specs.Prelude.{codes}
 use Rattle.std.specs.Fmt.{digits}
 use Rattle.tangle_lines.specs.declared.faults.FaultKind.{FaultKind}
@@ -11,6 +11,7 @@ use Rattle.tangle_lines.specs.Faults.{Finding, Spot, fault_at, fault_about, faul
 use Rattle.tangle_lines.specs.Reading.{reads_in}
 use Rattle.tangle_lexer.specs.Steps.{tokens_from, lexeme, names_from}
 use Rattle.tangle_files.specs.Roles.{RolesRead, roles_of}
+use Rattle.tangle_files.specs.declared.marks.MarkMode.TheVariants.{Bare}
 use Rattle.tangle_names.specs.NameTable.{table_of}
 use Rattle.tangle_expansion.specs.Limits.{levels, heaviest}
 use Rattle.tangle_graph.specs.Faults.{graph_faults}
@@ -60,6 +61,20 @@ a_line_changed : tangled_change (codes "@ A.\n@c\nint a;\nint b;\n") (codes "@x\
     ≡ gives [] (codes "/*1:*/\n#line 2 \"a.w\"\n\n#line 4 \"a.ch\"\nint z;\n#line 4 \"a.w\"\nint b;\n/*:1*/\n")
 unfolding source_at web_at reads_in tokens_from lexeme names_from levels heaviest digits
 a_line_changed = refl
+
+-- the same with each line mark written as a line feed
+abbrev bare : List ℕ → Option (List ℕ) → List ℕ → RolesRead
+bare web change out = record (roles_of web change out) { marks = Bare }
+
+a_line_changed_without_marks : tangle_of ((codes "a.w", cut (codes "@ A.\n@c\nint a;\nint b;\n")) ∷ (codes "a.ch", cut (codes "@x\nint a;\n@y\nint z;\n@z\n")) ∷ [])
+    (bare (codes "a.w") (Some (codes "a.ch")) (codes "a.c")) ≡ gives [] (codes "/*1:*/\n\nint z;\nint b;\n/*:1*/\n")
+unfolding source_at web_at reads_in tokens_from lexeme names_from levels heaviest digits
+a_line_changed_without_marks = refl
+
+a_use_without_marks : tangle_of ((codes "a.w", cut (codes "@ A.\n@c\nint x=@<v@>;\n@ @<v@>=\n1\n")) ∷ [])
+    (bare (codes "a.w") None (codes "a.c")) ≡ gives [] (codes "/*1:*/\n\nint x= /*2:*/\n\n1\n/*:2*/\n;\n/*:1*/\n")
+unfolding source_at web_at reads_in tokens_from lexeme names_from levels heaviest digits
+a_use_without_marks = refl
 
 a_line_mismatched : tangled_change (codes "@ A.\n@c\nint a;\nint b;\n") (codes "@x\nint a;\nint c;\n@y\nint z;\n@z\n")
     ≡ gives (fault_counting ChangeMismatch (line_of (codes "a.ch") 1) 1 ∷ []) (codes "/*1:*/\n#line 2 \"a.w\"\n\n#line 5 \"a.ch\"\nint z;\n/*:1*/\n")

@@ -11,7 +11,6 @@ use crate::messages::{write_faults, write_load, write_unwritten, write_usage};
 use crate::words::{WordFault, Words, read_words};
 use crate::writing::write_outputs;
 use std::alloc::Global;
-use std::mem::forget;
 use tangle_folders::Folder;
 use tangle_lines::{Fault, Files, NoMemory, Roles, Sink};
 use tangle_session::Session;
@@ -73,7 +72,7 @@ fn started(alloc: Global, files: Files, roles: Roles) -> Result<Session, NoMemor
     }
 }
 
-// Starts a session of the files that were loaded, and runs it. The session is kept to the program's end, which frees all at once.
+// Starts a session of the files that were loaded, and runs it.
 fn run_loaded<F: Folder, E: Sink>(
     alloc: Global,
     files: Files,
@@ -96,11 +95,7 @@ fn run_loaded<F: Folder, E: Sink>(
             let _ = write_load(b"ctangle", &LoadFault::NoMemory, err);
             3
         }
-        Ok(session) => {
-            let status = run_session(alloc, &session, folder, err);
-            forget(session);
-            status
-        }
+        Ok(session) => run_session(alloc, &session, folder, err),
     }
 }
 

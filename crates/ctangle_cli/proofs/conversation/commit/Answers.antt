@@ -14,7 +14,7 @@ returns-in-Some g c =
     let done = rw c.deref.ensures.value at c.apply_all-done.ensures in (
       list_line c.apply_all-done.result,
       rw c.in-Some.ensures.after
-      (committed c.args.session.now c.apply_all-done.new.self c.args.draft.now c.in-Some.held (list_line c.apply_all-done.result) (sym c.in-Some.ensures.value)
-      (list_answered c.args.session.now c.apply_all-done.new.self c.in-Some.held.items c.apply_all-done.result done.files done.roles done.work done.refused done.only done.err)),
+          (committed c.args.session.now c.apply_all-done.new.self c.args.draft.now c.in-Some.held (list_line c.apply_all-done.result) (sym c.in-Some.ensures.value)
+          (list_answered c.args.session.now c.apply_all-done.new.self c.in-Some.held.items c.apply_all-done.result done.files done.roles done.work done.refused done.only done.err)),
       c.say_list.ensures,
     )

@@ -13,7 +13,7 @@ returns-in_default-new-clause-once g c = none_asked _
 pub returns-clause-ok : goal.returns-clause-ok
 returns-clause-ok g c =
     let given = rw (c.web.ensures, c.change.ensures, c.out.ensures) at c.in-Ok.ensures.roles in (
-  loads_named _ _ c.args.words.now _ (sym c.first_bad.ensures ∙ ap option_copied c.in_default.is)
-  (c.set_marks.ensures ∙ (λ i. record (given i) { marks = c.marks.ensures i })) c.in_ok-files.ensures.ok.0,
-  c.in_ok-files.ensures.ok.1,
-)
+      loads_named _ _ c.args.words.now _ (sym c.first_bad.ensures ∙ ap option_copied c.in_default.is)
+          (c.set_marks.ensures ∙ (λ i. record (given i) { marks = c.marks.ensures i })) c.in_ok-files.ensures.ok.0,
+      c.in_ok-files.ensures.ok.1,
+    )

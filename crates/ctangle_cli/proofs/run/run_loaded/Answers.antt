@@ -9,5 +9,5 @@ returns-in-Err g c = λ all created failures loaded same_files same_created.
 
 pub returns-in-Ok : goal.returns-in-Ok
 returns-in-Ok g c = λ all created failures loaded same_files same_created.
-    named_tangled c.args.roles c.args.files _ _ _ _ _ _ _ _ c.run_session-status.result loaded same_files same_created
-    (rw (c.in-Ok.ensures.files, c.in-Ok.ensures.roles) at c.run_session-status.ensures)
+    named_tangled c.args.roles c.args.files _ _ _ _ _ _ _ _ c.run_session.result loaded same_files same_created
+    (rw (c.in-Ok.ensures.files, c.in-Ok.ensures.roles) at c.run_session.ensures)
