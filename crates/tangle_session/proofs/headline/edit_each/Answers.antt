@@ -20,7 +20,7 @@ loop-call-preserved c =
     (let taken = length-take at edits in let mapped = length-map (take at edits) edits_read in let answered = so_far.answered in
     grind (arith, taken, mapped, answered, inside)) in
     let calls : zip (map edits_read (take (at + 1) edits)) c.push_reserved.new.self.items
-        ≡ zip (map edits_read (take at edits)) c.loop-call.answers.items ++ (edits_read call, c.hand_over.result) ∷ [] =
+    ≡ zip (map edits_read (take at edits)) c.loop-call.answers.items ++ (edits_read call, c.hand_over.result) ∷ [] =
     ap (λ l. zip l c.push_reserved.new.self.items) read ∙ ap (zip (map edits_read (take at edits) ++ edits_read call ∷ [])) c.push_reserved.ensures.items
     ∙ zip_more (map edits_read (take at edits)) c.loop-call.answers.items (edits_read call) c.hand_over.result same in
     record {
