@@ -80,7 +80,8 @@ survived_as() { # FILE OLD WANTED
 # The tests of the crates, which ask the library for their own refusals.
 test_crates() {
     kit=$(dirname "$(rt doc)")
-    for crate in tangle_names_tests tangle_graph_tests tangle_session_tests ctangle_cli_tests; do
+    for crate in tangle_script_tests tangle_names_tests tangle_graph_tests tangle_session_tests \
+        ctangle_cli_tests; do
         test_crate "$crate"
     done
 }
