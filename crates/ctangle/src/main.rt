@@ -1,8 +1,9 @@
 //! `ctangle [flags] web [change [out]]`: tangles a web into C, in the folder that it runs in.
 #![tactic(auto)]
 
-use ctangle_cli::{Disk, LoadFault, run_ctangle, write_load};
+use ctangle_cli::{Disk, Ended, LoadFault, run_keeping_session, write_load};
 use std::io::{Error, ErrorKind, LineWriter, Stderr};
+use std::mem::forget;
 use std::process::ExitCode;
 use std::{env, io};
 use tangle_lines::{IoSink, Sink};
@@ -32,9 +33,17 @@ fn run(rt: &HostRuntime, err: &mut IoSink<LineWriter<Stderr>>) -> u8 {
     };
     let names = words.iter().skip(1).map(|word| word.as_bytes());
     match names.collect::<Vec<&[u8]>>(rt.alloc()) {
-        Ok(words) => run_ctangle(rt.alloc(), words.as_slice(), &mut Disk::new(rt), err),
+        Ok(words) => run_words(rt, words.as_slice(), err),
         Err(_) => no_memory(err),
     }
+}
+
+// Runs `ctangle` with these words. The program ends behind the run, which frees the session's memory
+// at once: it is not taken apart before.
+fn run_words(rt: &HostRuntime, words: &[&[u8]], err: &mut IoSink<LineWriter<Stderr>>) -> u8 {
+    let Ended { status, session } = run_keeping_session(rt.alloc(), words, &mut Disk::new(rt), err);
+    forget(session);
+    status
 }
 
 fn no_memory(err: &mut IoSink<LineWriter<Stderr>>) -> u8 {

@@ -21,7 +21,7 @@ pub use laws::{
 pub use loading::{LoadFault, load};
 pub use messages::write_load;
 pub use retangle_words::{RetangleFault, read_retangle};
-pub use run::{run_ctangle, silence_is_no_failure};
+pub use run::{Ended, run_ctangle, run_keeping_session, silence_is_no_failure};
 pub use tangle_folders::{
     CreatedFile, Disk, FILE_LIMIT, Folder, FolderFault, MemoryFolder, MemorySink,
 };

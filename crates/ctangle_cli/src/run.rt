@@ -72,6 +72,25 @@ fn started(alloc: Global, files: Files, roles: Roles) -> Result<Session, NoMemor
     }
 }
 
+/// What a run of `ctangle` leaves.
+#[derive(Drop)]
+pub struct Ended {
+    /// The status that the program ends with.
+    pub status: u8,
+    /// The session that was started, unless the run ended before.
+    pub session: Option<Session>,
+}
+
+// A run that ended before its session was started, with status 3.
+fn unstarted() -> Ended
+    ensures { result.status ≡ 3 }
+{
+    Ended {
+        status: 3,
+        session: None,
+    }
+}
+
 // Starts a session of the files that were loaded, and runs it.
 fn run_loaded<F: Folder, E: Sink>(
     alloc: Global,
@@ -79,28 +98,38 @@ fn run_loaded<F: Folder, E: Sink>(
     roles: Roles,
     folder: &mut F,
     err: &mut E,
-) -> u8
-    ensures { (all created : Option (List File)) (failures : ℕ) → LoadsTo all (λ all. load_of all roles) failures (F.failures folder.old) files
+) -> Ended
+    ensures { (all created : Option (List File)) (failures : ℕ)
+        → LoadsTo all (λ all. load_of all roles) failures (F.failures folder.old) files
         → F.files folder.old ≡ all → F.created folder.old ≡ created → NamedEnds roles
-        (record { files = all; created = created; folder_failures = failures; stream = E.stream err.old })
+        (record {
+          files = all;
+          created = created;
+          folder_failures = failures;
+          stream = E.stream err.old;
+        })
         (record {
           files = F.files folder.new;
           created = F.created folder.new;
           folder_failures = F.failures folder.new;
           stream = E.stream err.new;
-        }) result }
+        }) result.status }
 {
     match started(alloc, files, roles) {
         Err(_) => {
             let _ = write_load(b"ctangle", &LoadFault::NoMemory, err);
-            3
+            unstarted()
         }
-        Ok(session) => run_session(alloc, &session, folder, err),
+        Ok(session) => {
+            let status = run_session(alloc, &session, folder, err);
+            let session = Some(session);
+            Ended { status, session }
+        }
     }
 }
 
 // Loads the files of these names, and starts a session of them.
-fn run_named<F: Folder, E: Sink>(alloc: Global, words: &Words, folder: &mut F, err: &mut E) -> u8
+fn run_named<F: Folder, E: Sink>(alloc: Global, words: &Words, folder: &mut F, err: &mut E) -> Ended
     ensures { NamedEnds words.now
         (record {
           files = F.files folder.old;
@@ -113,14 +142,52 @@ fn run_named<F: Folder, E: Sink>(alloc: Global, words: &Words, folder: &mut F, e
           created = F.created folder.new;
           folder_failures = F.failures folder.new;
           stream = E.stream err.new;
-        }) result }
+        }) result.status }
 {
     match load(alloc, words, folder) {
         Err(fault) => {
             let _ = write_load(b"ctangle", &fault, err);
-            3
+            unstarted()
         }
         Ok((files, roles)) => run_loaded(alloc, files, roles, folder, err),
+    }
+}
+
+/// Runs `ctangle` as [`run_ctangle`] does, and gives the session besides. A program that ends behind
+/// the run need not free it: the system takes all memory back at once.
+pub fn run_keeping_session<F: Folder, E: Sink>(
+    alloc: Global,
+    words: &[&[u8]],
+    folder: &mut F,
+    err: &mut E,
+) -> Ended
+    ensures { RunEnds (map (λ w. w.now) words.now)
+        (record {
+          files = F.files folder.old;
+          created = F.created folder.old;
+          folder_failures = F.failures folder.old;
+          stream = E.stream err.old;
+        })
+        (record {
+          files = F.files folder.new;
+          created = F.created folder.new;
+          folder_failures = F.failures folder.new;
+          stream = E.stream err.new;
+        }) result.status }
+{
+    match read_words(alloc, words) {
+        Err(WordFault::Usage) => match write_usage(err) {
+            Ok(_) => Ended {
+                status: 2,
+                session: None,
+            },
+            Err(_) => unstarted(),
+        },
+        Err(WordFault::NoMemory) => {
+            let _ = write_load(b"ctangle", &LoadFault::NoMemory, err);
+            unstarted()
+        }
+        Ok(words) => run_named(alloc, &words, folder, err),
     }
 }
 
@@ -153,17 +220,8 @@ pub fn run_ctangle<F: Folder, E: Sink>(
           stream = E.stream err.new;
         }) result }
 {
-    match read_words(alloc, words) {
-        Err(WordFault::Usage) => match write_usage(err) {
-            Ok(_) => 2,
-            Err(_) => 3,
-        },
-        Err(WordFault::NoMemory) => {
-            let _ = write_load(b"ctangle", &LoadFault::NoMemory, err);
-            3
-        }
-        Ok(words) => run_named(alloc, &words, folder, err),
-    }
+    let ended = run_keeping_session(alloc, words, folder, err);
+    ended.status
 }
 
 /// A run that writes nothing, and in which nothing fails, does not end with status 3: over a folder that tells that it

@@ -6,7 +6,7 @@ use Rattle.ctangle_cli.proofs.run.run_named.Goals as goal
 
 pub returns-in-Err : goal.returns-in-Err
 returns-in-Err g c =
-    IsUnloaded (ending_of c.in-Err.fault) c.in-Err.ensures.err (tries_from _ _ c.write_load.result _ c.write_load.ensures) c.in-Err.ensures.created_stay refl
+    IsUnloaded (ending_of c.in-Err.fault) c.in-Err.ensures.err (tries_from _ _ c.write_load.result _ c.write_load.ensures) c.in-Err.ensures.created_stay c.unstarted.ensures
 
 pub returns-in-Ok : goal.returns-in-Ok
 returns-in-Ok g c =
