@@ -116,8 +116,8 @@ def check_conversation(top):
     with open(path, encoding='utf-8') as source:
         blocks = re.findall(r'(?:^(?:    .*)?\n)*^    .*\n', source.read(), re.M)
     at = next(number for number, block in enumerate(blocks) if '$ retangle a\n' in block)
-    web, talk = (re.sub('^    ', '', block, flags=re.M).strip('\n') + '\n' for block in blocks[at - 1:at + 1])
-    lines = talk.splitlines(True)[1:]
+    web, whole = (re.sub('^    ', '', block, flags=re.M).strip('\n') + '\n' for block in blocks[at - 1:at + 1])
+    lines = whole.splitlines(True)[1:]
     typed = ''.join(line[2:] for line in lines if line.startswith('> '))
     answered = ''.join(line for line in lines if not line.startswith('> '))
     session = Session(add([], b'a.w', web.encode()), Roles(b'a.w', None, b'a.c'))

@@ -1,10 +1,10 @@
 #!/bin/sh
-# Runs the built ctangle on small folders, talks to the built retangle, and shows what the gate does not see: the files that a run creates,
+# Runs the built ctangle on small folders and the built retangle on scripts, and shows what the gate does not see: the files that a run creates,
 # standard error, the status, and what a run leaves where the machine refuses something.
 #
 # usage: tests/run.sh [PART..]
 #
-# The parts are documents, users, example, cases, talks, machine, limits, memory, comparison, cuts and scripts; without a word all are run. Several
+# The parts are documents, users, example, cases, conversations, machine, limits, memory, comparison, cuts and scripts; without one all are run. Several
 # run side by side, as many at a time as there are processors; what each says is shown when all have ended.
 #
 # CTANGLE=PATH and RETANGLE=PATH take other programs.
@@ -29,7 +29,7 @@ chmod 755 "$room"
 . "$top/tests/lib.sh"
 
 # The longest parts come first.
-[ $# -gt 0 ] || set -- scripts comparison cuts memory limits talks cases machine users example documents
+[ $# -gt 0 ] || set -- scripts comparison cuts memory limits conversations cases machine users example documents
 if [ $# -gt 1 ]; then
     printf '%s\n' "$@" | xargs -P "$(nproc)" -I PART sh -c '"$0" "$1" >"$2/$1" 2>&1' "$0" PART "$room"
     for part; do
@@ -47,7 +47,7 @@ chmod 755 "$room/ctangle"
 . "$top/tests/users.sh"
 . "$top/tests/example.sh"
 . "$top/tests/cases.sh"
-. "$top/tests/talks.sh"
+. "$top/tests/conversations.sh"
 . "$top/tests/machine.sh"
 . "$top/tests/limits.sh"
 . "$top/tests/memory.sh"

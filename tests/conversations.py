@@ -1,6 +1,6 @@
 """Conversations with the built retangle, held against the reference, and scripts that try to break it.
 
-usage: talks.py PROGRAM TOP        TOP is the folder of the repository
+usage: conversations.py PROGRAM TOP        TOP is the folder of the repository
 
 In a conversation each command is sent when the command before it is answered, through two pipes. The last line is
 'N passed, M failed'.
@@ -46,11 +46,11 @@ class Room:
             with open(os.path.join(self.folder.name, name), 'wb') as file:
                 file.write(text)
 
-    def start(self, words, **streams):
-        talk = subprocess.Popen([program] + words, cwd=self.folder.name, bufsize=0,
-                                stderr=subprocess.PIPE, **streams)
-        talk.room = self    # the folder goes with its room, so the room stays as long as the talk
-        return talk
+    def start(self, arguments, **streams):
+        running = subprocess.Popen([program] + arguments, cwd=self.folder.name, bufsize=0,
+                                   stderr=subprocess.PIPE, **streams)
+        running.room = self     # the folder goes with its room, so the room stays with the program
+        return running
 
 
 def read_within(pipe, end):
@@ -65,38 +65,38 @@ def send(pipe, text, size):
     pipe.close()
 
 
-def run_script(room, words, script, size=1 << 20, **options):
+def run_script(room, arguments, script, size=1 << 20, **options):
     """What is written and the status for a script that is sent in pieces of this size, without
     waiting."""
     with tempfile.TemporaryFile() as answers:
-        talk = room.start(words, stdin=subprocess.PIPE, stdout=answers, **options)
+        running = room.start(arguments, stdin=subprocess.PIPE, stdout=answers, **options)
         try:
-            send(talk.stdin, script, size)
+            send(running.stdin, script, size)
         except BrokenPipeError:
             pass
-        status = talk.wait(PATIENCE)
+        status = running.wait(PATIENCE)
         answers.seek(0)
-        return answers.read(), status, talk.stderr.read()
+        return answers.read(), status, running.stderr.read()
 
 
 # ------------------------------------------------------------------ waiting for each answer
 
-def converse(name, files, words, turns):
+def converse(name, files, arguments, turns):
     """Sends each command and waits for its answer before the next one."""
-    talk = Room(files).start(words, stdin=subprocess.PIPE, stdout=subprocess.PIPE)
+    running = Room(files).start(arguments, stdin=subprocess.PIPE, stdout=subprocess.PIPE)
     for command, answer in turns:
-        talk.stdin.write(command)
+        running.stdin.write(command)
         got, end = b'', time.monotonic() + PATIENCE
         while len(got) < len(answer):
-            more = read_within(talk.stdout, end)
+            more = read_within(running.stdout, end)
             if not more:
                 break
             got += more
         check(got == answer, name, 'to %r the answer is %r' % (command, got))
         if got != answer:
             break
-    talk.stdin.close()
-    return talk.wait(PATIENCE)
+    running.stdin.close()
+    return running.wait(PATIENCE)
 
 
 def turns_of(conversation):
@@ -119,14 +119,14 @@ def test_document():
     with open(os.path.join(top, 'docs', 'sessions.md'), 'rb') as source:
         blocks = re.findall(rb'(?:^(?:    .*)?\n)*^    .*\n', source.read(), re.M)
     at = next(number for number, block in enumerate(blocks) if b'$ retangle a\n' in block)
-    web, talk = (re.sub(b'^    ', b'', block, flags=re.M).strip(b'\n') + b'\n' for block in blocks[at - 1:at + 1])
-    conversation = talk.split(b'\n', 1)[1]
+    web, whole = (re.sub(b'^    ', b'', block, flags=re.M).strip(b'\n') + b'\n' for block in blocks[at - 1:at + 1])
+    conversation = whole.split(b'\n', 1)[1]
     status = converse('docs/sessions.md', {'a.w': web}, ['a'], turns_of(conversation))
     check(status == 0, 'docs/sessions.md', 'status %d' % status)
 
 
-def test_stored_talks():
-    folder = os.path.join(top, 'tests', 'talks')
+def test_stored_conversations():
+    folder = os.path.join(top, 'tests', 'conversations')
     for name in sorted(os.listdir(folder)):
         case = {}
         for part in ('words', 'stdin', 'stdout', 'status'):
@@ -298,23 +298,23 @@ def test_failing_reader():
         server = socket.create_server(('127.0.0.1', 0))
         here = socket.create_connection(server.getsockname())
         there, _ = server.accept()
-        talk = Room({'a.w': WEB}).start(['a'], stdin=there, stdout=subprocess.PIPE)
+        running = Room({'a.w': WEB}).start(['a'], stdin=there, stdout=subprocess.PIPE)
         there.close()
         here.sendall(b'work\n' + rest)
         got, end = b'', time.monotonic() + PATIENCE
         while len(got) < len(b'work 1\n' + more) and time.monotonic() < end:
-            got += read_within(talk.stdout, end)
+            got += read_within(running.stdout, end)
         time.sleep(0.2)
         here.setsockopt(socket.SOL_SOCKET, socket.SO_LINGER, b'\1\0\0\0\0\0\0\0')      # to close is to reset
         here.close()
         server.close()
-        status = talk.wait(PATIENCE)
-        check((got + talk.stdout.read(), status) == (b'work 1\n' + more, 3), 'failing reader',
+        status = running.wait(PATIENCE)
+        check((got + running.stdout.read(), status) == (b'work 1\n' + more, 3), 'failing reader',
               '%r: status %d' % (rest, status))
     folder = os.open('/', os.O_RDONLY)
-    talk = Room({'a.w': WEB}).start(['a'], stdin=folder, stdout=subprocess.PIPE)
+    running = Room({'a.w': WEB}).start(['a'], stdin=folder, stdout=subprocess.PIPE)
     os.close(folder)
-    check((talk.stdout.read(), talk.wait(PATIENCE)) == (b'', 3), 'standard input is a folder', 'another end')
+    check((running.stdout.read(), running.wait(PATIENCE)) == (b'', 3), 'standard input is a folder', 'another end')
 
 
 def test_failing_writer():
@@ -328,43 +328,53 @@ def test_failing_writer():
             signal.signal(signal.SIGXFSZ, signal.SIG_IGN)
             resource.setrlimit(resource.RLIMIT_FSIZE, (room, room))
         with tempfile.TemporaryFile() as answers:
-            talk = Room({'a.w': WEB}).start(['a'], stdin=subprocess.PIPE, stdout=answers, preexec_fn=limited)
+            running = Room({'a.w': WEB}).start(['a'], stdin=subprocess.PIPE, stdout=answers, preexec_fn=limited)
             try:
-                send(talk.stdin, script, len(script))
+                send(running.stdin, script, len(script))
             except BrokenPipeError:
                 pass
-            status = talk.wait(PATIENCE)
+            status = running.wait(PATIENCE)
             answers.seek(0)
             written = answers.read()
         check((written, status) == (whole[:room], 3), 'failing writer', 'at byte %d: %r, status %d' % (room, written, status))
     full = open('/dev/full', 'wb')
-    talk = Room({'a.w': WEB}).start(['a'], stdin=subprocess.PIPE, stdout=full)
-    send(talk.stdin, b'work\n', 5)
-    check(talk.wait(PATIENCE) == 3, 'full disk', 'another status')
+    running = Room({'a.w': WEB}).start(['a'], stdin=subprocess.PIPE, stdout=full)
+    send(running.stdin, b'work\n', 5)
+    check(running.wait(PATIENCE) == 3, 'full disk', 'another status')
 
 
-# ------------------------------------------------------------------ words and loading
+# ------------------------------------------------------------------ arguments and loading
 
-def test_words():
-    for words, told in (([], b'<WEB>'), (['a', 'b'], b"'b'"), (['a', '--out'], b'--out <FILE>'), (['a', '--nothing'], b'--nothing'),
-                        (['--help'], b'Usage: retangle [OPTIONS] <WEB>'), (['-V'], b'retangle 1.0'), ([b'\xff'], b'<WEB>')):
-        written, status, errors = run_script(Room({'a.w': WEB}), words, b'work\n')
-        check((written, status) == (b'', 2) and told in errors, 'words', '%r: %r, status %d' % (words, errors, status))
-    for words, files, told in ((['none'], {}, b'retangle: cannot read none.w\n'),
-                               (['a', '--change', 'b'], {'a.w': WEB}, b'retangle: cannot read b.ch\n'),
-                               (['a'], {'a.w': b'x' * 65536}, b'retangle: a.w: LineTooLong\n'),
-                               (['a', '--out', 'x' * 254], {'a.w': WEB}, b'retangle: %s.c: BadName\n' % (b'x' * 254))):
-        written, status, errors = run_script(Room(files), words, b'work\n')
-        check((written, status, errors) == (b'', 3, told), 'loading', '%r: %r, status %d' % (words, errors, status))
-    for words, name in ((['a', '--out', 'z'], b'z.c'), (['--out=d/z.h', 'a.w'], b'd/z.h'), (['--change', '-', 'a'], b'a.c')):
-        written, status, _ = run_script(Room({'a.w': WEB}), words, b'show %s\n' % name)
-        check((written, status) == (b'= %s 36\n' % name + answered(b'show a.c\n')[0].split(b'\n', 1)[1], 0), 'words', '%r: %r' % (words, written))
+def test_arguments():
+    for arguments, part in (([], b'<WEB>'), (['a', 'b'], b"'b'"), (['a', '--out'], b'--out <FILE>'),
+                            (['a', '--nothing'], b'--nothing'), ([b'\xff'], b'<WEB>'),
+                            (['--help'], b'Usage: retangle [OPTIONS] <WEB>'),
+                            (['-V'], b'retangle 1.0')):
+        written, status, errors = run_script(Room({'a.w': WEB}), arguments, b'work\n')
+        check((written, status) == (b'', 2) and part in errors, 'arguments',
+              '%r: %r, status %d' % (arguments, errors, status))
+    too_long = 'x' * 254
+    for arguments, files, line in ((['none'], {}, b'cannot read none.w'),
+                                   (['a', '--change', 'b'], {'a.w': WEB}, b'cannot read b.ch'),
+                                   (['a'], {'a.w': b'x' * 65536}, b'a.w: LineTooLong'),
+                                   (['a', '--out', too_long], {'a.w': WEB},
+                                    b'%s.c: BadName' % too_long.encode())):
+        written, status, errors = run_script(Room(files), arguments, b'work\n')
+        check((written, status, errors) == (b'', 3, b'retangle: %s\n' % line), 'loading',
+              '%r: %r, status %d' % (arguments, errors, status))
+    _, text = answered(b'show a.c\n')[0].split(b'\n', 1)
+    for arguments, name in ((['a', '--out', 'z'], b'z.c'), (['--out=d/z.h', 'a.w'], b'd/z.h'),
+                            (['--change', '-', 'a'], b'a.c')):
+        written, status, _ = run_script(Room({'a.w': WEB}), arguments, b'show %s\n' % name)
+        check((written, status) == (b'= %s 36\n' % name + text, 0), 'arguments',
+              '%r: %r' % (arguments, written))
 
 
 def main():
-    for test in (test_document, test_stored_talks, test_malformed, test_ends, test_change_file, test_words, test_failing_reader,
-                 test_failing_writer, test_many_edits, test_long_lists, test_most_lines,
-                 test_long_texts, test_longest_script, test_longest_lists):
+    for test in (test_document, test_stored_conversations, test_malformed, test_ends, test_change_file,
+                 test_arguments, test_failing_reader, test_failing_writer, test_many_edits,
+                 test_long_lists, test_most_lines, test_long_texts, test_longest_script,
+                 test_longest_lists):
         test()
     print('%d passed, %d failed' % (counts[True], counts[False]))
     return 1 if counts[False] else 0
