@@ -1,17 +1,15 @@
 """Holds the built programs against the reference tangler of tests/reference.
 
-usage: compare.py generated STAGE CTANGLE FIRST COUNT      generated webs, by their seeds
-       compare.py short STAGE CTANGLE MOST                 short webs over small alphabets, so many of each kind
-       compare.py cut STAGE CTANGLE WEB..                  webs cut after every byte
-       compare.py scripts RETANGLE FIRST COUNT [--all-work]
-       compare.py edited RETANGLE WEB..                    webs edited line by line into what a cut
-                                                           leaves, and back, and so by lists
+usage: compare.py generated CTANGLE FIRST COUNT      generated webs, by their seeds
+       compare.py short CTANGLE MOST                 short webs over small alphabets, so many of
+                                                     each kind
+       compare.py cut CTANGLE WEB..                  webs cut after every byte
+       compare.py scripts RETANGLE FIRST COUNT       generated projects with scripts, by their seeds
+       compare.py edited RETANGLE WEB..              webs edited line by line into what a cut
+                                                     leaves, and back, and so by lists
 
-STAGE is front or whole. A program at front reads, scans and resolves names: the main file has the unnamed pieces
-alone, and the faults are those that need no graph of names. Whole is all that ctangle does: every output file, all
-faults and the status.
-RETANGLE is a program that reads scripts.
---all-work: the last work is the number of all nodes that can be expanded.
+Of a run every output file, all faults and the status are compared, of a script the answers and the
+status.
 The last line is 'N passed, M failed'.
 """
 import os
@@ -36,7 +34,7 @@ LONGEST = 2000
 ROLES = Roles(b'a.w', None, b'a.c')
 
 
-def tangled(stage, words, folder):
+def tangled(words, folder):
     """The status, standard error and the output files that the reference gives."""
     names = programs.read_words(words)
     if names is None:
@@ -45,11 +43,8 @@ def tangled(stage, words, folder):
         tangling = Tangling(*programs.load(names, programs.Folder(folder)))
     except programs.LoadFault as fault:
         return 3, fault.line(b'ctangle'), {}
-    if stage == 'front':
-        faults, files = tangling.before_expansion()
-    else:
-        faults, files = tangling.faults, tangling.files()
-    return status_of(faults), b''.join(map(fault_line, faults)), dict(files)
+    faults = b''.join(map(fault_line, tangling.faults))
+    return status_of(tangling.faults), faults, dict(tangling.files())
 
 
 def lay(folder, files):
@@ -109,49 +104,49 @@ class Comparison:
         if self.failed <= SHOWN:
             print('FAIL %s:\n    wanted %s\n    found  %s' % (name, shown(wanted), shown(found)))
 
-    def compare_run(self, name, stage, words, folder):
-        status, told, files = tangled(stage, words, folder)
+    def compare_run(self, name, words, folder):
+        status, told, files = tangled(words, folder)
         before = files_of(folder)
         done = run(self.program, words, folder)
         self.count(name, (status, b'', told, {**before, **files}),
                    (done.returncode, done.stdout, done.stderr, files_of(folder)))
 
-    def generated(self, folder, stage, first, count):
+    def generated(self, folder, first, count):
         for seed in range(first, first + count):
             project = generator.Project(seed)
             name = 'generated web %d' % seed
             if project.is_small():
                 lay(folder, project.files)
-                self.compare_run(name, stage, words_of(project, seed), folder)
+                self.compare_run(name, words_of(project, seed), folder)
             else:
                 print('%s is too large' % name)
 
-    def cut(self, folder, stage, webs):
+    def cut(self, folder, webs):
         for web in webs:
             with open(web, 'rb') as source:
                 text = source.read()
             for size in range(len(text) + 1):
-                self.compare_web('%s cut after %d bytes' % (web, size), stage, text[:size], folder)
+                self.compare_web('%s cut after %d bytes' % (web, size), text[:size], folder)
 
-    def compare_web(self, name, stage, text, folder):
+    def compare_web(self, name, text, folder):
         lay(folder, [])
         with open(os.path.join(folder, 'a.w'), 'wb') as out:
             out.write(text)
-        self.compare_run(name, stage, ['a'], folder)
+        self.compare_run(name, ['a'], folder)
 
-    def short(self, folder, stage, most):
+    def short(self, folder, most):
         for kind in short_webs.KINDS:
             for number in short_webs.some(kind, most):
-                self.compare_web('short web %s %d' % (kind, number), stage, short_webs.web(kind, number), folder)
+                self.compare_web('short web %s %d' % (kind, number), short_webs.web(kind, number), folder)
 
-    def scripts(self, folder, first, count, work):
+    def scripts(self, folder, first, count):
         for seed in range(first, first + count):
             project, text = generator.script(seed)
             lay(folder, project.files)
             words = ['a', '--out', os.fsdecode(project.out)] + (['--change', 'a'] if project.change else [])
             loaded = programs.load(programs.read_retangle(words), programs.Folder(folder))
             try:
-                answers = Script(Session(*loaded, work, watch), text)
+                answers = Script(Session(*loaded, watch), text)
             except TooLarge:
                 print('generated script %d is too large' % seed)
                 continue
@@ -241,23 +236,19 @@ def watch(tangling):
 
 def main():
     mode, rest = sys.argv[1], sys.argv[2:]
-    flags = [word for word in rest if word.startswith('--')]
-    rest = [word for word in rest if word not in flags]
-    stage = None if mode in ('scripts', 'edited') else rest.pop(0)
     comparison = Comparison(rest.pop(0))
     with tempfile.TemporaryDirectory() as room:
         folder = os.path.join(room, 'folder')
         if mode == 'cut':
-            comparison.cut(folder, stage, rest)
+            comparison.cut(folder, rest)
         elif mode == 'edited':
             comparison.edited(folder, rest)
         elif mode == 'short':
-            comparison.short(folder, stage, int(rest[0]))
+            comparison.short(folder, int(rest[0]))
         elif mode == 'generated':
-            comparison.generated(folder, stage, *map(int, rest))
+            comparison.generated(folder, *map(int, rest))
         else:
-            work = 'all' if '--all-work' in flags else 'affected'
-            comparison.scripts(folder, *map(int, rest), work)
+            comparison.scripts(folder, *map(int, rest))
     print('%d passed, %d failed' % (comparison.passed, comparison.failed))
     return 1 if comparison.failed else 0
 

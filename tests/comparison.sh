@@ -1,7 +1,7 @@
 # 4,000 generated webs (and two that are too large), short webs, webs cut after every byte, in a
 # folder and by the edits of a session, and 4,000 projects with scripts (and two that are too
-# large), each of which sets the marks and has a list of edits, against the reference tangler. The
-# file tests/stage says how much the built ctangle does: front or whole (tests/compare.py).
+# large), each of which sets the marks and has a list of edits, against the reference tangler
+# (tests/compare.py).
 
 compare() { # NAME WORD..
     _name=$1
@@ -11,15 +11,15 @@ compare() { # NAME WORD..
 }
 
 test_comparison() {
-    compare 'generated webs' generated "$stage" "$room/ctangle" 0 4002
-    compare 'short webs' short "$stage" "$room/ctangle" 50
+    compare 'generated webs' generated "$room/ctangle" 0 4002
+    compare 'short webs' short "$room/ctangle" 50
 }
 
 test_cuts() {
     set -- "$top"/tests/cases/scanning/*/in/a.w "$top"/tests/cases/names/*/in/a.w \
         "$top/tests/cases/output/names-that-contain-each-other-have-no-output/in/a.w" \
         "$top/tests/cases/output/name-over-two-sections-and-a-named-file/in/a.w"
-    compare 'cut webs' cut "$stage" "$room/ctangle" "$@"
+    compare 'cut webs' cut "$room/ctangle" "$@"
     compare 'webs edited into their cuts' edited "${RETANGLE:-$top/bin/retangle}" "$@"
 }
 

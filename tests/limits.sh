@@ -8,7 +8,6 @@ test_limits() {
     test_file_count
     test_lines_taken
     test_many
-    [ "$stage" = whole ] || return 0
     test_long_name
     test_depth
     test_weight
@@ -262,7 +261,7 @@ test_many() {
         }
         printf "/*:1*/\n"
     }' >"$case/want/a.c"
-    [ "$stage" = front ] || run_case '5,000 names' "$case"
+    run_case '5,000 names' "$case"
 
     begin_case a
     {
@@ -275,8 +274,8 @@ test_many() {
         sed 1,2d "$case/in/a.w"
         printf '/*:1*/\n'
     } >"$case/want/a.c"
-    [ "$stage" = front ] || must_end 1 'error: too large: the unnamed program'
-    [ "$stage" = front ] || rm "$case/want/a.c"
+    must_end 1 'error: too large: the unnamed program'
+    rm "$case/want/a.c"
     run_case '19,500,000 bytes of C in one part' "$case"
 }
 

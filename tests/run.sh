@@ -15,7 +15,6 @@ export LC_ALL
 
 top=$(cd "$(dirname "$0")/.." && pwd)
 program=${CTANGLE:-$top/bin/ctangle}
-stage=$(cat "$top/tests/stage")
 if [ ! -x "$program" ]; then
     echo "$program is not there: run make first"
     echo '0 passed, 1 failed'

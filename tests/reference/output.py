@@ -16,10 +16,10 @@ def macro_text(items):
 
 
 class Writer:
-    """Writes nodes that can be expanded; with `expands` off, each use as its space alone."""
+    """Writes nodes that can be expanded."""
 
-    def __init__(self, web, graph, marks='full', expands=True):
-        self.graph, self.marks, self.expands = graph, marks, expands
+    def __init__(self, web, graph, marks='full'):
+        self.graph, self.marks = graph, marks
         self.macros = b''.join(map(macro_text, web.macros))
         self.texts, self.sizes = {}, {}
 
@@ -48,7 +48,7 @@ class Writer:
         made[-1].append(item_text(item))
         if item.kind == 'Defs':
             made[-1].append(self.macros)
-        used = self.graph.use(item) if item.kind == 'UseOf' and self.expands else None
+        used = self.graph.use(item) if item.kind == 'UseOf' else None
         if used is not None and self.graph.pieces[used]:
             made += [(used,), []]
 

@@ -46,13 +46,10 @@ def edited_lines(lines, kind, at, text=b''):
 
 
 class Session:
-    """`work` says what an accepted edit counts: 'affected', or 'all' nodes that can be expanded.
+    """`watch` is called with each new tangling, and may raise where it is too large."""
 
-    `watch` is called with each new tangling, and may raise where it is too large.
-    """
-
-    def __init__(self, files, roles, work='affected', watch=lambda tangling: None):
-        self.files, self.roles, self.work, self.watch = files, roles, work, watch
+    def __init__(self, files, roles, watch=lambda tangling: None):
+        self.files, self.roles, self.watch = files, roles, watch
         self.tangling = Tangling(files, roles)
         watch(self.tangling)
         self.last_work = len(self.tangling.graph.expandable)
@@ -67,9 +64,8 @@ class Session:
                 return refused.refusal, number
         new = Tangling(files, roles)
         self.watch(new)
-        graph = new.graph
-        counted = graph.expandable if self.work == 'all' else affected(self.tangling.graph, graph)
-        self.files, self.roles, self.tangling, self.last_work = files, roles, new, len(counted)
+        work = len(affected(self.tangling.graph, new.graph))
+        self.files, self.roles, self.tangling, self.last_work = files, roles, new, work
         return None
 
     def output(self, name):

@@ -15,9 +15,9 @@ class Tangling:
         self.web = Web(reading.source)
         self.names = Names(self.web.occurrences)
         self.graph = Graph(self.web, self.names)
-        self.front_faults = reading.faults + self.web.faults + self.names.faults
         self.has_program = bool(self.graph.pieces[PROGRAM])
-        self.faults = self.front_faults + self._faults_of_nodes() + self._no_program()
+        self.faults = (reading.faults + self.web.faults + self.names.faults
+                       + self._faults_of_nodes() + self._no_program())
         self.status = status_of(self.faults)
 
     def _no_program(self):
@@ -71,8 +71,3 @@ class Tangling:
     def _text(self, writer, node):
         front = b'' if node is not PROGRAM or self.web.has_defs else writer.macros
         return front + (writer.text(node) + b'\n' if self.graph.pieces[node] else b'')
-
-    def before_expansion(self):
-        """The faults that need no graph of names, and the main file with the unnamed pieces alone."""
-        writer = Writer(self.web, self.graph, self.marks, expands=False)
-        return self.front_faults + self._no_program(), [(self.out, self._text(writer, PROGRAM))]
