@@ -2,8 +2,9 @@
 
 usage: documents.py [FOLDER]      the folder of the repository
 
-- docs/definitions.md: each definition stands in the file of specs/ beside it, each file of code is there, each promise
-  is a function of the crate with that clause; each file of specs/ and each crate with one is in the map.
+- docs/definitions.md: each definition stands in the file beside it, each file of code is there, and
+  each promise is a function of the file beside it, with that clause; each file of specs/ is in the
+  map, and each page of docs/ that names it has a part there.
 - docs/promises.md: each public call of a crate that has a table there is in it.
 - docs/sessions.md, where it is: the reference answers its conversation so; each line of a script is
   in its table and in docs/retangle.1. README.md names each page of docs/.
@@ -63,47 +64,66 @@ class Crate:
 
 # ------------------------------------------------------------------ the map
 
-def check_row(crates, crate, cells):
-    here = crates[crate]
-    name = 'docs/definitions.md, %s' % crate
-    definitions, spec, code, promises = cells
-    for file in CODED.findall(spec):
-        for word in CODED.findall(definitions):
-            text = here.specs.get(file, '')
-            check(re.search(DEFINITION % re.escape(word), text, re.M), name, '%s is not in specs/%s' % (word, file))
-    for file in CODED.findall(code):
-        check(file in here.code, name, 'no file src/%s' % file)
-    for promise in CODED.findall(promises):
-        check_promise(crates, here, name, promise)
+class Map:
+    """The rows of docs/definitions.md: below a heading, RULE | DEFINITION, .. | its file | CODE, .. |
+    PROMISE, .. | its file or files. A promise is CALL or CALL: CLAUSE, a call NAME or TYPE::NAME."""
 
+    def __init__(self, top, crates):
+        self.top, self.crates, self.name = top, crates, 'docs/definitions.md'
+        with open(os.path.join(top, self.name), encoding='utf-8') as source:
+            self.text = source.read()
 
-def check_promise(crates, here, name, promise):
-    """A promise is CALL, CALL: CLAUSE, or either behind CRATE and ::."""
-    where, _, call = promise.rpartition('::')
-    call, _, clause = call.partition(': ')
-    text = crates[where].whole if where in crates else here.whole
-    check(re.search(r'\bfn %s\b' % re.escape(call.split('.')[-1]), text), name, 'no call %s' % call)
-    if clause:
-        check(re.search(r'ensures %s\b' % re.escape(clause), text), name, 'no clause %s of %s' % (clause, call))
+    def check(self):
+        parts = re.split(r'^## (.*)$', self.text, flags=re.M)
+        for head, part in zip(parts[1::2], parts[2::2]):
+            for line in re.findall(r'^\|(.*)\|$', part, re.M)[2:]:
+                cells = [CODED.findall(cell) for cell in line.split(' | ')[1:]]
+                check(len(cells) == 5 and all(cells), self.name, 'no row: %s' % line)
+                if len(cells) == 5 and all(cells):
+                    self.check_row(*cells)
+            for page in CODED.findall(head):
+                check(os.path.exists(os.path.join(self.top, page)), self.name, 'no page %s' % page)
+        self.check_whole(' '.join(parts[1::2]))
 
+    def check_row(self, definitions, specs, code, promises, files):
+        for word in definitions:
+            text = self.file(specs[0], 'specs')
+            check(re.search(DEFINITION % re.escape(word), text, re.M), self.name,
+                  '%s is not in %s' % (word, specs[0]))
+        for path in code:
+            check(self.file(path, 'src'), self.name, 'no file %s' % path)
+        files = files * len(promises) if len(files) == 1 else files
+        check(len(files) == len(promises), self.name, 'so many files: %s' % ', '.join(files))
+        for promise, path in zip(promises, files):
+            call, _, clause = promise.partition(': ')
+            texts = [one[4] for one in functions_in(self.file(path, 'src'))
+                     if one[2] == call.split('::')[-1]]
+            check(texts, self.name, '%s is not in %s' % (call, path))
+            wanted = r'ensures %s\b' % re.escape(clause) if clause else r'\bensures\b'
+            check(any(re.search(wanted, text) for text in texts), self.name,
+                  'no clause %s of %s in %s' % (clause, call, path))
 
-def check_map(crates, text):
-    parts = re.split(r'^## `(\w+)`.*$', text, flags=re.M)
-    told = dict(zip(parts[1::2], parts[2::2]))
-    for crate, part in told.items():
-        if crate not in crates:
-            check(False, 'docs/definitions.md', 'no crate %s' % crate)
-            continue
-        for file in re.findall(r'`(\w+\.antt)`', part):
-            check(file in crates[crate].specs, 'docs/definitions.md', 'no file specs/%s of %s' % (file, crate))
-        for line in part.splitlines():
-            cells = [cell.strip() for cell in line.strip('|').split('|')]
-            if len(cells) == 5 and '`' in cells[1]:
-                check_row(crates, crate, cells[1:])
-    for crate, here in crates.items():
-        files = [file for file in here.specs if file != 'Lib.antt']
-        missing = [file for file in files if '`%s`' % file not in told.get(crate, '')]
-        check(not missing, 'docs/definitions.md', '%s of %s is not in the map' % (', '.join(missing), crate))
+    def file(self, path, folder):
+        """The text of CRATE/specs/FILE or CRATE/src/FILE, or nothing."""
+        crate, _, rest = path.partition('/%s/' % folder)
+        here = self.crates.get(crate)
+        return (here.specs if folder == 'specs' else here.code).get(rest, '') if here else ''
+
+    def check_whole(self, heads):
+        """Each page that names the map has a part in it, and each file of specs/ is in it."""
+        for page in sorted(os.listdir(os.path.join(self.top, 'docs'))):
+            with open(os.path.join(self.top, 'docs', page), encoding='utf-8') as source:
+                leads = '`%s` leads from each rule' % self.name in source.read()
+            check(not leads or '`docs/%s`' % page in heads, self.name, 'nothing of docs/%s' % page)
+        behind = dict(re.findall(r'^- \*\*`(\w+)`\*\*: (.*)$', self.text, re.M))
+        for crate, here in self.crates.items():
+            for file in here.specs:
+                where = '`%s/specs/%s`' % (crate, file) in self.text or '`%s`' % file in behind.get(crate, '')
+                check(where or file == 'Lib.antt', self.name, '%s of %s is not in it' % (file, crate))
+        for crate, files in behind.items():
+            for file in re.findall(r'`(\w+\.antt)`', files):
+                check(crate in self.crates and file in self.crates[crate].specs, self.name,
+                      'no file %s of %s' % (file, crate))
 
 
 # ------------------------------------------------------------------ the conversation
@@ -261,8 +281,7 @@ def main():
     top = sys.argv[1] if len(sys.argv) > 1 else os.path.join(os.path.dirname(os.path.abspath(__file__)), '..')
     folder = os.path.join(top, 'crates')
     crates = {name: Crate(os.path.join(folder, name)) for name in sorted(os.listdir(folder))}
-    with open(os.path.join(top, 'docs', 'definitions.md'), encoding='utf-8') as source:
-        check_map(crates, source.read())
+    Map(top, crates).check()
     check_conversation(top)
     check_commands(crates, top)
     check_readme(top)
