@@ -72,8 +72,8 @@ def run(program, words, folder, script=None):
     return subprocess.run([program] + words, cwd=folder, input=script or b'', capture_output=True, timeout=SECONDS)
 
 
-def words_of(project, seed):
-    """Words that name the project's files, with and without extensions and flags."""
+def arguments_of(project, seed):
+    """Arguments that name the project's files, with and without extensions and flags."""
     words = ['+s'] if seed % 5 == 0 else []
     words.append('a' if seed % 2 else 'a.w')
     has_out = project.out != b'a.c'
@@ -105,10 +105,10 @@ class Comparison:
             print('FAIL %s:\n    wanted %s\n    found  %s' % (name, shown(wanted), shown(found)))
 
     def compare_run(self, name, words, folder):
-        status, told, files = tangled(words, folder)
+        status, faults, files = tangled(words, folder)
         before = files_of(folder)
         done = run(self.program, words, folder)
-        self.count(name, (status, b'', told, {**before, **files}),
+        self.count(name, (status, b'', faults, {**before, **files}),
                    (done.returncode, done.stdout, done.stderr, files_of(folder)))
 
     def generated(self, folder, first, count):
@@ -117,7 +117,7 @@ class Comparison:
             name = 'generated web %d' % seed
             if project.is_small():
                 lay(folder, project.files)
-                self.compare_run(name, words_of(project, seed), folder)
+                self.compare_run(name, arguments_of(project, seed), folder)
             else:
                 print('%s is too large' % name)
 

@@ -1,7 +1,8 @@
 # What the shell tests share: running a case, and counting.
 #
-# A case is a folder: in/ (the folder in which the program runs), words (one a line), want/ (the files that
-# the run creates, and no other), stderr, status. A missing in/ or want/ is an empty one.
+# A case is a folder: in/ (the folder in which the program runs), words (the arguments, one a
+# line), want/ (the files that the run creates, and no other), stderr, status. A missing in/ or
+# want/ is an empty one.
 
 passed=0
 failed=0
@@ -44,7 +45,7 @@ plainly() {
     "$@"
 }
 
-# Runs the program on $1 by the runner $2, a function that is handed the program and its words.
+# Runs the program on $1 by the runner $2, a function that is handed the program and its arguments.
 # Leaves the folder in $room/run, what it should hold in $room/want, the streams and $status.
 run_program() { # CASE RUNNER
     rm -rf "$room/run" "$room/want"

@@ -19,20 +19,20 @@ to_nothing() {
     "$@" 2>&-
 }
 
-# A fault that cannot be told ends the run before any file is made. Where nothing is to be told,
-# it does not matter that standard error would fail.
+# A fault that cannot be reported ends the run before any file is made. Where nothing is to be
+# reported, it does not matter that standard error would fail.
 test_standard_error() {
     for runner in to_a_full_disk to_nothing; do
         begin_case a a
         cp "$with_a_fault"/in/* "$case/in"
         must_end 3
-        run_case "faults cannot be told: $runner" "$case" $runner
+        run_case "faults cannot be reported: $runner" "$case" $runner
 
         begin_case a b c d
         must_end 3
-        run_case "usage cannot be told: $runner" "$case" $runner
+        run_case "usage cannot be reported: $runner" "$case" $runner
 
-        run_case "nothing to tell: $runner" "$one_piece" $runner
+        run_case "nothing to report: $runner" "$one_piece" $runner
     done
 }
 
@@ -85,7 +85,7 @@ test_second_output() {
     printf '@ @(k.h@>=\nint k;\n' >>"$case/in/a.w"
     run_case 'second output of three is a folder' "$case"
 
-    # the faults are told first
+    # the faults are reported first
     printf '@ @<C@>=\n' >>"$case/in/a.w"
     must_end 3 'a.w:12: warning: never used: <C>' 'ctangle: cannot write h.h'
     run_case 'second output is a folder, and there is a fault' "$case"

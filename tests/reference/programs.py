@@ -1,6 +1,6 @@
-"""The words of both programs, loading, and what ctangle does (docs/programs.md).
+"""The arguments of both programs, loading, and what ctangle does (docs/programs.md).
 
-usage: programs.py ctangle|retangle FOLDER WORD..
+usage: programs.py ctangle|retangle FOLDER ARGUMENT..
 
 It writes no file: the outputs of ctangle are shown with their names and lengths on standard output.
 """
@@ -32,7 +32,7 @@ def completed(web, change, out):
 
 
 def read_words(words):
-    """The names of web, change file or None, and main file that the words of ctangle give, or None."""
+    """The names of web, change file or None, and main file that the arguments of ctangle give, or None."""
     words = map(os.fsencode, words)
     names = [word for word in words if len(word) < 2 or word[:1] not in (b'-', b'+')]
     if not 1 <= len(names) <= 3:
@@ -41,7 +41,7 @@ def read_words(words):
 
 
 def read_retangle(words):
-    """The same of retangle, for words without help and with options written out."""
+    """The same of retangle, for arguments without help and with options written out."""
     options = {b'--change': None, b'--out': None}
     words, names = [os.fsencode(word) for word in words], []
     while words:
