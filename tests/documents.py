@@ -32,7 +32,7 @@ CODED = re.compile(r'`([^`]+)`')
 # work in a start, one in an edit and one in a list of edits, and so last_work() counts all that was
 # expanded for it. It writes texts by the one call that writes a file.
 ONLY_IN = {'tangle_session': {'Work::new': {'start', 'apply', 'apply_all'},
-                              'write_file': {'write_output'}, 'write_text': set()}}
+                              'write_file': {'write_output_at'}, 'write_text': set()}}
 
 counts = {True: 0, False: 0}
 

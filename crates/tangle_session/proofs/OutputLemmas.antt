@@ -1,10 +1,13 @@
 -- What holds of each output file of a web, and finding one by its name.
-use Rattle.std.proofs.Common.{◌≡◌, ◌∙◌, ◌<◌, ◌≤◌, ◌==◌, suc, ◌&&◌, ◌||◌, ℕ, Bool, true, false, List, [], ◌∷◌, length, map, filter, flat_map, get_or, drop, drop-cons, ◌+◌, refl, ap, sym, subst, inl, inr, arith, cond}
+use Rattle.std.proofs.Common.{◌≡◌, ◌∙◌, ◌<◌, ◌≤◌, ◌==◌, zero, suc, ◌&&◌, ◌||◌, ℕ, Bool, true, false, List, [], ◌∷◌, length, map, filter, flat_map, get_or, drop, drop-cons, ◌+◌, refl, ap, sym, subst, inl, inr, arith, cond}
 use Rattle.std.specs.Prelude.{not, if◌then◌else◌, Some, None, IsSome, Contains, All, option_to_list, unwrap_or, find}
+use Rattle.std.specs.List.{AllByRecursion, IsDistinct}
 use Rattle.std.specs.Map.{lookup}
 use Rattle.std.specs.Option.{option_map}
 use Rattle.std.specs.Str.{bytes_eq}
 use Rattle.std.proofs.lemmas.List.{drop_all}
+use Rattle.std.proofs.lemmas.Map.Keys.{IsDistinct-head, IsDistinct-tail}
+use Rattle.std.proofs.lemmas.Slice.Eq.{bytes_eq-Decides}
 use Rattle.std.proofs.lemmas.List.Elements.{All-append, All-cons, All-nil, All-contains, All-filter, filter_passes, Contains-append_cases, Contains-push_cases}
 use Rattle.tangle_files.specs.declared.marks.MarkMode.{MarkMode}
 use Rattle.tangle_scan.specs.Web.{WebRead}
@@ -182,3 +185,28 @@ find_end p xs i h sofar = sym (ap (find p) (drop_all i xs h)) ∙ sofar
 pub names_written : (web : WebRead) (marks : MarkMode) (os : List OutputRead) → map (λ o. o.name) os ≡ map (λ o. o.0) (map (written web marks) os)
 names_written web marks [] = refl
 names_written web marks (o ∷ os) = ap (λ l. o.name ∷ l) (names_written web marks os)
+
+-- what holds of all names holds of that of the output at an index
+name_at_index : (P : List ℕ → Type 0) (os : List OutputRead) (i : ℕ) (o : OutputRead) → AllByRecursion P (map (λ (o : OutputRead). o.name) os)
+    → i < length os → o ≡ get_or os i o → P o.name
+name_at_index P [] i o all less at = absurd (omega arith)
+name_at_index P (p ∷ os) zero o all less at = subst (λ (q : OutputRead). P q.name) (sym at) all.0
+name_at_index P (p ∷ os) (suc i) o all less at = name_at_index P os i o all.1 (omega (arith, less)) at
+
+-- where no two outputs have one name, the one at an index is found by its name
+pub find_here : (name : List ℕ) (os : List OutputRead) (i : ℕ) (o : OutputRead) → IsDistinct bytes_eq (map (λ (o : OutputRead). o.name) os)
+    → i < length os → o ≡ get_or os i o → bytes_eq name o.name ≡ true → Some o ≡ find (λ (o : OutputRead). bytes_eq name o.name) os
+find_here name [] i o distinct less at t = absurd (omega arith)
+find_here name (p ∷ os) zero o distinct less at t =
+    ap Some at ∙ sym (ap (λ b. cond b (Some p) (find (λ (o : OutputRead). bytes_eq name o.name) os)) (ap (λ (q : OutputRead). bytes_eq name q.name) (sym at) ∙ t))
+find_here name (p ∷ os) (suc i) o distinct less at t =
+    find_here name os i o (IsDistinct-tail bytes_eq p.name (map (λ (o : OutputRead). o.name) os) distinct) (omega (arith, less)) at t
+    ∙ sym (ap (λ b. cond b (Some p) (find (λ (o : OutputRead). bytes_eq name o.name) os)) (other (bytes_eq name p.name) refl))
+  where
+    apart : bytes_eq p.name o.name ≡ false
+    apart = name_at_index (λ y. bytes_eq p.name y ≡ false) os i o (IsDistinct-head bytes_eq p.name (map (λ (o : OutputRead). o.name) os) distinct) (omega (arith, less)) at
+
+    other : (b : Bool) → bytes_eq name p.name ≡ b → b ≡ false
+    other false e = refl
+    other true e = absurd (let same : p.name ≡ o.name = sym ((bytes_eq-Decides name p.name).0 e) ∙ (bytes_eq-Decides name o.name).0 t in
+        let bad : true ≡ false = sym ((bytes_eq-Decides p.name o.name).1 same) ∙ apart in cc)

@@ -1,6 +1,6 @@
 -- What a session holds of the files, by the parts that are made one after another.
-use Rattle.std.proofs.Common.{◌≡◌, ◌∙◌, ◌+◌, ◌≤◌, ◌&&◌, suc, arith, not, ℕ, Bool, true, false, List, [], ◌∷◌, length, refl, ap, sym, subst, cond, Bor, Contains}
-use Rattle.std.specs.List.{position_or_len}
+use Rattle.std.proofs.Common.{◌≡◌, ◌∙◌, ◌+◌, ◌≤◌, ◌&&◌, suc, arith, not, ℕ, Bool, true, false, List, [], ◌∷◌, length, refl, ap, sym, subst, cond, Bor, Contains, map}
+use Rattle.std.specs.List.{IsDistinct, position_or_len}
 use Rattle.std.specs.Option.{option_copied, option_map}
 use Rattle.std.specs.Str.{bytes_eq}
 use Rattle.std.proofs.lemmas.Bool.Decides.{nat_tests}
@@ -30,10 +30,10 @@ use Rattle.tangle_session.specs.Files.{project_of, output_bytes, source_at, web_
 use Rattle.tangle_affected.specs.Affected as affected
 use Rattle.tangle_affected.specs.Keeping as keeping
 use Rattle.tangle_session.specs.Sessions.{Holds, ListsAffected, ListsExpandable, start_refusal}
-use Rattle.tangle_session.specs.Tangle.{output_at}
+use Rattle.tangle_session.specs.Tangle.{output_at, outputs_of}
 use Rattle.tangle_session.specs.Writes.{IsTrueFile, WritesOutput}
 use Rattle.tangle_session.specs.declared.tangling.Tangled.{Tangled}
-use Rattle.tangle_session.proofs.OutputLemmas.{IsFit, found_in, look_up, outputs_fit, ready, same_text}
+use Rattle.tangle_session.proofs.OutputLemmas.{IsFit, found_in, look_up, names_written, outputs_fit, ready, same_text}
 
 -- the list of the store's nodes, as one of the web's
 pub lists_nodes : (web : WebRead) (store : StoreRead) (nodes : List Node) → IsStoreOf (project_of web) store → store.names ≡ (table_of web).names → keeping.ListsExpandable store nodes → ListsExpandable web nodes
@@ -141,6 +141,12 @@ module _ (files : FileTable) (roles : RolesRead) (tangled : Tangled) (hold : Hol
   looked_up =
       look_up (web_at files roles) roles.marks name (outputs (web_at files roles) (table_of (web_at files roles)) roles.out)
       ∙ ap (λ os. option_map (output_bytes (web_at files roles) roles.marks) (find named os)) (sym hold.ground.outputs_are)
+
+  -- no two outputs that are held have one name
+  pub names_apart : IsDistinct bytes_eq (map (λ o. o.0) (outputs_of files roles)) → IsDistinct bytes_eq (map (λ (o : OutputRead). o.name) tangled.ground.store.outputs)
+  names_apart distinct =
+      subst (λ os. IsDistinct bytes_eq (map (λ (o : OutputRead). o.name) os)) (sym hold.ground.outputs_are)
+      (subst (IsDistinct bytes_eq) (sym (names_written (web_at files roles) roles.marks (outputs (web_at files roles) (table_of (web_at files roles)) roles.out))) distinct)
 
   pub none_at : find named tangled.ground.store.outputs ≡ None → output_at files roles name ≡ None
   none_at e = looked_up ∙ ap (option_map (output_bytes (web_at files roles) roles.marks)) e

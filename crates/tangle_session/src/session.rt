@@ -11,6 +11,7 @@ ghost use Rattle.tangle_session.specs.Tangle.{AreFaultsOf, output_at, outputs_of
 ghost use Rattle.tangle_session.specs.Writes.{IsTrueFile, WritesOutput};
 
 use crate::ground::Ground;
+use crate::laws::outputs_are_found_by_their_names;
 use crate::outputs::OutputNames;
 use crate::refusing::{ListRefusal, refusal_to_apply};
 use crate::tangling::{Tangled, marks_after, tangle_again};
@@ -153,7 +154,9 @@ impl Session {
         self.make(edits, work)
     }
 
-    /// Makes the edits, all or none. The work has no node yet.
+    /// Makes the edits, all or none: what an edit alone and a list of edits have in common. The work
+    /// has no node yet. The setting of line marks changes last, when the new state is whole, since
+    /// it cannot fail; source, web, faults and refusals do not depend on it.
     fn make(&mut self, edits: &[Edit], work: Work) -> Result<(), ListRefusal>
         requires { work ≡ [] }
         ensures files { OnOk result (self.new.files ≡ edited_all self.old.files edits.now) }
@@ -211,10 +214,32 @@ impl Session {
         ensures line_truth { self.now.roles.marks ≡ Full
             → OnOk result (IsTrueFile self.now.files self.now.roles name.now) }
     {
+        self.write_output_at(0, name, sink)
+    }
+
+    /// Writes the output file of this name as [`Session::write_output`] does. It is looked for at
+    /// this index of [`Session::output_names`] first, and searched for only where it is not there:
+    /// so a caller that goes over the names has no search for each.
+    ///
+    /// # Errors
+    ///
+    /// Those of [`Session::write_output`].
+    pub fn write_output_at<S: Sink>(
+        &self,
+        index: usize,
+        name: &[u8],
+        sink: &mut S,
+    ) -> Result<u128, Refusal>
+        ensures written { WritesOutput (output_at self.now.files self.now.roles name.now)
+            (S.stream sink.old) (S.stream sink.new) result }
+        ensures line_truth { self.now.roles.marks ≡ Full
+            → OnOk result (IsTrueFile self.now.files self.now.roles name.now) }
+    {
         names_resolve_inside();
         expandable_nodes_are_light();
         texts_are_true_to_lines();
-        match self.tangled.find_output(name) {
+        outputs_are_found_by_their_names();
+        match self.tangled.find_output_at(index, name) {
             Some(output) => {
                 match write_file(
                     output,

@@ -1,5 +1,6 @@
 //! Files with what tangling makes of them: what a session holds besides its roles.
-ghost use Rattle.std.specs.Prelude.{◌≡◌, ◌⊎◌, [], true, None, Some, find, IfErr, IfOk, OnOk};
+ghost use Rattle.std.specs.Prelude.{◌≡◌, ◌⊎◌, [], true, None, Some, find, map, IfErr, IfOk, OnOk};
+ghost use Rattle.std.specs.List.{IsDistinct};
 ghost use Rattle.std.specs.Option.{option_copied};
 ghost use Rattle.std.specs.Str.{bytes_eq};
 ghost use Rattle.tangle_files.specs.Edited.{edited_all, roles_after};
@@ -36,6 +37,18 @@ impl Tangled {
             }
         }
         None
+    }
+
+    /// The same, where no two output files have one name: it is looked for at this index first.
+    pub(crate) fn find_output_at(&self, index: usize, name: &[u8]) -> Option<&Output>
+        requires { IsDistinct bytes_eq (map (λ output. output.name) self.now.ground.store.outputs) }
+        ensures { option_copied result
+            ≡ find (λ output. bytes_eq name.now output.name) self.now.ground.store.outputs }
+    {
+        match self.ground.store.outputs().get(index) {
+            Some(output) if name == output.name() => Some(output),
+            _ => self.find_output(name),
+        }
     }
 }
 
