@@ -13,11 +13,12 @@ use std::alloc::Global;
 use tangle_folders::{Folder, FolderFault};
 use tangle_session::Session;
 
-// Creates the output of this name. Its writer is closed also where it failed.
+// Creates the output of this name, at this index among the names. Its writer is closed also where it failed.
 fn write_file<F: Folder>(
     alloc: Global,
     session: &Session,
     folder: &mut F,
+    index: usize,
     name: &[u8],
 ) -> Result<(), FolderFault>
     requires { IsSome (output_at session.now.files session.now.roles name.now) }
@@ -32,7 +33,7 @@ fn write_file<F: Folder>(
     ensures files_stay { F.files folder.new ≡ F.files folder.old }
 {
     let mut out = folder.create(alloc, name)?;
-    let written = session.write_output(name, &mut out);
+    let written = session.write_output_at(index, name, &mut out);
     let closed = folder.close(out);
     match written {
         Ok(_) => closed,
@@ -47,7 +48,8 @@ pub struct FileStop<'a> {
     pub fault: FolderFault,
 }
 
-/// Creates the outputs in order, up to the first that can't be written.
+/// Creates the outputs in order, up to the first that can't be written. No two of them have one name,
+/// so none is written over another, and each is found where its name is.
 pub fn write_outputs<'a, F: Folder>(
     alloc: Global,
     session: &'a Session,
@@ -62,8 +64,9 @@ pub fn write_outputs<'a, F: Folder>(
     ensures failed { IfErr result (λ stop. stop.fault ≢ NoMemory → Failed (F.failures folder.old) (F.failures folder.new)) }
     ensures unfailed_memory { IfErr result (λ stop. stop.fault ≡ NoMemory → F.failures folder.new ≡ F.failures folder.old) }
 {
-    for name in session.output_names() {
-        match write_file(alloc, session, folder, name) {
+    let names = session.output_names();
+    for (index, name) in names.enumerate() {
+        match write_file(alloc, session, folder, index, name) {
             Ok(()) => {}
             Err(fault) => return Err(FileStop { name, fault }),
         }

@@ -1,25 +1,26 @@
 use Rattle.std.proofs.Common.{◌∙◌}
+use Rattle.std.specs.Iterator.Adapters.{enumerate_source}
 use Rattle.tangle_session.specs.Tangle.{outputs_of}
 use Rattle.ctangle_cli.proofs.WriteLemmas.{next_output, stops_at_next, wrote_next}
 use Rattle.ctangle_cli.proofs.writing.write_outputs.Goals as goal
 
 pub write_file-requires : goal.write_file-requires
 write_file-requires g c =
-    let next = next_output (outputs_of c.args.session.now.files c.args.session.now.roles) (g.F.Folder.created c.args.folder.now) (g.F.Folder.created c.loop-name.folder)
-    c.loop-name.name-iterator c.in-Some.name.now c.next.new.self c.in-Some.ensures.steps c.requires c.loop-name.invariant.written in
+    let next = next_output (outputs_of c.args.session.now.files c.args.session.now.roles) (g.F.Folder.created c.args.folder.now) (g.F.Folder.created c.loop-index.folder)
+    (enumerate_source c.loop-index.index-iterator) c.in-Some.name.now (enumerate_source c.next.new.self) c.in-Some.ensures.steps.0 c.requires c.loop-index.invariant.written in
     next.is_there
 
-pub loop-name-preserved : goal.loop-name-preserved
-loop-name-preserved g c =
-    let next = next_output (outputs_of c.args.session.now.files c.args.session.now.roles) (g.F.Folder.created c.args.folder.now) (g.F.Folder.created c.loop-name.folder)
-    c.loop-name.name-iterator c.in-Some.name.now c.next.new.self c.in-Some.ensures.steps c.requires c.loop-name.invariant.written in
+pub loop-index-preserved : goal.loop-index-preserved
+loop-index-preserved g c =
+    let next = next_output (outputs_of c.args.session.now.files c.args.session.now.roles) (g.F.Folder.created c.args.folder.now) (g.F.Folder.created c.loop-index.folder)
+    (enumerate_source c.loop-index.index-iterator) c.in-Some.name.now (enumerate_source c.next.new.self) c.in-Some.ensures.steps.0 c.requires c.loop-index.invariant.written in
     record {
       written = wrote_next (outputs_of c.args.session.now.files c.args.session.now.roles) _ _ _ c.in-Some.name.now _ next c.in-Ok.ensures.whole;
-      unfailed = c.in-Ok.ensures.unfailed ∙ c.loop-name.invariant.unfailed;
+      unfailed = c.in-Ok.ensures.unfailed ∙ c.loop-index.invariant.unfailed;
     }
 
 pub returns-in-Err-clause-stopped : goal.returns-in-Err-clause-stopped
 returns-in-Err-clause-stopped g c =
-    let next = next_output (outputs_of c.args.session.now.files c.args.session.now.roles) (g.F.Folder.created c.args.folder.now) (g.F.Folder.created c.loop-name.folder)
-    c.loop-name.name-iterator c.in-Some.name.now c.next.new.self c.in-Some.ensures.steps c.requires c.loop-name.invariant.written in
+    let next = next_output (outputs_of c.args.session.now.files c.args.session.now.roles) (g.F.Folder.created c.args.folder.now) (g.F.Folder.created c.loop-index.folder)
+    (enumerate_source c.loop-index.index-iterator) c.in-Some.name.now (enumerate_source c.next.new.self) c.in-Some.ensures.steps.0 c.requires c.loop-index.invariant.written in
     stops_at_next (outputs_of c.args.session.now.files c.args.session.now.roles) _ _ _ c.in-Some.name.now _ c.in-Err.fault next c.in-Err.ensures.part c.in-Err.ensures.nothing
