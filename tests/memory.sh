@@ -1,14 +1,15 @@
-# Each growth of a run, of a conversation and of calls refused in turn, by a library that stands before the C library's malloc.
+# Each allocation of a run, of a conversation and of calls refused, one a time, by a library that
+# is loaded before the C library's malloc.
 
 test_memory() {
     if ! cc -O2 -shared -fPIC -o "$room/refuse.so" "$top/tests/refuse.c"; then
-        fail 'refused growths' 'tests/refuse.c does not compile'
+        fail 'refused allocations' 'tests/refuse.c does not compile'
         return
     fi
     for name in reading/one-web-makes-one-c-file reading/change-past-the-end-of-an-included-file \
         programs/longer-output-is-replaced output/name-over-two-sections-and-a-named-file \
         output/names-that-contain-each-other-have-no-output; do
-        refuse_each_growth "${name#*/}" "$top/tests/cases/$name"
+        refuse_each_allocation "${name#*/}" "$top/tests/cases/$name"
     done
     test_conversation
     test_crates
@@ -17,38 +18,38 @@ test_memory() {
 test_conversation() {
     retangle=${RETANGLE:-$top/bin/retangle}
     if [ ! -x "$retangle" ]; then
-        fail 'refused growths of a conversation' "$retangle is not there: run make first"
+        fail 'refused allocations of a conversation' "$retangle is not there: run make first"
         return
     fi
     python3 -B "$top/tests/refused.py" "$retangle" "$room/refuse.so" "$top" >"$room/log" 2>&1
-    count_last_line 'refused growths of a conversation' "$room/log"
+    count_last_line 'refused allocations of a conversation' "$room/log"
 }
 
 refusing() {
-    REFUSE_AT=$growth REFUSE_TOLD="$room/told" LD_PRELOAD="$room/refuse.so" "$@"
+    REFUSE_AT=$at REFUSE_REPORT="$room/refused" LD_PRELOAD="$room/refuse.so" "$@"
 }
 
-# Refuses the first growth of a run, the second and so on, until a run has no further one to refuse.
-refuse_each_growth() { # NAME CASE
-    growth=0
+# Refuses the first allocation of a run, the second and so on, until a run has no further one to refuse.
+refuse_each_allocation() { # NAME CASE
+    at=0
     refused=0
     while :; do
-        growth=$((growth + 1))
-        rm -f "$room/told"
+        at=$((at + 1))
+        rm -f "$room/refused"
         run_program "$2" refusing
-        [ -e "$room/told" ] || break
+        [ -e "$room/refused" ] || break
         [ "$status" != 3 ] || refused=$((refused + 1))
-        if survived "$2"; then pass; else report "$1, growth $growth refused"; fi
-        if [ "$growth" -ge 10000 ]; then
-            fail "$1" 'the growths of a run do not end'
+        if survived "$2"; then pass; else report "$1, allocation $at refused"; fi
+        if [ "$at" -ge 10000 ]; then
+            fail "$1" 'the allocations of a run do not end'
             return
         fi
     done
-    if ended_so "$2"; then pass; else report "$1, no growth refused"; fi
-    if [ "$refused" -gt 0 ]; then pass; else fail "$1" 'no refused growth ended a run'; fi
+    if ended_so "$2"; then pass; else report "$1, no allocation refused"; fi
+    if [ "$refused" -gt 0 ]; then pass; else fail "$1" 'no refused allocation ended a run'; fi
 }
 
-# Whether a run with a refused growth ended with status 3, at most the line that says so, alone or behind those of the
+# Whether a run with a refused allocation ended with status 3, at most the line that says so, alone or behind those of the
 # faults, and at most prefixes of its files, or did without that memory and ended as ever.
 survived() { # CASE
     if [ "$status" != 3 ]; then
@@ -58,8 +59,8 @@ survived() { # CASE
     problem=
     echo 'ctangle: NoMemory' >"$room/no_memory"
     [ ! -s "$room/stdout" ] || problem="something on standard output"
-    cat "$1/stderr" "$room/no_memory" >"$room/told_before"
-    [ ! -s "$room/stderr" ] || cmp -s "$room/stderr" "$room/no_memory" || cmp -s "$room/stderr" "$room/told_before" \
+    cat "$1/stderr" "$room/no_memory" >"$room/faults_first"
+    [ ! -s "$room/stderr" ] || cmp -s "$room/stderr" "$room/no_memory" || cmp -s "$room/stderr" "$room/faults_first" \
         || problem="another standard error"
     for file in "$room/run"/*; do
         survived_as "$file" "$1/in/${file##*/}" "$room/want/${file##*/}" || problem="${file##*/} is no prefix of its output"
@@ -68,7 +69,7 @@ survived() { # CASE
 }
 
 # Whether a file is as it was before the run, if it was there, or else the front of its output. An older output is
-# whole after a run that tells of memory: what is told so was refused before the file was touched.
+# whole after a run that reports out of memory: what is reported so was refused before the file was touched.
 survived_as() { # FILE OLD WANTED
     if [ -f "$2" ] && [ -s "$room/stderr" ]; then
         cmp -s "$1" "$2"
@@ -86,18 +87,18 @@ test_crates() {
     done
 }
 
-# The library makes the file when it refuses a growth; without it the tests would pass and show nothing.
+# The library makes the file when it refuses an allocation; without it the tests would pass and show nothing.
 test_crate() { # CRATE
     tests=$top/crates/$1/out/$1_tests
-    rm -rf "$room/tests" "$room/told"
+    rm -rf "$room/tests" "$room/refused"
     mkdir "$room/tests"
     if [ ! -x "$tests" ]; then
-        fail "refused growths of $1" 'no test program: run make check'
-    elif ! (cd "$room/tests" && REFUSE_TOLD="$room/told" LD_PRELOAD="$room/refuse.so" "$kit/bin/rattle-test" --seconds 60 "$tests") \
+        fail "refused allocations of $1" 'no test program: run make check'
+    elif ! (cd "$room/tests" && REFUSE_REPORT="$room/refused" LD_PRELOAD="$room/refuse.so" "$kit/bin/rattle-test" --seconds 60 "$tests") \
         >"$room/log" 2>&1; then
-        fail "refused growths of $1" "$(grep -v ' \.\.\. ok$' "$room/log")"
-    elif [ ! -e "$room/told" ]; then
-        fail "refused growths of $1" 'no growth was refused'
+        fail "refused allocations of $1" "$(grep -v ' \.\.\. ok$' "$room/log")"
+    elif [ ! -e "$room/refused" ]; then
+        fail "refused allocations of $1" 'no allocation was refused'
     else
         pass
     fi

@@ -1,8 +1,9 @@
-// Refuses growths of a program: preloaded, it stands before malloc and realloc of the C library.
+// Refuses allocations of a program: preloaded, it comes before malloc and realloc of the C library.
 //
-// REFUSE_AT=N refuses the Nth growth of the process, from 1; the file that REFUSE_TOLD names is made then.
+// REFUSE_AT=N refuses the Nth allocation of the process, from 1; then it makes the file that REFUSE_REPORT
+// names.
 // A test asks from inside: a request for 2^62 + n bytes is answered with a small block and refuses the nth
-// growth after it (none where n is 0), and one for 2^62 + 2^61 bytes is answered where that refusal is still
+// allocation after it (none where n is 0), and one for 2^62 + 2^61 bytes is answered where that refusal is still
 // to come. Without this library nothing is so large, so the same test passes and refuses nothing.
 #define _GNU_SOURCE
 #include <fcntl.h>
@@ -28,17 +29,17 @@ static void start(void) {
     }
 }
 
-static void tell(void) {
-    const char *told = getenv("REFUSE_TOLD");
-    if (told)
-        close(open(told, O_CREAT | O_WRONLY, 0666));
+static void report(void) {
+    const char *name = getenv("REFUSE_REPORT");
+    if (name)
+        close(open(name, O_CREAT | O_WRONLY, 0666));
 }
 
 static int is_refused(void) {
     start();
     if (!left || --left)
         return 0;
-    tell();
+    report();
     return 1;
 }
 

@@ -1,8 +1,8 @@
-"""Conversations with the built retangle, with each growth of a run refused in turn.
+"""Conversations with the built retangle, with each allocation of a run refused, one a time.
 
 usage: refused.py RETANGLE REFUSE TOP       REFUSE is tests/refuse.c as a library, TOP the folder of the repository
 
-Where a growth is refused, one edit is answered 'no NoMemory' and is not made or, in an open list,
+Where an allocation is refused, one edit is answered 'no NoMemory' and is not made or, in an open list,
 not held; or one list is answered 'no NoMemory 0' and none of its edits is made; and the others are
 made and answered. Or the run ends with status 3 behind an answer, or before the first one; or it
 did without that memory, and all is answered. The last line is 'N passed, M failed'.
@@ -34,7 +34,7 @@ def chain(count):
 # Webs with scripts that have every kind of command: an abbreviation of one name and then of two,
 # names that use each other and a named file, two names of which one uses others below, line marks
 # that are set, lists that are made, refused and cancelled, and a chain of names.
-TALKS = {
+CONVERSATIONS = {
     'abbreviation': (
         b'@ A.\n@c\n@<Ini...@>\n@ @<Initialize@>=\nx=0;\n',
         QUESTIONS + b'insert 6 a.w\n@ @<Init table@>=\n' + QUESTIONS + b'replace 6 a.w\n@ @<Init table@>=\n' + QUESTIONS
@@ -117,41 +117,41 @@ def wanted(web, script):
     return ways, [way for way in ways.values() if way.startswith('edit') and way not in spared]
 
 
-def run(folder, script, growth, told):
-    environment = dict(os.environ, LD_PRELOAD=refuse, REFUSE_AT=str(growth), REFUSE_TOLD=told)
+def run(folder, script, at, report):
+    environment = dict(os.environ, LD_PRELOAD=refuse, REFUSE_AT=str(at), REFUSE_REPORT=report)
     return subprocess.run([program, 'a'], cwd=folder, env=environment, input=script, capture_output=True, timeout=SECONDS)
 
 
 def refuse_each(name, web, script, room):
-    """Refuses each growth in turn: how many runs lack what."""
+    """Refuses each allocation, one a run: how many runs lack what."""
     (ways, edits), met = wanted(web, script), {}
-    folder, told = os.path.join(room, 'folder'), os.path.join(room, 'told')
+    folder, report = os.path.join(room, 'folder'), os.path.join(room, 'refused')
     os.makedirs(folder, exist_ok=True)
     with open(os.path.join(folder, 'a.w'), 'wb') as file:
         file.write(web)
-    for growth in range(1, MOST):
-        done = run(folder, script, growth, told)
+    for at in range(1, MOST):
+        done = run(folder, script, at, report)
         way = ways.get((done.returncode, done.stdout))
-        if not os.path.exists(told):
+        if not os.path.exists(report):
             break
-        os.remove(told)
+        os.remove(report)
         ended = way == 'the end' and not done.stdout
         check(way and done.stderr in ((b'', b'retangle: NoMemory\n') if ended else (b'',)), name,
-              'growth %d refused: status %d, %r, %r' % (growth, done.returncode, done.stdout, done.stderr))
+              'allocation %d refused: status %d, %r, %r' % (at, done.returncode, done.stdout, done.stderr))
         met[way] = met.get(way, 0) + 1
     check(way == 'nothing', name, 'without a refusal: status %d, %r' % (done.returncode, done.stdout))
     for edit in edits:
         check(edit in met, name, 'no run was refused memory for %s' % edit)
-    print('%s: of %d growths that were refused %d ended the run, %d left an edit or a list out'
-          % (name, growth - 1, met.get('the end', 0), sum(met.get(edit, 0) for edit in edits)))
+    print('%s: of %d allocations that were refused %d ended the run, %d left an edit or a list out'
+          % (name, at - 1, met.get('the end', 0), sum(met.get(edit, 0) for edit in edits)))
     return met
 
 
 def main():
     with tempfile.TemporaryDirectory() as room:
-        for name, (web, script) in TALKS.items():
+        for name, (web, script) in CONVERSATIONS.items():
             met = refuse_each(name, web, script, room)
-    check(met.get('edit 1', 0) >= met.get('edit 2', 0) + FEWER, 'chain', 'an edit that affects nothing makes no fewer growths: %r' % met)
+    check(met.get('edit 1', 0) >= met.get('edit 2', 0) + FEWER, 'chain', 'an edit that affects nothing makes no fewer allocations: %r' % met)
     print('%d passed, %d failed' % (counts[True], counts[False]))
     return 1 if counts[False] else 0
 
