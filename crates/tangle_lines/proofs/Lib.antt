@@ -1,3 +1,4 @@
 pub mod WaitingLemmas
+pub mod PassingLemmas
 pub mod ReadingLemmas
 mod WorkedSources

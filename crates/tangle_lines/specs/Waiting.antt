@@ -7,7 +7,7 @@ use Rattle.tangle_files.specs.Adding.{most_lines}
 use Rattle.tangle_lines.specs.Faults.{Finding}
 use Rattle.tangle_lines.specs.Change.{Change}
 use Rattle.tangle_lines.specs.Inclusion.{included_name}
-use Rattle.tangle_lines.specs.Reading.{WaitingLine, Line, Step, waiting_lines, change_lines, plain_step, change_step}
+use Rattle.tangle_lines.specs.Reading.{WaitingLine, Line, Step, waiting_lines, change_lines, plain_step, change_step, reads_from, before_reads, line_limit}
 use Rattle.tangle_lines.specs.Reading.Step.{Ends, Goes}
 
 -- the lines of the open files: the last one is read first
@@ -37,3 +37,10 @@ IsPlain files w ws ws' lines lines' noted noted' = Makes (plain_step files w ws 
 -- a change was used at a line
 abbrev pub IsUsed : FileTable → ℕ → Change → WaitingLine → List WaitingLine → List WaitingLine → List Finding → List Finding → Type 0
 IsUsed files change_file c w ws ws' noted noted' = Makes (change_step files change_file c [] w ws 0) ws' [] [] noted noted'
+
+-- so many lines were taken, below the limit, and reading goes on from where that leads as it would have without it
+abbrev pub PassesOn : List Change → List Line → List WaitingLine → ℕ → List Line → List WaitingLine → Type 0
+PassesOn changes lines ws n lines' ws' =
+    (files : FileTable) (change_file : ℕ) (faults : List Finding) (t : ℕ) → t + n ≤ line_limit
+    → before_reads (record { lines = lines'; faults = faults }) (reads_from files change_file (record { waiting = ws'; changes = changes; taken = t + n }))
+    ≡ before_reads (record { lines = lines; faults = faults }) (reads_from files change_file (record { waiting = ws; changes = changes; taken = t }))

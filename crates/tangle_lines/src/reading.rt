@@ -1,11 +1,12 @@
 //! Reading of a web over open files.
-ghost use Rattle.std.specs.Prelude.{◌≡◌, ℕ, ◌+◌, ◌^◌, ◌<◌, ◌≤◌, [], ◌∷◌, ◌++◌, length, min, drop, map, true, IfOk, OnOk};
+ghost use Rattle.std.specs.Prelude.{◌≡◌, ℕ, ◌+◌, ◌^◌, ◌<◌, ◌≤◌, [], ◌∷◌, ◌++◌, length, min, drop, map, true, None, IfOk, OnOk};
 ghost use Rattle.std.specs.Option.{option_copied};
 ghost use Rattle.tangle_files.specs.Lines.{FileTable, number_of};
 ghost use Rattle.tangle_files.specs.Roles.{fits};
 ghost use Rattle.tangle_lines.specs.ReadingLaw.{ReadsByStep};
 ghost use Rattle.tangle_lines.specs.Reading.{State, line_limit, inclusion, reads_from, before_reads, change_number, changes_in, source_of, begins, change_here, unequal_front, unequal_lines, mismatch_faults, unused_faults};
 ghost use Rattle.tangle_lines.specs.Waiting.{IsPlain, IsUsed};
+ghost use Rattle.tangle_lines.specs.Inclusion.{included_name};
 
 use crate::changes::{Change, changes_of};
 use crate::faults::{Fault, FaultKind, note};
@@ -153,6 +154,15 @@ fn change_at<'a, 'c>(changes: &'c [Change<'a>], line: &RawLine<'a>) -> Option<&'
             }
         }
     }
+}
+
+/// Whether the line is a source line as it stands: the next change is not used at it, and it is no
+/// inclusion.
+pub(crate) fn is_source_line(changes: &[Change<'_>], line: &RawLine<'_>) -> bool
+    ensures { result ≡ true →
+        (None ≡ change_here changes.now line.now) × (None ≡ included_name line.now.bytes) }
+{
+    change_at(changes, line).is_none() && included_name(line.text.bytes()).is_none()
 }
 
 /// What was taken for old lines of a change.
@@ -303,6 +313,7 @@ fn read_on<'a, 'c>(
             None => {
                 read_plain(alloc, files, &line, waiting, &mut lines, faults)?;
                 taken += 1;
+                taken += waiting.take_plain(changes, LINE_LIMIT - taken, &mut lines)?;
             }
         }
     }

@@ -1,9 +1,13 @@
 //! The open files, seen as the one list of the lines that wait to be read.
-ghost use Rattle.std.specs.Prelude.{◌≡◌, ◌+◌, ◌≤◌, [], ◌∷◌, ◌++◌, length, drop, map, true, IfSome, IfNone, OnOk};
+ghost use Rattle.std.specs.Prelude.{◌≡◌, ◌+◌, ◌≤◌, List, [], ◌∷◌, ◌++◌, length, drop, map, true, IfSome, IfNone, IfOk, OnOk};
 ghost use Rattle.tangle_files.specs.Adding.{most_lines};
-ghost use Rattle.tangle_lines.specs.Reading.{waiting_lines, change_lines};
+ghost use Rattle.tangle_lines.specs.Reading.{WaitingLine, waiting_lines, change_lines};
+ghost use Rattle.tangle_lines.specs.Waiting.{PassesOn};
 
+use crate::changes::Change;
 use crate::faults::Origin;
+use crate::reading::is_source_line;
+use crate::source::SourceLine;
 use std::alloc::Global;
 use std::marker::Model;
 use tangle_files::Line;
@@ -126,6 +130,43 @@ impl<'a, 'c> OpenFile<'a, 'c> {
             },
         }
     }
+
+    /// Takes source lines up to a line that a change takes, an inclusion or the end, but no more
+    /// than there is room for, and answers how many.
+    fn take_plain(
+        &mut self,
+        changes: &[Change<'_>],
+        room: usize,
+        lines: &mut Vec<SourceLine<'a>>,
+    ) -> Result<usize, NoMemory>
+        ensures passed { IfOk result (λ n. (rest : List WaitingLine) →
+            PassesOn changes.now lines.old.items (self.old ++ rest) n lines.new.items (self.new ++ rest)) }
+        ensures count { IfOk result (λ n. length lines.new.items ≡ length lines.old.items + n) }
+        ensures room { IfOk result (λ n. n ≤ room) }
+    {
+        let Rest::OfFile(texts, read) = self.rest else {
+            return Ok(0);
+        };
+        let mut number = read;
+        while let Some((text, next)) = line_after(texts, number) {
+            let line = RawLine {
+                text,
+                place: Origin {
+                    file: self.file,
+                    line: next,
+                },
+                is_changed: self.is_changed,
+                depth: self.depth,
+            };
+            if (number - read) as usize >= room || !is_source_line(changes, &line) {
+                break;
+            }
+            lines.push(SourceLine::new(text, line.place, line.is_changed))?;
+            number = next;
+        }
+        self.rest = Rest::OfFile(texts, number);
+        Ok((number - read) as usize)
+    }
 }
 
 /// The line after so many lines, with its number.
@@ -189,5 +230,28 @@ impl<'a, 'c> Waiting<'a, 'c> {
             self.files.pop();
         }
         None
+    }
+
+    /// Takes source lines from the file in front, which are most of a web's lines, and answers how
+    /// many: as many as there are before a line that a change takes, an inclusion or the file's
+    /// end, but no more than there is room for.
+    pub(crate) fn take_plain(
+        &mut self,
+        changes: &[Change<'_>],
+        room: usize,
+        lines: &mut Vec<SourceLine<'a>>,
+    ) -> Result<usize, NoMemory>
+        ensures passed { IfOk result (λ n.
+            PassesOn changes.now lines.old.items self.old n lines.new.items self.new) }
+        ensures count { IfOk result (λ n. length lines.new.items ≡ length lines.old.items + n) }
+        ensures room { IfOk result (λ n. n ≤ room) }
+    {
+        if self.files.is_empty() {
+            return Ok(0);
+        }
+        let last = self.files.len() - 1;
+        let top = &mut self.files[last];
+        let taken = top.take_plain(changes, room, lines)?;
+        Ok(taken)
     }
 }

@@ -1,7 +1,7 @@
-use Rattle.std.proofs.Common.{arith, ◌+◌, ◌∷◌, [], ◌++◌, List, ap, sym, ◌∙◌}
+use Rattle.std.proofs.Common.{arith, ◌+◌, ◌≤◌, ◌<◌, ◌∷◌, [], ◌++◌, List, ap, sym, ◌∙◌}
 use Rattle.tangle_lines.specs.declared.faults.FaultKind.TheVariants.{SourceTooLong}
 use Rattle.tangle_lines.specs.Faults.{Finding, fault_at}
-use Rattle.tangle_lines.specs.Reading.{WaitingLine, Line, Reads, named, reads_from, before_reads}
+use Rattle.tangle_lines.specs.Reading.{WaitingLine, Line, Reads, named, reads_from, before_reads, line_limit}
 use Rattle.tangle_lines.proofs.ReadingLemmas.{at, so_far-end, so_far-stop, so_far-plain, so_far-used}
 use Rattle.tangle_lines.proofs.reading.read_on.Goals as goal
 
@@ -28,14 +28,20 @@ loop-line-preserved-in-Some-change_at c = record {
 }
 
 pub loop-line-preserved : goal.loop-line-preserved
-loop-line-preserved c = record {
-  read =
-      so_far-plain c.args.files.now c.args.change_file _ _ _ _ _ _ c.loop-line.invariant.read c.in-Some.line c.take.new.self c.in-Some.ensures.front
-      c.read_plain.new.waiting c.read_plain.new.lines.items c.read_plain.new.faults.items (omega (arith, c.if-taken-ge-LINE_LIMIT.false))
-      c.in-None.ensures c.in_ok-read_plain-in-None.ensures.read;
-  few = omega (arith, c.loop-line.invariant.few, c.in_ok-read_plain-in-None.ensures.one);
-  limit = omega (arith, c.loop-line.invariant.few, c.in_ok-read_plain-in-None.ensures.one, c.if-taken-ge-LINE_LIMIT.false);
-}
+loop-line-preserved c =
+    let t = c.loop-line.taken in
+    let below : t < line_limit = omega (arith, c.if-taken-ge-LINE_LIMIT.false) in
+    let one = c.in_ok-read_plain-in-None.ensures.one in
+    let more : t + 1 + c.in_ok-taken-in-None.field-0 ≤ line_limit = omega (arith, below, c.in_ok-taken-in-None.ensures.room) in
+    record {
+      read =
+          c.in_ok-taken-in-None.ensures.passed c.args.files.now c.args.change_file c.read_plain.new.faults.items (t + 1) more
+          ∙ so_far-plain c.args.files.now c.args.change_file _ _ _ _ _ _ c.loop-line.invariant.read c.in-Some.line c.take.new.self c.in-Some.ensures.front
+          c.read_plain.new.waiting c.read_plain.new.lines.items c.read_plain.new.faults.items below
+          c.in-None.ensures c.in_ok-read_plain-in-None.ensures.read;
+      few = omega (arith, c.loop-line.invariant.few, one, c.in_ok-taken-in-None.ensures.count);
+      limit = omega (arith, c.loop-line.invariant.few, one, c.in_ok-taken-in-None.ensures.count, more);
+    }
 
 pub returns-clause-read : goal.returns-clause-read
 returns-clause-read c =

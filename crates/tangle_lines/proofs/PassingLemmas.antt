@@ -1,0 +1,62 @@
+-- Reading goes on past lines that no change takes and that are no inclusions.
+use Rattle.std.proofs.Common.{◌≡◌, ℕ, ◌+◌, Bool, List, [], ◌∷◌, ◌++◌, drop, Option, None, refl, sym, ap, ◌∙◌, append-nil, arith}
+use Rattle.tangle_files.specs.Lines.{FileTable}
+use Rattle.tangle_lines.specs.Change.{Change}
+use Rattle.tangle_lines.specs.Faults.{Finding}
+use Rattle.tangle_lines.specs.Inclusion.{included_name}
+use Rattle.tangle_lines.specs.Reading.{WaitingLine, Line, Reads, plain_step, change_here, waiting_lines, reads_from, before_reads}
+use Rattle.tangle_lines.specs.Waiting.{Makes, PassesOn}
+use Rattle.tangle_lines.proofs.ReadingLemmas.{at, so_far-plain}
+
+abbrev line_of : WaitingLine → Line
+line_of w = record { bytes = w.bytes; place = w.place; changed = w.changed }
+
+-- what is read in all from these lines and from what waits
+abbrev all : FileTable → ℕ → List Change → List Line → List Finding → List WaitingLine → ℕ → Reads
+all files change_file cs lines faults ws t =
+    before_reads (record { lines = lines; faults = faults }) (reads_from files change_file (at ws cs t))
+
+module _ (cs : List Change) (lines : List Line) (ws : List WaitingLine) where
+  pub passes-none : PassesOn cs lines ws 0 lines ws
+  passes-none files change_file faults t h =
+      let same : t + 0 ≡ t = omega arith in ap (λ k. all files change_file cs lines faults ws k) same
+
+  pub passes-more : (n m : ℕ) (lines₁ lines₂ : List Line) (ws₁ ws₂ : List WaitingLine)
+      → PassesOn cs lines ws n lines₁ ws₁ → PassesOn cs lines₁ ws₁ m lines₂ ws₂ → PassesOn cs lines ws (n + m) lines₂ ws₂
+  passes-more n m lines₁ lines₂ ws₁ ws₂ first second files change_file faults t h =
+      let same : t + (n + m) ≡ (t + n) + m = omega arith in
+      ap (λ k. all files change_file cs lines₂ faults ws₂ k) same
+      ∙ second files change_file faults (t + n) (omega (arith, h))
+      ∙ first files change_file faults t (omega (arith, h))
+
+  is_plain : (files : FileTable) (faults : List Finding) (w : WaitingLine) (name : Option (List ℕ)) → None ≡ name
+      → Makes (plain_step files w ws [] 0 name) ws lines (lines ++ line_of w ∷ []) faults faults
+  is_plain files faults w name none = rw (← none) (refl, (refl, sym (append-nil faults)))
+
+  pub passes-line : (w : WaitingLine) → None ≡ change_here cs w → None ≡ included_name w.bytes
+      → PassesOn cs lines (w ∷ ws) 1 (lines ++ line_of w ∷ []) ws
+  passes-line w unchanged plain files change_file faults t h =
+      so_far-plain files change_file (all files change_file cs lines faults (w ∷ ws) t) lines faults (w ∷ ws) cs t refl w ws refl
+      ws (lines ++ line_of w ∷ []) faults (omega (arith, h)) unchanged (is_plain files faults w (included_name w.bytes) plain)
+
+-- the line after so many lines of a file, where more lines wait behind the file
+pub waiting-next : (file : ℕ) (changed : Bool) (depth number next : ℕ) (texts : List (List ℕ)) (text : List ℕ) (rest : List WaitingLine)
+    → next ≡ number + 1 → drop number texts ≡ text ∷ drop (number + 1) texts
+    → waiting_lines file changed depth (number + 1) (drop number texts) ++ rest
+    ≡ record { bytes = text; place = record { file = file; line = next }; changed = changed; depth = depth } ∷ waiting_lines file changed depth (next + 1) (drop next texts) ++ rest
+waiting-next file changed depth number next texts text rest is_next first =
+    ap (λ ls. waiting_lines file changed depth (number + 1) ls ++ rest) first
+    ∙ ap (λ k. record { bytes = text; place = record { file = file; line = k }; changed = changed; depth = depth } ∷ waiting_lines file changed depth (k + 1) (drop k texts) ++ rest) (sym is_next)
+
+-- one more line was taken
+pub passes-next : (cs : List Change) (lines lines₁ lines₂ : List Line) (ws ws₁ ws₂ : List WaitingLine) (n m : ℕ) (w : WaitingLine)
+    → PassesOn cs lines ws n lines₁ ws₁ → m ≡ n + 1 → ws₁ ≡ w ∷ ws₂ → lines₂ ≡ lines₁ ++ line_of w ∷ []
+    → None ≡ change_here cs w → None ≡ included_name w.bytes → PassesOn cs lines ws m lines₂ ws₂
+passes-next cs lines lines₁ lines₂ ws ws₁ ws₂ n m w before one first more unchanged plain =
+    rw (one, more) (passes-more cs lines ws n 1 lines₁ (lines₁ ++ line_of w ∷ []) ws₁ ws₂ before
+    (rw first (passes-line cs lines₁ ws₂ w unchanged plain)))
+
+-- the same lines wait
+pub passes-same : (cs : List Change) (lines lines' : List Line) (ws ws₁ ws' ws₁' : List WaitingLine) (n : ℕ)
+    → ws ≡ ws₁ → ws' ≡ ws₁' → PassesOn cs lines ws₁ n lines' ws₁' → PassesOn cs lines ws n lines' ws'
+passes-same cs lines lines' ws ws₁ ws' ws₁' n before after passed = rw (before, after) passed

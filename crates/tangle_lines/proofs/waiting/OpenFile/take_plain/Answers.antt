@@ -1,0 +1,28 @@
+use Rattle.std.proofs.Common.{◌≡◌, ◌+◌, ◌-◌, [], ◌∷◌, ◌++◌, refl, ap, ◌∙◌, arith}
+use Rattle.tangle_lines.proofs.PassingLemmas.{passes-none, passes-next, waiting-next}
+use Rattle.tangle_lines.proofs.waiting.OpenFile.take_plain.Goals as goal
+
+pub loop-text-init : goal.loop-text-init
+loop-text-init c =
+    let none : c.in-OfFile.read - c.in-OfFile.read ≡ 0 = omega arith in
+    record {
+      low = omega arith;
+      room = omega arith;
+      count = omega arith;
+      passed = λ rest. rw none (passes-none c.args.changes.now c.args.lines.now.items _);
+    }
+
+pub loop-text-preserved : goal.loop-text-preserved
+loop-text-preserved c =
+    let next : c.in-Some.next ≡ c.loop-text.number + 1 = c.in-Some.ensures.line.0 in
+    let one : c.in-Some.next - c.in-OfFile.read ≡ (c.loop-text.number - c.in-OfFile.read) + 1 = omega (arith, next, c.loop-text.invariant.low) in
+    record {
+      low = omega (arith, next, c.loop-text.invariant.low);
+      room = omega (arith, one, c.if-number-read.false);
+      count = omega (arith, one, c.loop-text.invariant.count, c.in_ok-push.ensures.len);
+      passed = λ rest.
+          passes-next c.args.changes.now c.args.lines.now.items c.loop-text.lines.items c.push.new.self.items _ _ _ _ _ _
+          (c.loop-text.invariant.passed rest) one
+          (waiting-next c.self.inside.file c.self.inside.is_changed c.self.inside.depth c.loop-text.number c.in-Some.next c.in-OfFile.texts.now c.in-Some.text.now rest next c.in-Some.ensures.line.1)
+          (c.in_ok-push.ensures.items ∙ ap (λ l. c.loop-text.lines.items ++ l ∷ []) c.new.ensures) (c.if-not-is_source_line.ensures refl).0 (c.if-not-is_source_line.ensures refl).1;
+    }
