@@ -15,7 +15,7 @@ ghost use Rattle.tangle_expansion.specs.ItemSlots.{marks_behind_item, name_slots
 
 use crate::codes::{ItemCode, ItemKind, add_name, code_count, code_of, end_of_piece, text_code};
 use crate::expansion::{NodeText, Step};
-use crate::runs::{Run, joined, no_run, run_of, text_of, with_space};
+use crate::runs::{Run, end_of, joined, no_run, run_of, text_of, with_space};
 use crate::steps::{marks_behind, pieces_behind};
 use itoa::Buffer;
 use std::alloc::Global;
@@ -231,6 +231,9 @@ fn add_run(planning: &mut Planning, run: Run) -> Result<(), NoMemory>
     requires end { run.span.end ≤ length run.line.now }
     ensures { OnOk result (planning.new ≡ record planning.old { made = planning.old.made ++ byte_slots (run_bytes run.entry); bytes = planning.old.bytes ++ run_bytes run.entry }) }
 {
+    if run.span.start == run.span.end {
+        return Ok(());
+    }
     planning.add_bytes(&run.line[run.span.start as usize..run.span.end as usize])
 }
 
@@ -277,7 +280,7 @@ fn add_other<'w>(
     }
     add_run(planning, run)?;
     add_item(planning, web, table, has_piece, *item)?;
-    Ok(no_run(web))
+    Ok(end_of(run))
 }
 
 /// Adds an item behind a range that is still to be copied: the range that is to be copied then.

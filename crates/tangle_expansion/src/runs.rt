@@ -1,5 +1,5 @@
 //! Texts of items that stand side by side in the source, so that they are copied at once.
-ghost use Rattle.std.specs.Prelude.{◌≡◌, true, [], IfSome};
+ghost use Rattle.std.specs.Prelude.{◌≡◌, true, [], ℕ, List, IfSome};
 ghost use Rattle.tangle_scan.specs.Rules.{span_text};
 ghost use Rattle.tangle_scan.specs.SourceOrder.{IsSpan};
 ghost use Rattle.tangle_scan.specs.declared.items.Item.TheVariants as item_kind;
@@ -45,6 +45,21 @@ pub(crate) fn no_run<'w>(web: &'w Web) -> Run<'w>
             line: 0,
             start: 0,
             end: 0,
+        },
+    }
+}
+
+/// The empty range where this one ends, so that no line is looked up for it.
+pub(crate) fn end_of<'w>(run: Run<'w>) -> Run<'w>
+    ensures range { (texts : List (List ℕ)) → IsKept texts run.entry → IsKept texts result }
+    ensures bytes { run_bytes result ≡ [] }
+{
+    Run {
+        line: run.line,
+        span: Span {
+            line: run.span.line,
+            start: run.span.end,
+            end: run.span.end,
         },
     }
 }
