@@ -35,22 +35,23 @@ pieces_joined whole start mid end low high =
     ∙ sym (take-add first second (drop start whole))
     ∙ ap (λ n. take n (drop start whole)) (omega (arith, low, high))
 
-pub is_joined : (run more : Run) (span : Span) → run.span.line ≡ span.line → run.span.end ≡ span.start
-    → more.line.now ≡ run.line.now → more.span ≡ record { line = span.line; start = run.span.start; end = span.end }
+pub is_joined : (run more : Run) (span : Span) → run.number ≡ span.line → run.end ≡ span.start
+    → more.line.now ≡ run.line.now → more.number ≡ run.number → more.start ≡ run.start → more.end ≡ span.end
     → IsJoined run span more
-is_joined run more span line at same is = record {
+is_joined run more span line at same number start end = record {
   range = λ texts h k. record {
-    line = same ∙ h.line ∙ ap (λ n. get_or texts n []) (line ∙ sym (ap (λ (s : Span). s.line) is));
-    start = omega (arith, h.start, at, k.start, ap (λ (s : Span). s.start) is, ap (λ (s : Span). s.end) is);
-    end = subst (λ (s : Span). s.end ≤ length more.line.now) (sym is)
+    line = same ∙ h.line ∙ ap (λ n. get_or texts n []) (sym number);
+    start = omega (arith, h.start, at, k.start, start, end);
+    end = subst (λ e. e ≤ length more.line.now) (sym end)
         (subst (λ l. span.end ≤ length l) (sym (same ∙ h.line ∙ ap (λ n. get_or texts n []) line)) k.end);
   };
   text = λ texts h k.
       ap (λ l. run_bytes run ++ take (span.end - span.start) (drop span.start l)) (ap (λ n. get_or texts n []) (sym line) ∙ sym h.line)
       ∙ ap (λ n. run_bytes run ++ take (span.end - n) (drop n run.line.now)) (sym at)
-      ∙ pieces_joined run.line.now run.span.start run.span.end span.end h.start (omega (arith, at, k.start))
-      ∙ ap (λ l. take (span.end - run.span.start) (drop run.span.start l)) (sym same)
-      ∙ ap (λ (s : Span). take (s.end - s.start) (drop s.start more.line.now)) (sym is);
+      ∙ pieces_joined run.line.now run.start run.end span.end h.start (omega (arith, at, k.start))
+      ∙ ap (λ l. take (span.end - run.start) (drop run.start l)) (sym same)
+      ∙ ap (λ n. take (span.end - n) (drop n more.line.now)) (sym start)
+      ∙ ap (λ n. take (n - more.start) (drop more.start more.line.now)) (sym end);
 }
 
 -- a text that belongs to a longer range: only its code is added
@@ -80,18 +81,19 @@ byte_behind whole start end byte le lt is =
     ∙ sym (take-add (end - start) 1 (drop start whole))
     ∙ ap (λ n. take n (drop start whole)) (omega (arith, le))
 
-pub runs_with_space : (run more : Run) (x : Item) → x ≡ item.Blank → run.span.end < length run.line.now → get_or run.line.now run.span.end 0 ≡ space
-    → more.line.now ≡ run.line.now → more.span ≡ record { line = run.span.line; start = run.span.start; end = run.span.end + 1 }
+pub runs_with_space : (run more : Run) (x : Item) → x ≡ item.Blank → run.end < length run.line.now → get_or run.line.now run.end 0 ≡ space
+    → more.line.now ≡ run.line.now → more.number ≡ run.number → more.start ≡ run.start → more.end ≡ run.end + 1
     → IsRunWith run x more
-runs_with_space run more x blank lt byte same is = rw blank (record {
+runs_with_space run more x blank lt byte same number start end = rw blank (record {
   range = λ texts here. record {
-    line = same ∙ here.line ∙ ap (λ n. get_or texts n []) (sym (ap (λ (s : Span). s.line) is));
-    start = omega (arith, here.start, ap (λ (s : Span). s.start) is, ap (λ (s : Span). s.end) is);
-    end = omega (arith, lt, ap length same, ap (λ (s : Span). s.end) is);
+    line = same ∙ here.line ∙ ap (λ n. get_or texts n []) (sym number);
+    start = omega (arith, here.start, start, end);
+    end = omega (arith, lt, ap length same, end);
   };
-  bytes = λ texts here. byte_behind run.line.now run.span.start run.span.end space here.start lt byte
-      ∙ ap (λ l. take (run.span.end + 1 - run.span.start) (drop run.span.start l)) (sym same)
-      ∙ ap (λ (s : Span). take (s.end - s.start) (drop s.start more.line.now)) (sym is);
+  bytes = λ texts here. byte_behind run.line.now run.start run.end space here.start lt byte
+      ∙ ap (λ l. take (run.end + 1 - run.start) (drop run.start l)) (sym same)
+      ∙ ap (λ n. take (run.end + 1 - n) (drop n more.line.now)) (sym start)
+      ∙ ap (λ n. take (n - more.start) (drop more.start more.line.now)) (sym end);
   slots = λ texts table has_piece node piece marks. refl;
   marks = λ marks. refl;
 })

@@ -25,13 +25,13 @@ pub record IsTextOf (item : Item) (kind : ItemKind) (s : Span) : Type 0 where
 
 -- the bytes of a range that is still to be copied
 abbrev pub run_bytes : Run → List ℕ
-run_bytes run = take (run.span.end - run.span.start) (drop run.span.start run.line.now)
+run_bytes run = take (run.end - run.start) (drop run.start run.line.now)
 
 -- it is a range of a source line, or empty, and the bytes of its line are kept with it
 pub record IsKept (texts : List (List ℕ)) (run : Run) : Type 0 where
-  pub line : run.line.now ≡ get_or texts run.span.line []
-  pub start : run.span.start ≤ run.span.end
-  pub end : run.span.end ≤ length run.line.now
+  pub line : run.line.now ≡ get_or texts run.number []
+  pub start : run.start ≤ run.end
+  pub end : run.end ≤ length run.line.now
 
 -- a range is another with a third behind it
 pub record IsJoined (run : Run) (span : Span) (more : Run) : Type 0 where

@@ -227,14 +227,14 @@ fn add_item(
 
 /// Adds a range that is still to be copied.
 fn add_run(planning: &mut Planning, run: Run) -> Result<(), NoMemory>
-    requires start { run.span.start ≤ run.span.end }
-    requires end { run.span.end ≤ length run.line.now }
+    requires start { run.start ≤ run.end }
+    requires end { run.end ≤ length run.line.now }
     ensures { OnOk result (planning.new ≡ record planning.old { made = planning.old.made ++ byte_slots (run_bytes run.entry); bytes = planning.old.bytes ++ run_bytes run.entry }) }
 {
-    if run.span.start == run.span.end {
+    if run.start == run.end {
         return Ok(());
     }
-    planning.add_bytes(&run.line[run.span.start as usize..run.span.end as usize])
+    planning.add_bytes(&run.line[run.start..run.end])
 }
 
 /// Adds a text behind a range that is still to be copied: the range that is to be copied then.

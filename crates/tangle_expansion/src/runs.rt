@@ -31,7 +31,10 @@ pub(crate) fn text_of(item: &Item) -> Option<(ItemKind, Span)>
 #[derive(Clone, Copy)]
 pub(crate) struct Run<'w> {
     pub(crate) line: &'w [u8],
-    pub(crate) span: Span,
+    /// The number of the line.
+    pub(crate) number: u32,
+    pub(crate) start: usize,
+    pub(crate) end: usize,
 }
 
 /// An empty range.
@@ -41,11 +44,9 @@ pub(crate) fn no_run<'w>(web: &'w Web) -> Run<'w>
 {
     Run {
         line: web.line(0),
-        span: Span {
-            line: 0,
-            start: 0,
-            end: 0,
-        },
+        number: 0,
+        start: 0,
+        end: 0,
     }
 }
 
@@ -55,12 +56,8 @@ pub(crate) fn end_of<'w>(run: Run<'w>) -> Run<'w>
     ensures bytes { run_bytes result ≡ [] }
 {
     Run {
-        line: run.line,
-        span: Span {
-            line: run.span.line,
-            start: run.span.end,
-            end: run.span.end,
-        },
+        start: run.end,
+        ..run
     }
 }
 
@@ -72,7 +69,9 @@ pub(crate) fn run_of<'w>(web: &'w Web, span: Span) -> Run<'w>
 {
     Run {
         line: web.line(span.line),
-        span,
+        number: span.line,
+        start: span.start as usize,
+        end: span.end as usize,
     }
 }
 
@@ -80,14 +79,10 @@ pub(crate) fn run_of<'w>(web: &'w Web, span: Span) -> Run<'w>
 pub(crate) fn joined<'w>(run: Run<'w>, span: Span) -> Option<Run<'w>>
     ensures { IfSome result (IsJoined run.entry span) }
 {
-    if run.span.line == span.line && run.span.end == span.start {
+    if run.number == span.line && run.end == span.start as usize {
         Some(Run {
-            line: run.line,
-            span: Span {
-                line: span.line,
-                start: run.span.start,
-                end: span.end,
-            },
+            end: span.end as usize,
+            ..run
         })
     } else {
         None
@@ -111,15 +106,10 @@ pub(crate) fn with_space<'w>(run: Run<'w>, item: &Item) -> Option<Run<'w>>
     if !is_blank(item) {
         return None;
     }
-    let end = run.span.end.checked_add(1)?;
-    if run.line.get(run.span.end as usize) == Some(&b' ') {
+    if run.line.get(run.end) == Some(&b' ') {
         Some(Run {
-            line: run.line,
-            span: Span {
-                line: run.span.line,
-                start: run.span.start,
-                end,
-            },
+            end: run.end + 1,
+            ..run
         })
     } else {
         None
