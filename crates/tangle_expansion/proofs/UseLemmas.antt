@@ -1,10 +1,9 @@
 -- The uses of a plan, one after another, and the plan filled with their parts.
-use Rattle.std.proofs.Common.{◌≡◌, ◌∙◌, ℕ, ◌+◌, ◌<◌, ◌≤◌, zero, suc, List, [], ◌∷◌, ◌++◌, map, drop, length, get_or, refl, ap, sym, subst, append_assoc, append-nil, arith, take, add-one, inl, inr, ◌⊎◌}
+use Rattle.std.proofs.Common.{◌≡◌, ◌∙◌, ℕ, ◌+◌, ◌<◌, ◌≤◌, zero, suc, List, [], ◌∷◌, ◌++◌, map, drop, length, get_or, refl, ap, sym, subst, append_assoc, append-nil, arith}
 use Rattle.std.specs.Prelude.{Contains}
 use Rattle.std.proofs.lemmas.List.{map-append}
-use Rattle.std.proofs.lemmas.List.Elements.{Contains-append_left, Contains-append_right, Contains-append_cases}
+use Rattle.std.proofs.lemmas.List.Elements.{Contains-append_left, Contains-append_right}
 use Rattle.std.proofs.lemmas.Grind.{flat_map-append}
-use Rattle.std.proofs.Math.Seq.{take-suc}
 use Rattle.tangle_files.specs.Bytes.{space}
 use Rattle.tangle_expansion.specs.Shapes.{Title}
 use Rattle.tangle_expansion.specs.Flat.{Part, Byte, Opening, MarkOf, Closing, AllMacros}
@@ -57,30 +56,3 @@ plan_filled parts node text piece marks start (step.Macros ∷ plan) = ap (λ l.
 plan_filled parts node text piece marks start (step.Space ∷ plan) = ap (λ l. Byte space ∷ l) (plan_filled parts node text piece marks start plan)
 plan_filled parts node text piece marks start (step.Use id ∷ plan) = ap (λ l. Byte space ∷ parts id ++ l) (plan_filled parts node text piece marks start plan)
 plan_filled parts node text piece marks start (step.Close ∷ plan) = ap (λ l. Closing node piece ∷ l) (plan_filled parts node text (piece + 1) 0 start plan)
-
-uses_push : (xs : List Step) (s : Step) → uses_of (xs ++ s ∷ []) ≡ uses_of xs ++ step_uses s
-uses_push [] s = append-nil (step_uses s)
-uses_push (x ∷ xs) s = ap (λ l. step_uses x ++ l) (uses_push xs s) ∙ sym (append_assoc (step_uses x) (uses_of xs) (step_uses s))
-
--- what holds of the uses so far and of those of the next step holds behind that
-pub uses_hold_next : (P : ℕ → Type 0) (plan seen : List Step) (i : ℕ) (d : Step) → seen ≡ plan → i < length seen
-    → ((id : ℕ) → Contains (uses_of (take i plan)) id → P id) → ((id : ℕ) → Contains (step_uses (get_or seen i d)) id → P id)
-    → (id : ℕ) → Contains (uses_of (take (i + 1) plan)) id → P id
-uses_hold_next P plan seen i d same h before here id c =
-    let split : uses_of (take (i + 1) plan) ≡ uses_of (take i plan) ++ step_uses (get_or seen i d)
-    = ap (λ l. uses_of (take (i + 1) l)) (sym same)
-    ∙ ap (λ j. uses_of (take j seen)) (add-one i)
-    ∙ ap uses_of (take-suc seen i d h)
-    ∙ uses_push (take i seen) (get_or seen i d)
-    ∙ ap (λ l. uses_of (take i l) ++ step_uses (get_or seen i d)) same in
-    by (Contains-append_cases (uses_of (take i plan)) (step_uses (get_or seen i d)) id (subst (λ l. Contains l id) split c))
-  where
-    by : Contains (uses_of (take i plan)) id ⊎ Contains (step_uses (get_or seen i d)) id → P id
-    by (inl u) = before id u
-    by (inr u) = here id u
-
-pub take_steps : (plan : List Step) (n : ℕ) → length plan ≤ n → take n plan ≡ plan
-take_steps [] zero h = refl
-take_steps [] (suc n) h = refl
-take_steps (s ∷ plan) zero h = absurd (omega (arith, h))
-take_steps (s ∷ plan) (suc n) h = ap (λ l. s ∷ l) (take_steps plan n (omega (arith, h)))

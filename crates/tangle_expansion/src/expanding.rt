@@ -1,14 +1,15 @@
 //! The expansion of a node, by those of the names that it uses.
-ghost use Rattle.std.specs.Prelude.{◌≡◌, ◌++◌, ℕ, length, map, Contains, IfOk, OnOk, OnErr, IsSome, true, ◌∷◌, []};
+ghost use Rattle.std.specs.Prelude.{◌≡◌, ◌++◌, ℕ, map, Contains, IfOk, OnOk, OnErr, IsSome, Some, ◌∷◌, []};
 ghost use Rattle.tangle_expansion.specs.Kept.{kept_at, used_parts};
 ghost use Rattle.tangle_expansion.specs.Meaning.{title_of};
 ghost use Rattle.tangle_expansion.specs.Slots.{slots, filled, step_uses, uses_of};
 ghost use Rattle.tangle_expansion.specs.NodeTexts.{plan_uses, plan_slots};
+ghost use Rattle.tangle_expansion.specs.declared.expansion.NodeText.{NodeText};
 ghost use Rattle.tangle_expansion.specs.declared.nodes.Node.TheVariants as node_kind;
 
 use crate::expansion::{Body, Expansion, NodeText, Step};
 use crate::kept::Kept;
-use crate::nodes::Node;
+use crate::nodes::{Node, PiecesByNode};
 use crate::work::Work;
 use std::alloc::Global;
 use std::rc::Rc;
@@ -30,11 +31,7 @@ fn share_used(used: &mut Vec<Expansion>, step: Step, kept: &Kept) -> Result<(), 
 }
 
 /// The expansion of a node: it shares the node's text and the kept expansions of the names that the node uses.
-pub(crate) fn expansion_of(
-    alloc: Global,
-    node: &Rc<NodeText>,
-    kept: &Kept,
-) -> Result<Expansion, NoMemory>
+fn expansion_of(alloc: Global, node: &Rc<NodeText>, kept: &Kept) -> Result<Expansion, NoMemory>
     requires { (id : ℕ) → Contains (uses_of node.now.value.plan.items) id → IsSome (kept_at kept.now (node_kind.Name id)) }
     ensures { IfOk result (λ e. e ≡ filled (used_parts kept.now) (slots (title_of node.now.value.name) node.now.value.text.items 0 0 0 node.now.value.plan.items)) }
 {
@@ -53,45 +50,28 @@ pub(crate) fn expansion_of(
     }
 }
 
-/// Whether the expansion of the name that a step uses is kept, if it uses one.
-fn is_step_kept(step: Step, kept: &Kept) -> bool
-    ensures { result ≡ true → (id : ℕ) → Contains (step_uses step) id → IsSome (kept_at kept.now (node_kind.Name id)) }
-{
-    match step {
-        Step::Use(id) => kept.get(Node::Name(id)).is_some(),
-        Step::Open | Step::Run(_) | Step::Mark | Step::Macros | Step::Space | Step::Close => true,
-    }
-}
-
-/// Whether the expansion of each name with a piece that the node uses is kept, so that the node can be expanded.
-pub fn are_uses_kept(stored: &NodeText, kept: &Kept) -> bool
-    ensures { result ≡ true → (id : ℕ) → Contains (plan_uses stored.now) id → IsSome (kept_at kept.now (node_kind.Name id)) }
-{
-    for step in &stored.plan {
-        if !is_step_kept(*step, kept) {
-            return false;
-        }
-    }
-    true
-}
-
-/// Expands a node: its expansion, which is noted in the work.
+/// Expands a node of a store: its own parts, with the expansions that are kept of the names with a
+/// piece that it uses where it uses them. The node goes last in the work's list.
 ///
 /// # Errors
 ///
 /// `NoMemory`, and then the work stays.
-pub fn expand(
+pub fn expand<S: PiecesByNode>(
     alloc: Global,
+    store: &S,
     node: Node,
-    stored: &Rc<NodeText>,
     kept: &Kept,
     work: &mut Work,
 ) -> Result<Expansion, NoMemory>
-    requires { (id : ℕ) → Contains (plan_uses stored.now.value) id → IsSome (kept_at kept.now (node_kind.Name id)) }
-    ensures right { IfOk result (λ e. e ≡ filled (used_parts kept.now) (plan_slots stored.now.value)) }
+    requires text { IsSome (S.texts store.now node) }
+    requires kept { (text : NodeText) → S.texts store.now node ≡ Some text
+        → (id : ℕ) → Contains (plan_uses text) id → IsSome (kept_at kept.now (node_kind.Name id)) }
+    ensures right { IfOk result (λ e. (text : NodeText) → S.texts store.now node ≡ Some text
+        → e ≡ filled (used_parts kept.now) (plan_slots text)) }
     ensures listed { OnOk result (work.new ≡ work.old ++ node ∷ []) }
     ensures err { OnErr result (work.new ≡ work.old) }
 {
+    let stored = store.node_text(node).unwrap();
     let expansion = expansion_of(alloc, stored, kept)?;
     work.add(node)?;
     Ok(expansion)

@@ -22,7 +22,7 @@ mod steps;
 mod work;
 mod writing;
 
-pub use expanding::{are_uses_kept, expand};
+pub use expanding::expand;
 pub use expansion::{Expansion, NodeText};
 pub use files::{Output, file_size, write_file};
 pub use kept::Kept;

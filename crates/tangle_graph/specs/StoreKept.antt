@@ -1,5 +1,5 @@
 -- A store as it lies in memory.
-use Rattle.std.specs.Prelude.{◌<◌, All, length}
+use Rattle.std.specs.Prelude.{◌≡◌, ◌<◌, All, length}
 use Rattle.digraph.specs.Graph.{rows_of}
 use Rattle.tangle_expansion.specs.NodeTexts.{node_uses}
 use Rattle.tangle_expansion.specs.declared.expansion.NodeText.{NodeText}
@@ -26,7 +26,8 @@ store_read s = record {
   faults = s.faults.items;
 }
 
--- its order is one, and the items of each node use names of the store
+-- its order is one, there is a text for each node, and the items of each use names of the store
 pub record IsWellKept (s : Inside) : Type 0 where
+  pub sizes : length s.texts.items ≡ length s.expandable.items
   pub order : IsOrderIn (store_read s) s.order.items
   pub uses : All (λ (text : NodeText). All (λ id. id < length s.names.items) (node_uses text)) (node_texts s.texts.items)

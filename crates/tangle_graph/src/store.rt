@@ -282,11 +282,13 @@ impl Store {
 }
 
 impl PiecesByNode for Store {
-    ghost use Rattle.tangle_graph.specs.Stores.{pieces_of_node};
+    ghost use Rattle.tangle_graph.specs.Stores.{pieces_of_node, text_at};
 
     ghost names = { λ s. s.names };
 
     ghost pieces = { pieces_of_node };
+
+    ghost texts = { text_at };
 
     fn name_count(&self) -> usize {
         self.names.len()
@@ -303,6 +305,16 @@ impl PiecesByNode for Store {
                 None => &[],
             },
             None => &[],
+        }
+    }
+
+    fn node_text(&self, node: Node) -> Option<&Rc<NodeText>> {
+        match self.number(node) {
+            Some(n) => match self.texts.get(n) {
+                Some(text) => Some(text),
+                None => None,
+            },
+            None => None,
         }
     }
 }
@@ -328,11 +340,7 @@ pub fn expand_one(
     ensures listed { OnOk result (work.new ≡ work.old ++ node ∷ []) }
     ensures err { OnErr result (work.new ≡ work.old) }
 {
-    match store.number(node) {
-        Some(n) => match store.texts.get(n) {
-            Some(text) => expand(alloc, node, text, kept, work),
-            None => Err(NoMemory),
-        },
-        None => Err(NoMemory),
-    }
+    // The proof looks at what is kept.
+    let _ = &store.texts;
+    expand(alloc, store, node, kept, work)
 }

@@ -1,11 +1,13 @@
 use Rattle.std.proofs.Common.{◌≡◌, ◌∙◌, ◌<◌, ℕ, Bool, List, length, map, get_or, ap, refl, sym, subst, arith, false, Vec}
 use Rattle.std.specs.Global.{Global}
+use Rattle.std.specs.declared.rc.Rc.{Rc}
 use Rattle.std.proofs.lemmas.List.{length-map}
 use Rattle.std.specs.List.{IsDistinct}
 use Rattle.std.specs.Str.{bytes_eq}
 use Rattle.tangle_names.specs.NameTable.{TableRead}
 use Rattle.tangle_expansion.specs.Limits.{levels, weight_of, depth_of}
 use Rattle.tangle_expansion.specs.Projects.{project, ResolvesInside}
+use Rattle.tangle_expansion.specs.declared.expansion.NodeText.{NodeText}
 use Rattle.digraph.specs.Flags.{FlagsJust}
 use Rattle.digraph.specs.Graph.{Graph, HasUse, rows_of, row_at}
 use Rattle.digraph.specs.Reach.{ContainsItself}
@@ -147,8 +149,12 @@ invariant_of-result c =
     let nodes : c.in_ok-nodes_of.field-0.items ≡ map (node_at (length table.names)) order =
     c.in_ok-nodes_of.ensures ∙ (λ i. map (node_at (c.count-4.ensures i)) (c.deref-order.ensures.value i)) in
     let inside = subst ResolvesInside (sym c.requires) (c.names_resolve_inside.ensures web) in
+    let taken : c.in_ok-rows.rows.items ≡ rows = sym (ap (λ (v : Vec (Vec ℕ Global) Global). v.items) c.in_ok-graph.ensures.pieces) in
+    let texts = c.in_ok-node_texts.node_texts.items in
+    let row_count = ap (λ (g : Graph). length (rows_of g)) (c.deref-3.ensures.value ∙ taken) in
     let size : length table.names ≡ length c.in_ok-texts.field-0.items = ap length (sym c.in_ok-texts.ensures) ∙ length-map c.in_ok-texts.field-0.items (λ (text : Vec ℕ Global). text.items) in
     record {
+      sizes = sym (length-map texts (λ (t : Rc NodeText Global). t.value)) ∙ c.in_ok-node_texts.ensures.texts.size ∙ row_count ∙ sym within.size;
       order = subst (IsOrderIn _) (sym nodes)
           (order_is web table rows uses order c.in_ok-weights.weights.items c.in_ok-depths.depths.items flags _ graph c.in_ok-graph.ensures.order within measured c.in_ok-texts.ensures used refl);
       uses = names_below web table (rows_of c.deref-3.result.now) (node_texts c.in_ok-node_texts.node_texts.items) (length c.in_ok-texts.field-0.items) inside c.in_ok-node_texts.ensures.texts size;
