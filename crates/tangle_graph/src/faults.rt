@@ -212,7 +212,7 @@ pub(crate) fn faults(
     out: &[u8],
     flags: &NodeFlags,
 ) -> Result<Vec<Fault>, NoMemory>
-    requires table { table.now ≡ table_of web.now }
+    requires table { table.now ≡ record (table_of web.now) { faults = table.now.faults } }
     requires flags { AreNodeFlags web.now table.now flags.now }
     ensures { IfOk result (λ faults. AreGraphFaults web.now table.now out.now faults.items) }
 {
@@ -249,7 +249,7 @@ pub(crate) fn graph_faults(
     self_containing: &[bool],
     expandable: &[bool],
 ) -> Result<Vec<Fault>, NoMemory>
-    requires table { table.now ≡ table_of web.now }
+    requires table { table.now ≡ record (table_of web.now) { faults = table.now.faults } }
     requires graph { IsGraphOf web.now table.now graph.now.pieces.items graph.now.uses.items }
     requires defined { AreFilled (rows_of graph.now.pieces.items) defined.now }
     requires containing_size { length self_containing.now ≡ length graph.now.uses.items }

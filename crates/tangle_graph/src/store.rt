@@ -81,13 +81,14 @@ fn texts(alloc: Global, table: &NameTable) -> Result<Vec<Vec<u8>>, AllocError>
 }
 
 impl Store {
-    /// The store of a web with its table of names, for a main file of this name.
+    /// The store of a web with its table of names, for a main file of this name. The faults of the
+    /// table are not looked at; they may have been taken.
     ///
     /// # Errors
     ///
     /// `NoMemory`, where a growth was refused.
     pub fn build(alloc: Global, web: &Web, table: &NameTable, out: &[u8]) -> Result<Store, NoMemory>
-        requires { table.now ≡ table_of web.now }
+        requires { table.now ≡ record (table_of web.now) { faults = table.now.faults } }
         ensures store { IfOk result (λ store. IsStoreOf (project web.now table.now) store) }
         ensures names { IfOk result (λ store. store.names ≡ table.now.names) }
         ensures outputs { IfOk result (λ store. store.outputs ≡ outputs web.now table.now out.now) }
