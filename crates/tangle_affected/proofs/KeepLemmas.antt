@@ -3,7 +3,6 @@ use Rattle.std.proofs.Common.{◌≡◌, ◌≢◌, ◌∙◌, ◌+◌, ◌<◌,
 use Rattle.std.specs.Prelude.{nat_lt, if◌then◌else◌, Some, None, IsSome}
 use Rattle.std.specs.List.{filter}
 use Rattle.std.proofs.Math.Decide.{ℕ_discrete}
-use Rattle.std.proofs.lemmas.Bool.{and_from}
 use Rattle.std.proofs.lemmas.Bool.Decides.{nat_tests}
 use Rattle.std.proofs.lemmas.List.{take_more, take_all}
 use Rattle.std.proofs.lemmas.List.Elements.{Contains-get_or, Contains-push_cases}
@@ -19,9 +18,10 @@ use Rattle.tangle_graph.specs.Ordering.{IsOrderIn}
 use Rattle.tangle_graph.specs.Stores.{StoreRead, IsNodeIn, IsStoreOf, KeepsUsed, UsesPiece, is_expandable_at, title_in_store}
 use Rattle.tangle_graph.proofs.NodeLemmas.{title_inside}
 use Rattle.tangle_affected.specs.Keeping.{IsKeptRight, KeepsJust, KeepsDone, KeepsUnmarked, IsExpandableList, CanExpand}
-use Rattle.tangle_affected.specs.Marks.{number_of_node, mark_at, is_listed}
+use Rattle.tangle_affected.specs.Affected.{ListsAffected}
+use Rattle.tangle_affected.specs.Marks.{number_of_node, mark_at, AreListed}
 use Rattle.tangle_affected.proofs.FilterLemmas.{into_filter}
-use Rattle.tangle_affected.proofs.ListLemmas.{expandable_list, listed_expandable}
+use Rattle.tangle_affected.proofs.ListLemmas.{expandable_list}
 use Rattle.tangle_affected.proofs.MarkLemmas.{apart, same_number}
 
 -- a node that has a flag is the store's
@@ -100,18 +100,17 @@ module _ (project : Project) (store : StoreRead) (order : List Node) (placed : I
     others = λ node e. none node;
   }
 
-  -- the unmarked nodes are kept, and the marked ones are to come
-  pub unmarked_done : (marks : List Bool) (kept : Kept) → KeepsUnmarked project store (mark_at (length store.names) marks) order kept
-      → KeepsDone project store (filter (is_listed store marks) order) 0 kept
-  unmarked_done marks kept keeps = record {
+  -- the unmarked nodes are kept, and those of the list, which are marked, are to come
+  pub unmarked_done : (marks : List Bool) (list : List Node) (kept : Kept) → AreListed store marks list
+      → KeepsUnmarked project store (mark_at (length store.names) marks) order kept → KeepsDone project store list 0 kept
+  unmarked_done marks list kept are keeps = record {
     expandable = λ node e listed. by node e (mark_at (length store.names) marks node) refl listed;
     others = keeps.others;
   }
     where
       by : (node : Node) → is_expandable_at store node ≡ true → (b : Bool) → mark_at (length store.names) marks node ≡ b
-          → (Contains (filter (is_listed store marks) order) node → Contains (take 0 (filter (is_listed store marks) order)) node) → IsKeptRight project store kept node
-      by node e true mark listed = absurd (nothing_first (filter (is_listed store marks) order) node
-          (listed (into_filter (is_listed store marks) order node (placed.expandable node (expandable_in store node e) e) (and_from (is_expandable_at store node) (mark_at (length store.names) marks node) e mark))))
+          → (Contains list node → Contains (take 0 list) node) → IsKeptRight project store kept node
+      by node e true mark listed = absurd (nothing_first list node (listed ((are node (expandable_in store node e)).0 mark)))
       by node e false mark listed = keeps.unmarked node (placed.expandable node (expandable_in store node e) e) e mark
 
   pub none_unmarked : (marked : Node → Bool) (kept : Kept) → ((node : Node) → kept_at kept node ≡ None) → KeepsUnmarked project store marked (take 0 order) kept
@@ -142,7 +141,7 @@ module _ (project : Project) (store : StoreRead) (order : List Node) (placed : I
     others = keeps.others;
   }
 
-  -- a list of all expandable nodes, and one of the marked ones, can be expanded
+  -- a list of all expandable nodes, and one of the affected ones, can be expanded
   pub all_ready : (list : List Node) (kept : Kept) → IsStoreOf project store → list ≡ filter (is_expandable_at store) order → ((node : Node) → kept_at kept node ≡ None) → CanExpand project store list kept
   all_ready list kept is same none = record {
     store_is = is;
@@ -150,10 +149,13 @@ module _ (project : Project) (store : StoreRead) (order : List Node) (placed : I
     expansions = subst (λ l. KeepsDone project store l 0 kept) (sym same) (none_done kept none);
   }
 
-  pub marked_ready : (marks : List Bool) (list : List Node) (kept : Kept) → IsStoreOf project store → list ≡ filter (is_listed store marks) order
-      → KeepsUnmarked project store (mark_at (length store.names) marks) order kept → CanExpand project store list kept
-  marked_ready marks list kept is same keeps = record {
+  pub affected_ready : (old : Project) (marks : List Bool) (list : List Node) (kept : Kept) → IsStoreOf project store → ListsAffected old project store list
+      → AreListed store marks list → KeepsUnmarked project store (mark_at (length store.names) marks) order kept → CanExpand project store list kept
+  affected_ready old marks list kept is lists are keeps = record {
     store_is = is;
-    list_is = subst (IsExpandableList project store) (sym same) (expandable_list project store order is placed (is_listed store marks) (listed_expandable store marks));
-    expansions = subst (λ l. KeepsDone project store l 0 kept) (sym same) (unmarked_done marks kept keeps);
+    list_is = record {
+      expandable = λ a c. (let one = lists.only a c in (is.expandable a one.0).1 one.1.expandable);
+      after = lists.after;
+    };
+    expansions = unmarked_done marks list kept are keeps;
   }

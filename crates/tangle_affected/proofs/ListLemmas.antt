@@ -13,7 +13,7 @@ use Rattle.tangle_graph.specs.Ordering.{IsOrderIn}
 use Rattle.tangle_graph.specs.Stores.{StoreRead, IsStoreOf, IsNodeIn, is_expandable_at, title_in_store}
 use Rattle.tangle_affected.specs.Affected.{ListsAffected}
 use Rattle.tangle_affected.specs.Keeping.{IsExpandableList, ListsExpandable}
-use Rattle.tangle_affected.specs.Marks.{mark_at, AreMarked, is_listed}
+use Rattle.tangle_affected.specs.Marks.{mark_at, AreMarked, AreListed, MarksAffected, is_listed}
 use Rattle.tangle_affected.proofs.FilterLemmas.{filter_place, out_of_filter, into_filter}
 use Rattle.tangle_affected.proofs.MarkLemmas.{at_place}
 use Rattle.tangle_affected.proofs.NameLemmas.{node_with_piece}
@@ -57,13 +57,6 @@ module _ (project : Project) (store : StoreRead) (order : List Node) (is : IsSto
           changed = r.2;
         }
 
-    -- what has no mark isn't affected
-    pub not_affected : (a : Node) → Contains order a → mark_at (length store.names) marks a ≡ false → IsAffected levels heaviest old project (title_in_store store a) → ⊥
-    not_affected a c mark affected =
-        let marked = (are a c).1 (affected.cause, affected.reaches, affected.changed) in
-        let both : true ≡ false = sym marked ∙ mark in
-        absurd (cc)
-
     pub lists_affected : ListsAffected old project store (filter (is_listed store marks) order)
     lists_affected = record {
       all = λ node affected. all node affected;
@@ -86,8 +79,13 @@ module _ (project : Project) (store : StoreRead) (order : List Node) (is : IsSto
             let both = and_parts (is_expandable_at store a) (mark_at (length store.names) marks a) there.1 in
             (placed.inside a there.0, is_affected a there.0 both.0 both.1)
 
-pub listed_expandable : (store : StoreRead) (marks : List Bool) (a : Node) → is_listed store marks a ≡ true → is_expandable_at store a ≡ true
-listed_expandable store marks a e = (and_parts (is_expandable_at store a) (mark_at (length store.names) marks a) e).0
+-- where the nodes of such a list are marked, each affected one is
+pub listed_marked : (old new : Project) (store : StoreRead) (nodes : List Node) (marks : List Bool) → IsStoreOf new store → ListsAffected old new store nodes
+    → AreListed store marks nodes → MarksAffected old new store marks
+listed_marked old new store nodes marks is lists are node inside affected =
+    let at = lists.all (title_in_store store node) affected in
+    let same : at.0 ≡ node = is.once at.0 node (lists.only at.0 at.2).0 inside at.1 in
+    (are node inside).1 (subst (Contains nodes) same at.2)
 
 no_element : (nodes : List Node) → ((a : Node) → Contains nodes a → ⊥) → nodes ≡ []
 no_element [] none = refl

@@ -1,7 +1,8 @@
 -- One more node along the order is marked or not.
-use Rattle.std.proofs.Common.{◌≡◌, ◌≢◌, ◌∙◌, ◌+◌, ◌<◌, ◌≤◌, ◌↔◌, ℕ, Bool, true, false, List, length, take, get_or, set, refl, ap, sym, subst, inl, inr, arith, get_or-set_same, get_or-set_other, Contains}
+use Rattle.std.proofs.Common.{◌≡◌, ◌≢◌, ◌∙◌, ◌+◌, ◌<◌, ◌≤◌, ◌↔◌, ℕ, Bool, true, false, List, [], ◌∷◌, ◌++◌, length, take, get_or, set, refl, ap, sym, subst, inl, inr, arith, get_or-set_same, get_or-set_other, Contains}
 use Rattle.std.proofs.lemmas.List.{get_or_default, take_more}
-use Rattle.std.proofs.lemmas.List.Elements.{Contains-get_or, Contains-push_cases}
+use Rattle.std.proofs.Math.Decide.{ℕ_discrete}
+use Rattle.std.proofs.lemmas.List.Elements.{Contains-get_or, Contains-push_cases, Contains-append_left, Contains-append_right}
 use Rattle.tangle_expansion.specs.Shapes.{Title, Named, Project, Uses, Reaches, here, on}
 use Rattle.tangle_expansion.specs.Shapes as title
 use Rattle.tangle_expansion.specs.declared.nodes.Node.{Node}
@@ -9,7 +10,7 @@ use Rattle.tangle_expansion.specs.declared.nodes.Node.TheVariants.{Program, Name
 use Rattle.tangle_graph.specs.Nodes.{IsNodeOf, UsesTitle}
 use Rattle.tangle_graph.specs.Ordering.{IsOrderIn}
 use Rattle.tangle_graph.specs.Stores.{StoreRead, IsStoreOf, IsNodeIn, uses_at, title_in_store}
-use Rattle.tangle_affected.specs.Marks.{number_of_node, mark_at, ReachesChanged, AreMarked}
+use Rattle.tangle_affected.specs.Marks.{number_of_node, mark_at, ReachesChanged, AreMarked, AreListed}
 use Rattle.tangle_affected.proofs.FilterLemmas.{in_front, out_of_take}
 
 pub number_low : (names : List (List ℕ)) (a : Node) → IsNodeOf names a → number_of_node (length names) a ≤ length names
@@ -79,3 +80,26 @@ module _ (store : StoreRead) (order : List Node) (placed : IsOrderIn store order
             let mark = (are m.0 (placed.after i m.0 inside used)).1 (c, subst (λ t. Reaches new t c) (sym m.2) s, differs) in
             let both : true ≡ false = sym mark ∙ none m.0 used in
             absurd (cc)
+
+-- one more node of a list is marked
+pub listed_next : (store : StoreRead) (nodes : List Node) (marks : List Bool) (i : ℕ) → i < length nodes → length marks ≡ length store.names + 1
+    → IsNodeIn store (get_or nodes i Program) → AreListed store marks (take i nodes)
+    → AreListed store (set marks (number_of_node (length store.names) (get_or nodes i Program)) true) (take (i + 1) nodes)
+listed_next store nodes marks i h size there are a inside =
+    let next = get_or nodes i Program in
+    let low : number_of_node (length store.names) (get_or nodes i Program) < length marks = omega (arith, number_low store.names (get_or nodes i Program) there, size) in
+    let is_set = get_or-set_same marks (number_of_node (length store.names) (get_or nodes i Program)) true false low in
+    let split : take (i + 1) nodes ≡ take i nodes ++ get_or nodes i Program ∷ [] = take_more nodes i Program h in
+    elim (ℕ_discrete (number_of_node (length store.names) a) (number_of_node (length store.names) (get_or nodes i Program))) [
+      | yes same ↦ (let this : a ≡ get_or nodes i Program = same_number store.names a (get_or nodes i Program) inside there same in (
+        (λ f. subst (λ l. Contains l a) (sym split) (subst (Contains (take i nodes ++ get_or nodes i Program ∷ [])) (sym this) (Contains-append_right (take i nodes) (next ∷ []) next (0, omega arith, refl)))),
+        (λ c. ap (λ n. get_or (set marks (number_of_node (length store.names) (get_or nodes i Program)) true) n false) same ∙ is_set),
+      ))
+      | no other ↦ (let stays = get_or-set_other marks (number_of_node (length store.names) (get_or nodes i Program)) (number_of_node (length store.names) a) true false other in (
+        (λ f. subst (λ l. Contains l a) (sym split) (Contains-append_left (take i nodes) (next ∷ []) a ((are a inside).0 (sym stays ∙ f)))),
+        (λ c. stays ∙ (are a inside).1 (elim (Contains-push_cases (take i nodes) (get_or nodes i Program) a (subst (λ l. Contains l a) split c)) [
+          | inl before ↦ before
+          | inr this ↦ absurd (other (ap (number_of_node (length store.names)) (sym this)))
+        ])),
+      ))
+    ]

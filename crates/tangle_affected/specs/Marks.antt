@@ -1,9 +1,11 @@
 -- Marks of nodes by number. These words are cited by private contracts alone.
 use Rattle.std.specs.Prelude.{◌≡◌, ◌≢◌, ◌↔◌, ◌&&◌, ℕ, Bool, true, false, List, length, slice_index_or, Contains}
+use Rattle.tangle_expansion.specs.Affected.{IsAffected}
+use Rattle.tangle_expansion.specs.Limits.{levels, heaviest}
 use Rattle.tangle_expansion.specs.Shapes.{Title, Project, Reaches}
 use Rattle.tangle_expansion.specs.declared.nodes.Node.{Node}
 use Rattle.tangle_expansion.specs.declared.nodes.Node.TheVariants.{Program, Name}
-use Rattle.tangle_graph.specs.Stores.{StoreRead, is_expandable_at, title_in_store}
+use Rattle.tangle_graph.specs.Stores.{StoreRead, IsNodeIn, is_expandable_at, title_in_store}
 
 -- the number of a node, where so many names come before the program
 abbrev pub number_of_node : ℕ → Node → ℕ
@@ -26,3 +28,12 @@ AreMarked old new store marks nodes =
 -- the node is expandable, and marked
 abbrev pub is_listed : StoreRead → List Bool → Node → Bool
 is_listed store marks node = is_expandable_at store node && mark_at (length store.names) marks node
+
+-- of the store's nodes just those of the list are marked
+abbrev pub AreListed : StoreRead → List Bool → List Node → Type 0
+AreListed store marks nodes = (node : Node) → IsNodeIn store node → ((mark_at (length store.names) marks node ≡ true) ↔ Contains nodes node)
+
+-- each affected node is marked
+abbrev pub MarksAffected : Project → Project → StoreRead → List Bool → Type 0
+MarksAffected old new store marks =
+    (node : Node) → IsNodeIn store node → IsAffected levels heaviest old new (title_in_store store node) → mark_at (length store.names) marks node ≡ true

@@ -38,7 +38,7 @@ pub fn affected(
 }
 
 /// Marks, along the order, the nodes that reach a changed one.
-pub(crate) fn reaching_changed(
+fn reaching_changed(
     alloc: Global,
     old: &Store,
     old_names: &NameTable,
@@ -108,7 +108,7 @@ pub(crate) fn node_before(old_names: &NameTable, new_names: &NameTable, node: No
 }
 
 /// The number of the node, where so many names come before the program.
-fn number_of(count: usize, node: Node) -> usize
+pub(crate) fn number_of(count: usize, node: Node) -> usize
     ensures { result ≡ number_of_node count node }
 {
     match node {
@@ -138,7 +138,7 @@ fn any_marked(count: usize, marks: &[bool], row: &[Node]) -> bool
 }
 
 /// The expandable and marked nodes, in the order.
-pub(crate) fn listed_nodes(
+fn listed_nodes(
     alloc: Global,
     store: &Store,
     marks: &[bool],

@@ -7,9 +7,9 @@ ghost use Rattle.tangle_graph.specs.Ordering.{IsOrderIn};
 ghost use Rattle.tangle_graph.specs.Stores.{IsStoreOf, IsNodeIn, KeepsUsed, is_expandable_at, title_in_store};
 ghost use Rattle.tangle_affected.specs.Affected.{Change, ListsAffectedBehind};
 ghost use Rattle.tangle_affected.specs.Keeping.{KeepsJust, KeepsUnmarked, ListsExpandableBehind, IsChangeOf, IsUnaffected, CanExpand};
-ghost use Rattle.tangle_affected.specs.Marks.{AreMarked, mark_at};
+ghost use Rattle.tangle_affected.specs.Marks.{AreListed, MarksAffected, mark_at};
 
-use crate::edits::{is_marked, listed_nodes, node_before, reaching_changed};
+use crate::edits::{affected, is_marked, node_before, number_of};
 use std::alloc::Global;
 use tangle_expansion::{
     Expansion, Kept, Node, PiecesByNode, Work, unaffected_nodes_stay, used_names_are_expandable,
@@ -56,9 +56,9 @@ pub fn expand_again(
     ensures work { (change : Change) → IsChangeOf old.now new.now old_kept.now change
         → OnOk result (ListsAffectedBehind change.old change.new new.now work.old work.new) }
 {
+    let list = affected(alloc, old, old_names, new, new_names)?;
+    let marks = marks_of(alloc, new, &list)?;
     let order = new.order();
-    let marks = reaching_changed(alloc, old, old_names, new, new_names, order)?;
-    let list = listed_nodes(alloc, new, &marks, order)?;
     let mut kept = Kept::new(alloc);
     share_unmarked(
         old, old_names, old_kept, new, new_names, order, &marks, &mut kept,
@@ -78,6 +78,20 @@ fn expandable_nodes(alloc: Global, store: &Store, order: &[Node]) -> Result<Vec<
         }
     }
     Ok(nodes)
+}
+
+/// Marks the nodes of the list.
+fn marks_of(alloc: Global, store: &Store, list: &[Node]) -> Result<Vec<bool>, NoMemory>
+    requires { (node : Node) → Contains list.now node → IsNodeIn store.now node }
+    ensures { IfOk result (λ marks. AreListed store.now marks.items list.now) }
+{
+    let count = store.name_count();
+    let mut marks = vec![in alloc; false; count]?;
+    marks.push(false)?;
+    for node in list {
+        marks[number_of(count, *node)] = true;
+    }
+    Ok(marks)
 }
 
 /// A share of the old expansion of the node, which is matched by name.
@@ -137,7 +151,8 @@ fn share_unmarked(
     requires new_table { new_names.now.names ≡ new.now.names }
     requires order { IsOrderIn new.now order.now }
     requires change { (change : Change) × IsChangeOf old.now new.now old_kept.now change }
-    requires marks { (change : Change) → IsChangeOf old.now new.now old_kept.now change → AreMarked change.old change.new new.now marks.now order.now }
+    requires marks { (change : Change) → IsChangeOf old.now new.now old_kept.now change
+        → MarksAffected change.old change.new new.now marks.now }
     requires empty { (node : Node) → kept_at kept.old node ≡ None }
     ensures { (change : Change) → IsChangeOf old.now new.now old_kept.now change
         → OnOk result (KeepsUnmarked change.new new.now (mark_at (length new.now.names) marks.now) order.now kept.new) }

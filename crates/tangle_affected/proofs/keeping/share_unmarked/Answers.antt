@@ -1,9 +1,7 @@
 use Rattle.std.proofs.Common.{◌∙◌, get_or, length, sym}
-use Rattle.std.proofs.lemmas.List.Elements.{Contains-get_or}
 use Rattle.tangle_expansion.specs.declared.nodes.Node.TheVariants.{Program}
 use Rattle.tangle_affected.specs.Marks.{mark_at}
 use Rattle.tangle_affected.proofs.KeepLemmas.{true_false, unmarked_more, unmarked_same}
-use Rattle.tangle_affected.proofs.ListLemmas.{not_affected}
 use Rattle.tangle_affected.proofs.MarkLemmas.{at_place}
 use Rattle.tangle_affected.proofs.keeping.share_unmarked.Goals as goal
 use Rattle.tangle_affected.proofs.keeping.share_unmarked.Goals.{then-expandable+then-not-is_marked+in_ok-keep_share, else-expandable, else-expandable-via-then-expandable+else-not-is_marked, else-expandable-via-else-expandable}
@@ -29,7 +27,7 @@ keep_share-requires c =
         is,
         (
           (is.after.expandable node inside).0 (sym c.expandable.ensures ∙ c.if-expandable.true),
-          not_affected change.new new order is.after placed change.old c.args.marks.now (c.requires.marks change is) node (Contains-get_or order i Program h) unmarked,
+          λ affected. true_false (mark_at (length new.names) c.args.marks.now node) (c.requires.marks change is node inside affected) unmarked,
         ),
       );
     }
@@ -47,9 +45,9 @@ loop-node-preserved c =
       | then-expandable+then-not-is_marked+in_ok-keep_share w ↦ rw w.kept-is (λ change is.
           let flag = sym c.expandable.ensures ∙ w.if-expandable.true in
           let unmarked = rw c.name_count-count.ensures at (sym w.is_marked.ensures ∙ w.if-not-is_marked.true) in
-          let unaffected = not_affected change.new new order is.after placed change.old c.args.marks.now (c.requires.marks change is) node (Contains-get_or order i Program h) unmarked in
+          let inside = at_place new order placed i h in
           unmarked_more change.new new order placed marked i c.loop-node.kept _ h flag (c.loop-node.invariant change is)
-          (w.in_ok-keep_share.ensures change is ((is.after.expandable node (at_place new order placed i h)).0 flag, unaffected)))
+          (w.in_ok-keep_share.ensures change is ((is.after.expandable node inside).0 flag, λ affected. true_false (mark_at (length new.names) c.args.marks.now node) (c.requires.marks change is node inside affected) unmarked)))
       | else-expandable w ↦ rw w.kept-is (λ change is. unmarked_same change.new new order placed marked i c.loop-node.kept h (λ e m. elim w.else-expandable.branch [
         | else-expandable-via-then-expandable+else-not-is_marked v ↦ true_false (mark_at (length new.names) c.args.marks.now (get_or order i Program)) (rw c.name_count-count.ensures at (sym v.is_marked.ensures ∙ v.if-not-is_marked.false)) m
         | else-expandable-via-else-expandable v ↦ true_false c.expandable.result (c.expandable.ensures ∙ e) v.if-expandable.false
