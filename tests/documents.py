@@ -11,8 +11,8 @@ usage: documents.py [FOLDER]      the folder of the repository
 - crates/*/must-fail and tests/wrong-bodies: each public function that is no law has an edit of its own, or of a private
   function that it calls, unless docs/wrong-bodies.md has it in a row '| `CRATE` | without an edit: `TYPE::NAME`, `NAME` |
   why |'. Each text that an edit replaces stands once in its file.
-- crates/tangle_session: work is begun once in a start, once in an edit and once in a list of edits,
-  and output files are written in one place (ONLY_IN).
+- The crates from the expansions upwards: works are begun, nodes expanded and texts written where
+  CALLS and MADE say, and nowhere else; bugs that are planted in a copy of the code are seen.
 The last line is 'N passed, M failed'.
 """
 import os
@@ -28,11 +28,73 @@ DEFINITION = r'^ *(?:(?:abbrev|unfoldable) )?pub (?:record |data )?%s(?: |$)'
 FUNCTION = re.compile(r'^\s*(pub |pub\(crate\) )?(?:const )?fn (\w+)', re.M)
 CODED = re.compile(r'`([^`]+)`')
 
-# What the code of a crate calls, and the functions that call it, once in each: a session begins one
-# work in a start, one in an edit and one in a list of edits, and so last_work() counts all that was
-# expanded for it. It writes texts by the one call that writes a file.
-ONLY_IN = {'tangle_session': {'Work::new': {'start', 'apply', 'apply_all'},
-                              'write_file': {'write_output_at'}, 'write_text': set()}}
+# The crates in which nodes are expanded and texts written.
+EXPANDING = ('tangle_expansion', 'tangle_graph', 'tangle_affected', 'tangle_session', 'ctangle_cli',
+             'ctangle', 'retangle')
+
+# Which function calls what, once in its text. A session begins one work in a start, one in an edit
+# and one in a list of edits; each expansion is made in `expand`, which notes its node in the work.
+# So last_work() counts all that was expanded. Texts are written into the writer as they are made.
+CALLS = {
+    'Work::new': ['tangle_session/session.rt: ' + caller for caller in ('start', 'apply', 'apply_all')],
+    'expand_all': ['tangle_session/session.rt: start'],
+    'expand_again': ['tangle_session/tangling.rt: expand_over'],
+    'affected': ['tangle_affected/keeping.rt: expand_again'],
+    'expand_list': ['tangle_affected/keeping.rt: expand_all', 'tangle_affected/keeping.rt: expand_again'],
+    'expand_next': ['tangle_affected/keeping.rt: expand_list'],
+    'expand_one': ['tangle_affected/keeping.rt: expand_next'],
+    'expand': ['tangle_graph/store.rt: expand_one'],
+    # files.rt has a function of this name of its own, which reads what is kept
+    'expansion_of': ['tangle_expansion/expanding.rt: expand', 'tangle_expansion/files.rt: write_file'],
+    'plan_node': ['tangle_graph/texts.rt: text_of_node'],
+    'put_text': ['tangle_expansion/writing.rt: put_text', 'tangle_expansion/writing.rt: write_text',
+                 'tangle_expansion/files.rt: write_file'],
+    'write_text': [],
+    # so has ctangle_cli, which creates the file and asks the session for its bytes
+    'write_file': ['tangle_expansion/files.rt: file_size', 'tangle_session/session.rt: write_output_at',
+                   'ctangle_cli/writing.rt: write_outputs'],
+}
+
+# Where a value is made by its fields. A second work or expansion is made in no other way: neither
+# type is copied, and a share of an expansion expands nothing.
+MADE = {
+    'Work': ['tangle_expansion/work.rt: new'],
+    'Body': ['tangle_expansion/expanding.rt: expansion_of'],
+    'Expansion': ['tangle_expansion/expanding.rt: expansion_of', 'tangle_expansion/expansion.rt: share'],
+}
+
+# The callers that have a loop, and what they do in it: each node of a list is expanded, what a text
+# uses is written where it is used, and the outputs are written one by one.
+LOOPS = ['tangle_affected/keeping.rt: expand_list', 'tangle_expansion/expanding.rt: expansion_of',
+         'tangle_expansion/writing.rt: put_text', 'ctangle_cli/writing.rt: write_outputs']
+
+# Bugs that no clause sees, in a file of a crate: what is replaced, and by what.
+PLANTED = {
+    'all nodes are expanded in a second work at each edit': (
+        'tangle_affected', 'keeping.rt', '    expand_list(alloc, new, &list, &mut kept, work)?;\n',
+        '    expand_list(alloc, new, &list, &mut kept, work)?;\n'
+        '    let mut second = Work::new(alloc);\n    drop(expand_all(alloc, new, &mut second)?);\n'),
+    'each node is expanded in a second work too': (
+        'tangle_graph', 'store.rt', '    expand(alloc, store, node, kept, work)\n',
+        '    let mut second = Work::new(alloc);\n    drop(expand(alloc, store, node, kept, &mut second)?);\n'
+        '    expand(alloc, store, node, kept, work)\n'),
+    'an expansion is made twice and noted once': (
+        'tangle_expansion', 'expanding.rt', '    work.add(node)?;\n',
+        '    drop(expansion_of(alloc, stored, kept)?);\n    work.add(node)?;\n'),
+    'an expansion is made twice in a loop and noted once': (
+        'tangle_expansion', 'expanding.rt', '    let expansion = expansion_of(alloc, stored, kept)?;\n',
+        '    let mut made = Vec::new(alloc);\n    for _ in 0..2 {\n'
+        '        made.push(expansion_of(alloc, stored, kept)?)?;\n    }\n    let expansion = made.pop().unwrap();\n'),
+    'a function that expands goes by another name': (
+        'tangle_affected', 'keeping.rt', '    let expansion = expand_one(alloc, store, node, kept, work)?;\n',
+        '    let twice = expand_one;\n    let expansion = twice(alloc, store, node, kept, work)?;\n'),
+    'a work is made by its fields': (
+        'tangle_expansion', 'expanding.rt', '    work.add(node)?;\n',
+        '    let second = Work { nodes: Vec::new(alloc) };\n    drop(second);\n    work.add(node)?;\n'),
+    'a session writes its outputs when it starts': (
+        'tangle_session', 'session.rt', '        let mut work = Work::new(alloc);\n',
+        '        write_text(&expansion, &ground.numbers, &mut sink)?;\n        let mut work = Work::new(alloc);\n'),
+}
 
 counts = {True: 0, False: 0}
 
@@ -201,10 +263,10 @@ def check_promises(crate, here, part):
 
 
 def check_edits(crate, here, excused):
-    if not here.edits:
+    edits = [*here.edits.values(), *here.further_edits.values()]
+    if not edits:
         return
     functions = functions_of(here)
-    edits = [*here.edits.values(), *here.further_edits.values()]
     edited = set().union(*(edited_functions(here, text) for text in edits))
     surface = surface_of(here, functions)
     private = {one[3]: one for one in functions if one not in surface}
@@ -227,20 +289,67 @@ def check_edits_apply(crate, here):
             texts[file] = texts.get(file, '').replace(old, new, 1)
 
 
-def check_calls(crate, here):
-    """A word of ONLY_IN stands in these functions alone, once in each; it has no other name."""
-    for called, wanted in ONLY_IN.get(crate, {}).items():
-        name = 'crates/%s, %s' % (crate, called)
-        word = re.compile(r'\b%s\b' % called.replace('::', r'\s*::\s*'))
-        found = []
-        for file, text in here.code.items():
-            text = re.sub(r'//.*', '', text)
-            check(not re.search(r'\b%s\s+as\b' % called.split('::')[0], text), name, 'another name for it in %s' % file)
-            body = re.sub(r'^\s*(?:pub(?:\(crate\))? )?use [^;]*;', '', text, flags=re.M)
-            found += [one[2] for one in functions_in(body) for _ in word.findall(one[4])]
-            outside = len(word.findall(body)) - sum(len(word.findall(one[4])) for one in functions_in(body))
-            check(outside == 0, name, 'outside of functions in %s' % file)
-        check(sorted(found) == sorted(wanted), name, 'in %s' % (', '.join(found) or 'no function'))
+def code_of(text):
+    """Without comments and imports."""
+    text = re.sub(r'//.*', '', text)
+    return re.sub(r'^\s*(?:ghost )?(?:pub(?:\(crate\))? )?use [^;]*;', '', text, flags=re.M)
+
+
+def uses_of(texts, word):
+    """Where a word stands that has this form: FILE: FUNCTION, once for each time."""
+    found = []
+    for file, text in texts.items():
+        functions = list(functions_in(text))
+        before = functions[0][0] if functions else len(text)
+        found += ['%s: no function' % file for _ in re.findall(word, text[:before])]
+        found += ['%s: %s' % (file, one[2]) for one in functions for _ in re.findall(word, one[4])]
+    return found
+
+
+def problems_of_calls(sources):
+    """What is not as CALLS, MADE and LOOPS say; sources has the code of each file, by CRATE/FILE."""
+    texts = {file: code_of(text) for file, text in sources.items()}
+    whole = '\n'.join(texts.values())
+    problems = ['%s has another name' % word for word in {*(called.split('::')[0] for called in CALLS), *MADE}
+                for text in sources.values() if re.search(r'\b%s\s+as\b' % word, re.sub(r'//.*', '', text))]
+    for called, wanted in CALLS.items():
+        name = r'(?<!fn )(?<!\w)%s(?!\w)' % called.replace('::', r'\s*>?\s*::\s*')
+        found = uses_of(texts, name)
+        if sorted(found) != sorted(wanted):
+            problems.append('%s stands in %s' % (called, ', '.join(found) or 'no function'))
+        if re.search(name + r'(?!\s*(?:::\s*<[^>]*>)?\s*\()', whole):
+            problems.append('%s stands where it is not called' % called)
+    for made, wanted in MADE.items():
+        found = uses_of(texts, r'(?<!impl )(?<!for )(?<!struct )(?<!-> )(?<!\w)%s \{' % made)
+        if sorted(found) != sorted(wanted):
+            problems.append('%s is made in %s' % (made, ', '.join(found) or 'no function'))
+        if re.search(r'\btype\s[^;]*=[^;]*\b%s\b' % made, whole):
+            problems.append('%s has another name' % made)
+        if re.search(r'#\[derive\((?!Drop\)\])[^\]]*\]\s*pub(?:\(crate\))? struct %s\b' % made, whole):
+            problems.append('%s may be copied' % made)
+    if re.search(r'\bSelf\s*(?:\{|::)', texts['tangle_expansion/work.rt']):
+        problems.append('Work has another name in work.rt')
+    callers = set().union(*CALLS.values(), *MADE.values()) - {'tangle_expansion/work.rt: new'}
+    for file, text in texts.items():
+        for _, _, name, _, body in functions_in(text):
+            caller = '%s: %s' % (file, name)
+            body = re.match(r'\n*( *)(?s:.*?)(?:\n\1\}|\Z)', body).group()
+            loops = len(re.findall(r'\b(?:for|while|loop)\b|\|[\w\s,&]*\|', body))
+            if caller in callers and loops != (caller in LOOPS):
+                problems.append('%s has %d loops' % (caller, loops))
+    return problems
+
+
+def check_calls(crates):
+    sources = {'%s/%s' % (crate, file): text
+               for crate in EXPANDING for file, text in crates[crate].code.items()}
+    for problem in problems_of_calls(sources) or ['']:
+        check(not problem, 'what expands and writes', problem)
+    for bug, (crate, file, old, new) in PLANTED.items():
+        place = '%s/%s' % (crate, file)
+        check(sources[place].count(old) == 1, 'a planted bug', 'where %s is planted' % bug)
+        planted = {**sources, place: sources[place].replace(old, new)}
+        check(problems_of_calls(planted), 'a planted bug', '%s, and it is not seen' % bug)
 
 
 def is_law(text):
@@ -295,7 +404,7 @@ def main():
     for crate, here in crates.items():
         check_edits(crate, here, {name for row in rows if row[0] == crate for name in CODED.findall(row[1])})
         check_edits_apply(crate, here)
-        check_calls(crate, here)
+    check_calls(crates)
     print('%d passed, %d failed' % (counts[True], counts[False]))
     return 1 if counts[False] else 0
 
