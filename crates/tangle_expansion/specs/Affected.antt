@@ -3,7 +3,9 @@ use Rattle.std.specs.Prelude.{◌≢◌, ℕ, ◌≤◌, ◌<◌, []}
 use Rattle.tangle_expansion.specs.Shapes.{Title, Project, Reaches}
 use Rattle.tangle_expansion.specs.Flat.{weight, depth}
 
--- It has a piece and is within both limits: levels is one more than the greatest depth. So it reaches no name that contains itself.
+-- It has a piece and is within both limits: levels is one more than the greatest depth. So it
+-- reaches no name that contains itself, since what reaches one is deeper and heavier than any
+-- number: expandable_nodes_reach_no_cycle states both.
 pub record IsExpandable (levels limit : ℕ) (project : Project) (node : Title) : Type 0 where
   pub has_piece : project node ≢ []
   pub shallow : depth levels project node < levels

@@ -51,8 +51,9 @@ fn byte_count(source: &Source) -> usize
 
 /// Scans the lines of a source: finds its sections, C parts, macros and section names, and what these are made of.
 ///
-/// The web borrows the source. A text of an item is a range of a source line, and these ranges stand in the order of
-/// the source. Each text of a piece stands on the line that a compiler counts by the marks and line ends before it, but for those
+/// The web borrows the source. A text of an item is a range of a source line. The ranges of all
+/// pieces stand in the order of the source, and so do those of all macros. Each text of a piece
+/// stands on the line that a compiler counts by the marks and line ends before it, but for those
 /// behind a line end that a quoted text or a join took, up to the next line end or mark.
 ///
 /// # Errors
