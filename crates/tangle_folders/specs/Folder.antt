@@ -47,6 +47,14 @@ Asks old new name (Err TooBig) = new ≡ with_asked old name
 Asks old new name (Err Failed) = new ≡ with_asked old name
 Asks old new name (Err NoMemory) = (new ≡ old) ⊎ (new ≡ with_asked old name)
 
+-- the names at which it failed, where they are told: this one after them, if that is the answer
+abbrev pub with_failed : Option (List (List ℕ)) → List ℕ → Result (Vec ℕ Global) FolderFault → Option (List (List ℕ))
+with_failed old name (Ok bytes) = old
+with_failed old name (Err Missing) = old
+with_failed old name (Err TooBig) = old
+with_failed old name (Err Failed) = with_asked old name
+with_failed old name (Err NoMemory) = old
+
 -- the sink of a folder that tells its files tells its bytes, and has none
 abbrev pub Begins : Option (List File) → Option (List ℕ) → Type 0
 Begins None taken = ⊤

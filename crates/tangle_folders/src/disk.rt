@@ -77,6 +77,8 @@ impl<'r, R: Files> Folder for Disk<'r, R> {
 
     ghost asked = { λ _. None };
 
+    ghost failed = { λ _. None };
+
     ghost failures = { λ disk. disk.failures };
 
     fn read_file(&mut self, alloc: Global, name: &[u8]) -> Result<Vec<u8>, FolderFault> {

@@ -1,6 +1,6 @@
 //! What a program reads its files from and writes its outputs to.
 ghost use Rattle.std.specs.Prelude.{◌≡◌, ◌≢◌, ◌∷◌, ◌≤◌, [], ℕ, List, Option, IfErr, IfOk, OnOk, OnErr, vec_len};
-ghost use Rattle.tangle_folders.specs.Folder.{Asks, Begins, Closes, ClosesWithin, File, Reads, after_close, after_read, after_refusal, file_limit, with_created};
+ghost use Rattle.tangle_folders.specs.Folder.{Asks, Begins, Closes, ClosesWithin, File, Reads, after_close, after_read, after_refusal, file_limit, with_created, with_failed};
 ghost use Rattle.tangle_folders.specs.declared.folder.FolderFault.TheVariants.{NoMemory};
 
 use std::alloc::Global;
@@ -38,6 +38,9 @@ pub trait Folder {
     // The names that it was asked for, in order, where it tells them.
     ghost asked: { Self → Option (List (List ℕ)) };
 
+    // Those of these names at which it failed, in order, where it tells them.
+    ghost failed: { Self → Option (List (List ℕ)) };
+
     // How often it failed; at its last value the count stays.
     ghost failures: { Self → ℕ };
 
@@ -52,6 +55,7 @@ pub trait Folder {
         ensures small { IfOk result (λ bytes. vec_len bytes ≤ file_limit) }
         ensures counted { failures self.new ≡ after_read result (failures self.old) }
         ensures asks { Asks (asked self.old) (asked self.new) name.now result }
+        ensures fails { failed self.new ≡ with_failed (failed self.old) name.now result }
         ensures files_stay { files self.new ≡ files self.old }
         ensures created_stay { created self.new ≡ created self.old };
 
@@ -67,6 +71,7 @@ pub trait Folder {
         ensures refused { OnErr result (created self.new ≡ created self.old) }
         ensures counted { failures self.new ≡ after_refusal result (failures self.old) }
         ensures asked_stay { asked self.new ≡ asked self.old }
+        ensures failed_stay { failed self.new ≡ failed self.old }
         ensures files_stay { files self.new ≡ files self.old };
 
     /// Gives the file created last the bytes of its writer; where this is refused, a front of them.
@@ -81,5 +86,6 @@ pub trait Folder {
         ensures needs_no_memory { IfErr result (λ fault. fault ≢ NoMemory) }
         ensures counted { failures self.new ≡ after_close result ((Self.Out.stream out).failures) (failures self.old) }
         ensures asked_stay { asked self.new ≡ asked self.old }
+        ensures failed_stay { failed self.new ≡ failed self.old }
         ensures files_stay { files self.new ≡ files self.old };
 }

@@ -1,8 +1,8 @@
 //! A folder in memory, for tests: it tells its files, and can be made to fail.
 ghost use Rattle.std.specs.Prelude.{◌≡◌, ◌≢◌, ◌⊎◌, ◌≤◌, ◌-◌, ◌∷◌, ◌++◌, ℕ, min, List, [], None, Some, Err, Option, map, option_map, length, true, vec_len, IfErr, IfOk, IfSome, OnErr, OnOk};
-ghost use Rattle.tangle_streams.specs.Streams.{Takes, counted};
+ghost use Rattle.tangle_streams.specs.Streams.{Takes, counted, one_more_failure};
 ghost use Rattle.std.specs.Option.{option_copied};
-ghost use Rattle.tangle_folders.specs.Folder.{Asks, Reads, after_close, after_read, after_refusal, bytes_of, file_limit, with_last};
+ghost use Rattle.tangle_folders.specs.Folder.{Asks, Reads, after_close, after_read, after_refusal, bytes_of, file_limit, with_failed, with_last};
 ghost use Rattle.tangle_folders.specs.MemoryFolder.{after_call, file_of, held_files, is_due, texts};
 ghost use Rattle.tangle_folders.specs.declared.folder.FolderFault.TheVariants.{Failed, NoMemory};
 
@@ -83,6 +83,7 @@ pub struct MemoryFolder {
     files: IndexMap<Vec<u8>, Vec<u8>>,
     created: Vec<CreatedFile>,
     asked: Vec<Vec<u8>>,
+    failed: Vec<Vec<u8>>,
     room: usize,
     calls_to_failure: Option<u64>,
     failures: u64,
@@ -94,6 +95,7 @@ impl MemoryFolder {
         ensures files { held_files result.files ≡ [] }
         ensures created { result.created.items ≡ [] }
         ensures asked { result.asked.items ≡ [] }
+        ensures failed { result.failed.items ≡ [] }
         ensures room { result.room ≡ room }
         ensures sound { result.calls_to_failure ≡ None }
         ensures failures { result.failures ≡ 0 }
@@ -102,6 +104,7 @@ impl MemoryFolder {
             files: IndexMap::new(alloc),
             created: Vec::new(alloc),
             asked: Vec::new(alloc),
+            failed: Vec::new(alloc),
             room,
             calls_to_failure: None,
             failures: 0,
@@ -175,6 +178,21 @@ impl MemoryFolder {
         Ok(())
     }
 
+    // Fails at a file that it was asked for, and notes the name.
+    fn fail_at(&mut self, alloc: Global, name: &[u8]) -> Result<(), AllocError>
+        ensures ok { OnOk result (texts self.new.failed.items
+            ≡ texts self.old.failed.items ++ name.now ∷ []) }
+        ensures counted { OnOk result (self.new.failures ≡ one_more_failure self.old.failures) }
+        ensures err { OnErr result (self.new.failed.items ≡ self.old.failed.items) }
+        ensures uncounted { OnErr result (self.new.failures ≡ self.old.failures) }
+        ensures others { self.new ≡ record self.old { failed = self.new.failed; failures = self.new.failures } }
+    {
+        let name = Vec::from_slice(alloc, name)?;
+        self.failed.push(name)?;
+        self.failures = self.failures.saturating_add(1);
+        Ok(())
+    }
+
     // The bytes of its file of this name.
     fn bytes(&self, name: &[u8]) -> Option<&[u8]>
         ensures { option_copied result ≡ bytes_of (held_files self.now.files) name.now }
@@ -205,6 +223,8 @@ impl Folder for MemoryFolder {
 
     ghost asked = { λ folder. Some (texts folder.asked.items) };
 
+    ghost failed = { λ folder. Some (texts folder.failed.items) };
+
     ghost failures = { λ folder. folder.failures };
 
     // The clauses of the trait, and which call fails.
@@ -213,10 +233,12 @@ impl Folder for MemoryFolder {
         ensures small { IfOk result (λ bytes. vec_len bytes ≤ file_limit) }
         ensures counted { self.new.failures ≡ after_read result self.old.failures }
         ensures asks { Asks (Some (texts self.old.asked.items)) (Some (texts self.new.asked.items)) name.now result }
+        ensures fails { Some (texts self.new.failed.items) ≡ with_failed (Some (texts self.old.failed.items)) name.now result }
         ensures due { is_due self.old.calls_to_failure ≡ true → (result ≡ Err Failed) ⊎ (result ≡ Err NoMemory) }
         ensures only_due { result ≡ Err Failed → is_due self.old.calls_to_failure ≡ true }
         ensures kept { self.new ≡ record self.old {
           asked = self.new.asked;
+          failed = self.new.failed;
           calls_to_failure = after_call self.old.calls_to_failure;
           failures = self.new.failures;
         } }
@@ -226,8 +248,10 @@ impl Folder for MemoryFolder {
             return Err(FolderFault::NoMemory);
         }
         if due {
-            self.failures = self.failures.saturating_add(1);
-            return Err(FolderFault::Failed);
+            return match self.fail_at(alloc, name) {
+                Ok(()) => Err(FolderFault::Failed),
+                Err(_) => Err(FolderFault::NoMemory),
+            };
         }
         match self.bytes(name) {
             None => Err(FolderFault::Missing),
