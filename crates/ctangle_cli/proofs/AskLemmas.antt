@@ -19,7 +19,8 @@ use Rattle.tangle_files.specs.Adding.{add_refusal, has_file, with_file}
 use Rattle.tangle_files.specs.Roles.{RolesRead}
 use Rattle.tangle_folders.specs.Folder.{File, file_limit, with_asked}
 use Rattle.ctangle_cli.specs.Asking.{AsksForAll, AsksOnce, IsWanted}
-use Rattle.ctangle_cli.specs.Tries.{AsksOn, IsTriedIn, RoundsOnce, StopsAsking, Tries, TriesAll, TriesOnce, TriesSince, TriesStay, is_tried, named_in}
+use Rattle.ctangle_cli.specs.Tries.{AsksOn, IsTriedIn, RoundsOnce, StopsAsking, Tries, TriesAll, TriesOnce, TriesSince, TriesStay, is_tried}
+use Rattle.ctangle_cli.specs.Questions.{named_in}
 use Rattle.tangle_lines.specs.Faults.{Finding}
 use Rattle.ctangle_cli.specs.Loading.{Grows, Loaded, and_then, is_missing_kind, missed_in, with_inclusion, with_inclusions, add_bytes, missing_of, unless_refused}
 use Rattle.ctangle_cli.specs.Loading.Ending.{Unreadable}
@@ -29,11 +30,11 @@ pub or_false : (b : Bool) → (b || false) ≡ b
 or_false true = refl
 or_false false = refl
 
-or_left : (a b : Bool) → a ≡ true → (a || b) ≡ true
+pub or_left : (a b : Bool) → a ≡ true → (a || b) ≡ true
 or_left true b e = refl
 or_left false b e = absurd (cc)
 
-or_right : (a b : Bool) → b ≡ true → (a || b) ≡ true
+pub or_right : (a b : Bool) → b ≡ true → (a || b) ≡ true
 or_right true b e = refl
 or_right false b e = e
 
@@ -50,7 +51,7 @@ has_with files name bytes other =
     has_any (with_file files name bytes) other ∙ list_any-append (λ f. bytes_eq other f.0) files ((name, cut bytes) ∷ [])
     ∙ ap (λ b. b || (bytes_eq other name || false)) (sym (has_any files other)) ∙ ap (λ b. has_file files other || b) (or_false (bytes_eq other name))
 
-added : (files next : FileTable) (name bytes : List ℕ) → add_bytes files name bytes ≡ Ok next → with_file files name bytes ≡ next
+pub added : (files next : FileTable) (name bytes : List ℕ) → add_bytes files name bytes ≡ Ok next → with_file files name bytes ≡ next
 added files next name bytes e = by (nat_lt file_limit (length bytes)) (add_refusal files name bytes) e
   where
     by : (b : Bool) (o : Option Refusal) → cond b (Err (Unreadable name)) (unless_refused files name bytes o) ≡ Ok next → with_file files name bytes ≡ next
@@ -78,7 +79,7 @@ pub tries_absent : (asked asked' : Option (List (List ℕ))) (files : FileTable)
 tries_absent asked asked' files absent absent' name holds other =
     ap (λ b. has_file files other || b) (holds other) ∙ or_assoc (has_file files other) (list_any (bytes_eq other) absent) (bytes_eq other name)
 
-behind_more : (names asked : List (List ℕ)) (old new : Option (List (List ℕ))) (name : List ℕ) → old ≡ Some (names ++ asked) → new ≡ with_asked old name
+pub behind_more : (names asked : List (List ℕ)) (old new : Option (List (List ℕ))) (name : List ℕ) → old ≡ Some (names ++ asked) → new ≡ with_asked old name
     → new ≡ Some (names ++ (asked ++ name ∷ []))
 behind_more names asked old new name is e = e ∙ ap (λ o. with_asked o name) is ∙ ap (λ l. Some l) (append_assoc names asked (name ∷ []))
 

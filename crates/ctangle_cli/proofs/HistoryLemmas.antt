@@ -1,6 +1,6 @@
 -- The answered commands of a script go on a history.
 use Rattle.std.proofs.Common.{◌≡◌, List, [], ◌∷◌, ◌++◌, refl, ap, sym, subst, append_assoc, inl, inr}
-use Rattle.std.specs.Prelude.{ℕ, Option, None, Some, true, false, Ok, Err, unwrap_or}
+use Rattle.std.specs.Prelude.{ℕ, Option, None, Some, false, Ok, Err, unwrap_or}
 use Rattle.tangle_files.specs.Lines.{FileTable}
 use Rattle.tangle_files.specs.Roles.{RolesRead}
 use Rattle.tangle_files.specs.declared.edits.Edit.{Edit}

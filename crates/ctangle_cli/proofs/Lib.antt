@@ -1,5 +1,6 @@
 mod AskLemmas
 mod LoadLemmas
+mod OrderLemmas
 mod MissingLemmas
 mod Quiet
 mod RunLemmas

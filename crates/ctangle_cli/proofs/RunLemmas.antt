@@ -1,5 +1,5 @@
 -- What is written on a stream, one text after another.
-use Rattle.std.proofs.Common.{◌≡◌, ◌∙◌, ◌⊎◌, inl, inr, ℕ, ◌+◌, ◌<◌, ◌≤◌, List, [], ◌∷◌, ◌++◌, Option, Result, Ok, Err, ap, subst, sym, refl, length, take, suc, length-append, arith, append_assoc, append-nil}
+use Rattle.std.proofs.Common.{◌≡◌, ◌∙◌, ◌⊎◌, inl, inr, ℕ, ◌+◌, ◌<◌, ◌≤◌, List, [], ◌∷◌, ◌++◌, Result, Ok, Err, ap, subst, sym, refl, length, take, suc, length-append, arith, append_assoc, append-nil}
 use Rattle.std.proofs.lemmas.List.{take-append-le}
 use Rattle.tangle_streams.proofs.StreamLemmas.{Appends-append, Appends-none}
 use Rattle.tangle_streams.specs.Streams.{Stream, Failed, PutsOut}
@@ -10,14 +10,11 @@ use Rattle.tangle_lines.specs.Faults.{Finding}
 use Rattle.tangle_lines.specs.FaultText.{fault_line}
 use Rattle.tangle_files.specs.Lines.{FileTable}
 use Rattle.tangle_files.specs.Roles.{RolesRead}
-use Rattle.tangle_folders.specs.Folder.{File}
 use Rattle.tangle_folders.specs.declared.folder.FolderFault.{FolderFault}
 use Rattle.tangle_folders.specs.declared.folder.FolderFault.TheVariants.{NoMemory}
-use Rattle.ctangle_cli.specs.Loading.{LoadsTo, load_of}
 use Rattle.tangle_session.specs.Tangle.{Tangling, AreFaultsOf, outputs_of}
-use Rattle.ctangle_cli.specs.Run.{Moment, NamedEnds, SessionEnds, StopsAt, TangledEnds}
+use Rattle.ctangle_cli.specs.Run.{AsksNothing, Moment, SessionEnds, StopsAt, TangledEnds}
 use Rattle.ctangle_cli.specs.Run.TangledEnds.{IsUnwritten}
-use Rattle.ctangle_cli.specs.Run.NamedEnds.{IsTangled}
 use Rattle.ctangle_cli.specs.Messages.{TakesFront, TakesAll, fault_lines, unwritten_line}
 
 take_past : (xs ys : List ℕ) (n : ℕ) → take (length xs + n) (xs ++ ys) ≡ xs ++ take n ys
@@ -103,21 +100,11 @@ tangled_stops t old new mid name fault r stops why calm told put = IsUnwritten (
 abbrev pub tangling_with : FileTable → RolesRead → List Finding → Tangling
 tangling_with files names faults = record { faults = faults; outputs = outputs_of files names }
 
-pub ends_with_faults : (files : FileTable) (names : RolesRead) (faults : List Finding) (old new : Moment) (status : ℕ) → AreFaultsOf files names faults
+pub ends_with_faults : (files : FileTable) (names : RolesRead) (faults : List Finding) (old new : Moment) (status : ℕ) → AreFaultsOf files names faults → AsksNothing old new
     → TangledEnds (tangling_with files names faults) old new status → SessionEnds files names old new status
-ends_with_faults files names faults old new status are ends = record {
+ends_with_faults files names faults old new status are unasked ends = record {
   tangling = tangling_with files names faults;
   is = record { faults = are; outputs = refl };
   ends = ends;
+  asks_nothing = unasked;
 }
-
-abbrev at_moment : Option (List File) → Option (List File) → ℕ → Stream → Moment
-at_moment files created refusals stream = record { files = files; created = created; folder_failures = refusals; stream = stream }
-
-pub named_tangled : (names : RolesRead) (files : FileTable) (all all' made made' : Option (List File)) (n n' : ℕ) (stream : Stream) (new : Moment) (status : ℕ)
-    → LoadsTo all (λ xs. load_of xs names) n n' files → all' ≡ all → made' ≡ made
-    → SessionEnds files names (record { files = all'; created = made'; folder_failures = n'; stream = stream }) new status
-    → NamedEnds names (record { files = all; created = made; folder_failures = n; stream = stream }) new status
-named_tangled names files all all' made made' n n' stream new status loaded same_files same_made ends =
-    let same : at_moment all' made' n' stream ≡ at_moment all made n stream = λ i. at_moment (same_files i) (same_made i) (loaded.1 i) stream in
-    IsTangled files loaded.0 (subst (λ (a : Moment). SessionEnds files names a new status) same ends)

@@ -1,5 +1,5 @@
 -- Where all that lines include is there, nothing is missing.
-use Rattle.std.proofs.Common.{◌≡◌, ◌∙◌, ◌≤◌, ℕ, zero, suc, ◌+◌, ◌||◌, ◌&&◌, ◌==◌, Bool, true, false, cond, not, List, [], ◌∷◌, ◌++◌, Option, Some, None, is_some, drop, map, refl, ap, sym, length, true≢false, arith}
+use Rattle.std.proofs.Common.{◌≡◌, ◌∙◌, ℕ, zero, suc, ◌+◌, ◌||◌, ◌&&◌, ◌==◌, Bool, true, false, cond, not, List, [], ◌∷◌, ◌++◌, Option, Some, None, is_some, drop, map, refl, ap, sym, length, true≢false}
 use Rattle.std.specs.Prelude.{nat_lt, min, filter}
 use Rattle.std.proofs.lemmas.Bool.{or_parts, or_from}
 use Rattle.std.proofs.lemmas.List.{map-append}
@@ -14,10 +14,10 @@ use Rattle.tangle_lines.specs.declared.changes.LineKind.TheVariants.{BeginsChang
 use Rattle.tangle_lines.specs.Faults.{Finding, Spot, fault_at, fault_counting}
 use Rattle.tangle_lines.specs.Inclusion.{included_name}
 use Rattle.tangle_lines.specs.Change.{Change}
-use Rattle.tangle_lines.specs.Changes.{Found, before, changes_from, changes_of, closed_by, kind_of, next_phase, old_ended}
+use Rattle.tangle_lines.specs.Changes.{Found, before, changes_from, closed_by, kind_of, next_phase, old_ended}
 use Rattle.tangle_files.specs.Lines.{FileTable, file_number, lines_at, name_at, number_of}
 use Rattle.tangle_files.specs.Adding.{has_file}
-use Rattle.tangle_lines.specs.Reading.{Reads, State, WaitingLine, after, begins, change_here, change_lines, change_number, change_spot, change_step, changes_in, depth_limit, included, line_limit, line_step, mismatch_faults, named, plain_step, reads, reads_from, reads_in, unequal_lines, unused_faults, waiting_lines}
+use Rattle.tangle_lines.specs.Reading.{WaitingLine, after, begins, change_here, change_lines, change_number, change_spot, change_step, changes_in, depth_limit, included, line_limit, line_step, mismatch_faults, named, plain_step, reads_in, unequal_lines, waiting_lines}
 use Rattle.tangle_lines.specs.Reading.Step.{Ends, Goes}
 use Rattle.tangle_files.specs.Roles.{RolesRead}
 use Rattle.ctangle_cli.specs.Loading.{IsSettled, is_missing_kind, misses_file, misses_name, missed_in, missing_of}

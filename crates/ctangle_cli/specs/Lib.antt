@@ -4,6 +4,7 @@ pub mod Writing
 pub mod Loading
 pub mod Messages
 pub mod Run
+pub mod Questions
 pub mod Asking
 pub mod Tries
 pub mod Conversation

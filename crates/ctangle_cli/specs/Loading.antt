@@ -148,10 +148,14 @@ StopsFor told loads failures failures' (Refuses name refusal) =
     IfSome told (λ all. loads all ≡ Err (Refuses name refusal)) × (failures' ≡ failures)
 StopsFor told loads failures failures' Memory = ⊤
 
--- A file that can't be read is the one that the folder was asked for last, where it tells what it was asked for. So where
--- the folder failed, the name is that of the file at which it failed.
+-- the name that the folder was asked for last, where it tells what it was asked for
+abbrev pub IsAskedLast : Option (List (List ℕ)) → List ℕ → Type 0
+IsAskedLast asked name = IfSome asked (λ names. (before : List (List ℕ)) × (names ≡ before ++ name ∷ []))
+
+-- A file that can't be read is the one that the folder was asked for last. So where the folder failed, the name is that of
+-- the file at which it failed.
 abbrev pub TellsLastAsked : Option (List (List ℕ)) → Ending → Type 0
-TellsLastAsked asked (Unreadable name) = IfSome asked (λ names. (before : List (List ℕ)) × (names ≡ before ++ name ∷ []))
+TellsLastAsked asked (Unreadable name) = IsAskedLast asked name
 TellsLastAsked asked (Refuses name refusal) = ⊤
 TellsLastAsked asked Memory = ⊤
 

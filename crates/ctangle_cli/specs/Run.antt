@@ -1,5 +1,5 @@
 -- How a run of ctangle ends, by what the folder and the error stream tell before and after it.
-use Rattle.std.specs.Prelude.{◌≡◌, ◌≢◌, ◌⊎◌, ℕ, List, [], ◌∷◌, ◌++◌, codes, Option, None, Some, IfSome, Ok}
+use Rattle.std.specs.Prelude.{◌≡◌, ◌≢◌, ◌⊎◌, ℕ, List, [], ◌∷◌, ◌++◌, codes, Option, None, Some}
 use Rattle.tangle_streams.specs.Streams.{Stream, Failed}
 use Rattle.tangle_files.specs.Lines.{FileTable}
 use Rattle.tangle_files.specs.Roles.{RolesRead}
@@ -9,14 +9,17 @@ use Rattle.tangle_folders.specs.declared.folder.FolderFault.TheVariants.{NoMemor
 use Rattle.tangle_folders.specs.Folder.{File, with_created}
 use Rattle.ctangle_cli.specs.Writing.{IsPart}
 use Rattle.ctangle_cli.specs.Words.{names_of}
-use Rattle.ctangle_cli.specs.Loading.{Ending, LoadsTo, StopsFor, load_of}
+use Rattle.ctangle_cli.specs.Loading.{Ending, LoadsTo, StopsFor, TellsLastAsked, load_of}
+use Rattle.ctangle_cli.specs.Questions.{AsksAll, AsksUntil, FailsLast}
 use Rattle.ctangle_cli.specs.Messages.{TakesAll, TakesFront, usage_line, ending_line, no_memory_line, unwritten_line, fault_lines, status_of}
 
--- What is known of the folder and of the error stream at a moment: the folder's files, those created in it, and how often
--- it failed; the bytes that the stream took, and how often it failed.
+-- What is known of the folder and of the error stream at a moment: the folder's files, those created in it, the names that
+-- it was asked for, those at which it failed, and how often it failed; the bytes that the stream took, and how often it failed.
 pub record Moment : Type 0 where
   pub files : Option (List File)
   pub created : Option (List File)
+  pub asked : Option (List (List ℕ))
+  pub failed : Option (List (List ℕ))
   pub folder_failures : ℕ
   pub stream : Stream
 
@@ -34,6 +37,32 @@ TriesToWrite old new text = Writes old new text ⊎ IsCutOff old new text
 
 abbrev pub CreatesNothing : Moment → Moment → Type 0
 CreatesNothing old new = new.created ≡ old.created
+
+-- it is asked for no file, and so fails at none
+abbrev pub AsksNothing : Moment → Moment → Type 0
+AsksNothing old new = (new.asked ≡ old.asked) × (new.failed ≡ old.failed)
+
+-- the folder is not used: nothing is created in it, it is asked for nothing, and it does not fail
+abbrev pub LeavesFolder : Moment → Moment → Type 0
+LeavesFolder old new = CreatesNothing old new × AsksNothing old new × (new.folder_failures ≡ old.folder_failures)
+
+-- The files of these names are loaded, and nothing else is done: the folder was asked for just the names of loading, and did
+-- not fail.
+pub record Loads (names : RolesRead) (old new : Moment) (files : FileTable) : Type 0 where
+  pub loaded : LoadsTo old.files (λ all. load_of all names) old.folder_failures new.folder_failures files
+  pub asks : AsksAll old.files names old.asked new.asked
+  pub unfailed : new.failed ≡ old.failed
+  pub files_stay : new.files ≡ old.files
+  pub nothing_created : CreatesNothing old new
+  pub nothing_written : new.stream ≡ old.stream
+
+-- Loading ended without its files: why; for which names the folder was asked until then, of which the last is the one that
+-- can't be read; and that it failed at none before that one.
+pub record StopsLoading (names : RolesRead) (old new : Moment) (ending : Ending) : Type 0 where
+  pub why : StopsFor old.files (λ all. load_of all names) old.folder_failures new.folder_failures ending
+  pub asks : AsksUntil old.files names old.asked new.asked ending
+  pub told : TellsLastAsked new.asked ending
+  pub fails : FailsLast new.asked old.failed new.failed old.folder_failures new.folder_failures
 
 -- The outputs before the one of this name are created whole, and of that one this part: no file, or a front of its bytes; where
 -- memory was wanting, no file. No output after it is created.
@@ -67,7 +96,7 @@ pub data TangledEnds (tangling : Tangling) (old new : Moment) (status : ℕ) : T
   IsDone : Writes old new (fault_lines tangling.faults) → new.created ≡ with_created old.created tangling.outputs
       → new.folder_failures ≡ old.folder_failures → status ≡ status_of tangling.faults → TangledEnds tangling old new status
   -- 3: the error stream fails at the lines of the faults, and no file is created
-  IsUnheard : IsCutOff old new (fault_lines tangling.faults) → CreatesNothing old new → status ≡ 3 → TangledEnds tangling old new status
+  IsUnheard : IsCutOff old new (fault_lines tangling.faults) → LeavesFolder old new → status ≡ 3 → TangledEnds tangling old new status
   -- 3: an output can't be written
   IsUnwritten : IsStopped tangling old new → status ≡ 3 → TangledEnds tangling old new status
 
@@ -76,30 +105,31 @@ pub record SessionEnds (files : FileTable) (names : RolesRead) (old new : Moment
   pub tangling : Tangling
   pub is : IsTanglingOf files names tangling
   pub ends : TangledEnds tangling old new status
+  pub asks_nothing : AsksNothing old new
 
 -- how a run ends whose words give these names
 pub data NamedEnds (names : RolesRead) (old new : Moment) (status : ℕ) : Type 0 where
   -- 3: a file can't be read, or is refused, or memory is wanting
-  IsUnloaded : (ending : Ending) → StopsFor old.files (λ all. load_of all names) old.folder_failures new.folder_failures ending
-      → TriesToWrite old new (ending_line (codes "ctangle") ending) → CreatesNothing old new → status ≡ 3 → NamedEnds names old new status
+  IsUnloaded : (ending : Ending) → StopsLoading names old new ending → TriesToWrite old new (ending_line (codes "ctangle") ending)
+      → CreatesNothing old new → status ≡ 3 → NamedEnds names old new status
   -- 3: the files are loaded, and memory is wanting to tangle them
-  IsUntangled : (files : FileTable) → LoadsTo old.files (λ all. load_of all names) old.folder_failures new.folder_failures files
-      → TriesToWrite old new no_memory_line → CreatesNothing old new → status ≡ 3 → NamedEnds names old new status
+  IsUntangled : (files : FileTable) (loaded : Moment) → Loads names old loaded files → TriesToWrite loaded new no_memory_line
+      → LeavesFolder loaded new → status ≡ 3 → NamedEnds names old new status
   -- they are loaded, and the session is started that tangles them: 0, 1 or 3
-  IsTangled : (files : FileTable) → IfSome old.files (λ all. load_of all names ≡ Ok files)
-      → SessionEnds files names old new status → NamedEnds names old new status
+  IsTangled : (files : FileTable) (loaded : Moment) → Loads names old loaded files → SessionEnds files names loaded new status
+      → NamedEnds names old new status
 
 -- how a run ends
 pub data RunEnds (words : List (List ℕ)) (old new : Moment) (status : ℕ) : Type 0 where
   -- 2: there is no name among the words, or more than three
-  IsMisused : names_of words ≡ None → Writes old new usage_line → CreatesNothing old new → status ≡ 2 → RunEnds words old new status
+  IsMisused : names_of words ≡ None → Writes old new usage_line → LeavesFolder old new → status ≡ 2 → RunEnds words old new status
   -- 3: the same, and the error stream fails
-  IsMisusedUnheard : names_of words ≡ None → IsCutOff old new usage_line → CreatesNothing old new → status ≡ 3 → RunEnds words old new status
+  IsMisusedUnheard : names_of words ≡ None → IsCutOff old new usage_line → LeavesFolder old new → status ≡ 3 → RunEnds words old new status
   -- 3: memory is wanting to read the words
-  IsUnnamed : TriesToWrite old new no_memory_line → CreatesNothing old new → status ≡ 3 → RunEnds words old new status
+  IsUnnamed : TriesToWrite old new no_memory_line → LeavesFolder old new → status ≡ 3 → RunEnds words old new status
   -- the words give names
   IsNamed : (names : RolesRead) → names_of words ≡ Some names → NamedEnds names old new status → RunEnds words old new status
 
--- nothing was read, created or written, and nothing failed
+-- nothing was read, created, asked for or written, and nothing failed
 abbrev pub quiet : Moment
-quiet = record { files = Some []; created = Some []; folder_failures = 0; stream = record { taken = Some []; failures = 0 } }
+quiet = record { files = Some []; created = Some []; asked = Some []; failed = Some []; folder_failures = 0; stream = record { taken = Some []; failures = 0 } }

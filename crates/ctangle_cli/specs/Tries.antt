@@ -1,16 +1,15 @@
 -- What loading has tried so far.
-use Rattle.std.specs.Prelude.{◌≡◌, ◌||◌, ℕ, Bool, true, List, [], ◌∷◌, ◌++◌, Option, None, Some, IfSome, All, Contains}
+use Rattle.std.specs.Prelude.{◌≡◌, ⊤, ◌||◌, ℕ, Bool, true, List, ◌++◌, Option, Some, IfSome, All, Contains}
 use Rattle.std.specs.List.{IsDistinct, list_any}
 use Rattle.std.specs.Str.{bytes_eq}
 use Rattle.tangle_files.specs.Adding.{has_file, is_name}
 use Rattle.tangle_files.specs.Lines.{FileTable}
 use Rattle.tangle_files.specs.Roles.{RolesRead}
+use Rattle.tangle_folders.specs.Folder.{File}
 use Rattle.ctangle_cli.specs.Asking.{AsksOnce, IsWanted}
-
--- the change file, if there is one
-abbrev pub named_in : Option (List ℕ) → List (List ℕ)
-named_in None = []
-named_in (Some name) = name ∷ []
+use Rattle.ctangle_cli.specs.Loading.{Ending}
+use Rattle.ctangle_cli.specs.Loading.Ending.{Unreadable, Refuses, Memory}
+use Rattle.ctangle_cli.specs.Questions.{StopsAmong, ask_all, asked_in, files_under}
 
 -- the names asked for so far, where the folder tells them, the files in the table, and the names that the folder doesn't have
 pub record Tries : Type 0 where
@@ -58,3 +57,29 @@ pub record TriesAll (old new : Tries) (names : List (List ℕ)) : Type 0 where
 -- what was asked for since, each once, was wanted, and is what was tried
 abbrev pub RoundsOnce : Option (List (List ℕ)) → Tries → RolesRead → Type 0
 RoundsOnce before now roles = (wanted : List (List ℕ)) × All (IsWanted now.files roles) wanted × TriesOnce before now wanted
+
+-- these names, one after another, were asked for since, and the table has the files that the folder has under them
+pub record HasAsked (all : List File) (before : List (List ℕ)) (now : Tries) (names : List (List ℕ)) : Type 0 where
+  pub behind : now.asked ≡ Some (before ++ names)
+  pub same : (name : List ℕ) → list_any (bytes_eq name) names ≡ is_tried now name
+  pub files : now.files ≡ files_under all names
+
+-- from one to the other these names were asked for, in this order, but for those that were asked for before
+abbrev pub GoesOn : Option (List File) → Tries → Tries → List (List ℕ) → Type 0
+GoesOn told old new names =
+    IfSome told (λ all. (before since : List (List ℕ)) → HasAsked all before old since → HasAsked all before new (ask_all since names))
+
+-- and where loading ends some of them, up to the one that the ending tells
+abbrev pub EndsAmong : Option (List File) → Tries → Option (List (List ℕ)) → List (List ℕ) → Ending → Type 0
+EndsAmong told old asked names ending =
+    IfSome told (λ all. (before since : List (List ℕ)) → HasAsked all before old since → StopsAmong (ask_all since names) before asked ending)
+
+-- an ending that tells this name, or none
+abbrev pub IsAbout : List ℕ → Ending → Type 0
+IsAbout name (Unreadable told) = told ≡ name
+IsAbout name (Refuses told refusal) = told ≡ name
+IsAbout name Memory = ⊤
+
+-- since the beginning of loading so many rounds were made
+abbrev pub InRounds : List File → RolesRead → List (List ℕ) → Tries → Type 0
+InRounds all roles before now = (rounds : ℕ) × HasAsked all before now (asked_in all roles rounds)

@@ -1,14 +1,15 @@
 //! Loading: the files that a run reads.
-ghost use Rattle.std.specs.Prelude.{◌≡◌, ◌≤◌, ◌∷◌, ◌||◌, ℕ, List, [], length, map, true, false, Option, unwrap_or, IfOk, IfErr, IfSome, OnOk, OnErr, None};
+ghost use Rattle.std.specs.Prelude.{◌≡◌, ◌≤◌, ◌∷◌, ◌||◌, ℕ, List, [], filter, length, map, true, false, Option, unwrap_or, IfOk, IfErr, IfSome, OnOk, OnErr, None};
 ghost use Rattle.std.specs.List.{list_any};
 ghost use Rattle.std.specs.Option.{option_copied};
 ghost use Rattle.std.specs.Str.{bytes_eq};
 ghost use Rattle.tangle_folders.specs.Folder.{file_limit};
-ghost use Rattle.tangle_files.specs.Adding.{has_file};
+ghost use Rattle.tangle_files.specs.Adding.{has_file, is_name};
 ghost use Rattle.tangle_files.specs.Roles.{fits, is_there, is_there_if_any};
 ghost use Rattle.tangle_files.specs.Lines.{FileTable};
 ghost use Rattle.ctangle_cli.specs.Asking.{AsksForAll, AsksOnce};
-ghost use Rattle.ctangle_cli.specs.Tries.{AsksOn, RoundsOnce, StopsAsking, TriesAll, named_in, tried};
+ghost use Rattle.ctangle_cli.specs.Questions.{AsksAll, AsksUntil, AsksWhole, FailsLast, StopsAmong, asked_in, named_in};
+ghost use Rattle.ctangle_cli.specs.Tries.{AsksOn, EndsAmong, GoesOn, InRounds, IsAbout, RoundsOnce, StopsAsking, TriesAll, tried};
 ghost use Rattle.ctangle_cli.specs.Loading.{AreAbsent, Grows, IsEnding, IsSettled, LoadsTo, StopsFor, TellsLastAsked, add_bytes, bad_name, ending_of, is_missing_kind, load_of, load_unless, misses_file, missed_in, missing_of, refused_as, rounds_from, with_change, with_inclusion, with_inclusions, with_wanted};
 ghost use Rattle.ctangle_cli.specs.Loading.Ending.{Unreadable};
 
@@ -124,6 +125,7 @@ fn add_file(alloc: Global, files: &mut Files, name: &[u8], bytes: Vec<u8>) -> Re
     ensures err { IfErr result (λ fault. (told : Option _) (n : ℕ)
         → StopsFor told (λ _. add_bytes files.old name.now bytes.items) n n (ending_of fault)) }
     ensures told { IfErr result (λ fault. (asked : Option _) → TellsLastAsked asked (ending_of fault)) }
+    ensures about { IfErr result (λ fault. IsAbout name.now (ending_of fault)) }
 {
     match files.add_owned(name, bytes) {
         Ok(()) => Ok(()),
@@ -149,6 +151,13 @@ fn read_wanted<F: Folder>(
     ensures asks { OnOk result (AsksOn (tried (F.asked folder.old) files.old []) (tried (F.asked folder.new) files.new [])
         (name.now ∷ [])) }
     ensures stops { OnErr result (StopsAsking (tried (F.asked folder.old) files.old []) (F.asked folder.new)) }
+    ensures order { OnOk result (GoesOn (F.files folder.old) (tried (F.asked folder.old) files.old [])
+        (tried (F.asked folder.new) files.new []) (name.now ∷ [])) }
+    ensures ends { IfErr result (λ fault. EndsAmong (F.files folder.old) (tried (F.asked folder.old) files.old [])
+        (F.asked folder.new) (name.now ∷ []) (ending_of fault)) }
+    ensures unfailed { OnOk result (F.failed folder.new ≡ F.failed folder.old) }
+    ensures fails { OnErr result (FailsLast (F.asked folder.new) (F.failed folder.old) (F.failed folder.new)
+        (F.failures folder.old) (F.failures folder.new)) }
     ensures files_stay { F.files folder.new ≡ F.files folder.old }
     ensures created_stay { F.created folder.new ≡ F.created folder.old }
 {
@@ -179,6 +188,13 @@ fn read_change<F: Folder>(
     ensures asks { OnOk result (AsksOn (tried (F.asked folder.old) files.old []) (tried (F.asked folder.new) files.new [])
         (named_in (option_copied change.entry))) }
     ensures stops { OnErr result (StopsAsking (tried (F.asked folder.old) files.old []) (F.asked folder.new)) }
+    ensures order { OnOk result (GoesOn (F.files folder.old) (tried (F.asked folder.old) files.old [])
+        (tried (F.asked folder.new) files.new []) (named_in (option_copied change.entry))) }
+    ensures ends { IfErr result (λ fault. EndsAmong (F.files folder.old) (tried (F.asked folder.old) files.old [])
+        (F.asked folder.new) (named_in (option_copied change.entry)) (ending_of fault)) }
+    ensures unfailed { OnOk result (F.failed folder.new ≡ F.failed folder.old) }
+    ensures fails { OnErr result (FailsLast (F.asked folder.new) (F.failed folder.old) (F.failed folder.new)
+        (F.failures folder.old) (F.failures folder.new)) }
     ensures files_stay { F.files folder.new ≡ F.files folder.old }
     ensures created_stay { F.created folder.new ≡ F.created folder.old }
 {
@@ -214,6 +230,13 @@ fn read_inclusion<F: Folder>(
     ensures tries { OnOk result (TriesAll (tried (F.asked folder.old) files.old absent.old)
         (tried (F.asked folder.new) files.new absent.new) (name.now ∷ [])) }
     ensures stops { OnErr result (StopsAsking (tried (F.asked folder.old) files.old absent.old) (F.asked folder.new)) }
+    ensures order { OnOk result (GoesOn (F.files folder.old) (tried (F.asked folder.old) files.old absent.old)
+        (tried (F.asked folder.new) files.new absent.new) (filter is_name (name.now ∷ []))) }
+    ensures ends { IfErr result (λ fault. EndsAmong (F.files folder.old) (tried (F.asked folder.old) files.old absent.old)
+        (F.asked folder.new) (filter is_name (name.now ∷ [])) (ending_of fault)) }
+    ensures unfailed { OnOk result (F.failed folder.new ≡ F.failed folder.old) }
+    ensures fails { OnErr result (FailsLast (F.asked folder.new) (F.failed folder.old) (F.failed folder.new)
+        (F.failures folder.old) (F.failures folder.new)) }
     ensures files_stay { F.files folder.new ≡ F.files folder.old }
     ensures created_stay { F.created folder.new ≡ F.created folder.old }
 {
@@ -263,6 +286,13 @@ fn read_inclusions<F: Folder>(
     ensures tries { OnOk result (TriesAll (tried (F.asked folder.old) files.old absent.old)
         (tried (F.asked folder.new) files.new absent.new) (missed_in faults.now)) }
     ensures stops { OnErr result (StopsAsking (tried (F.asked folder.old) files.old absent.old) (F.asked folder.new)) }
+    ensures order { OnOk result (GoesOn (F.files folder.old) (tried (F.asked folder.old) files.old absent.old)
+        (tried (F.asked folder.new) files.new absent.new) (filter is_name (missed_in faults.now))) }
+    ensures ends { IfErr result (λ fault. EndsAmong (F.files folder.old) (tried (F.asked folder.old) files.old absent.old)
+        (F.asked folder.new) (filter is_name (missed_in faults.now)) (ending_of fault)) }
+    ensures unfailed { OnOk result (F.failed folder.new ≡ F.failed folder.old) }
+    ensures fails { OnErr result (FailsLast (F.asked folder.new) (F.failed folder.old) (F.failed folder.new)
+        (F.failures folder.old) (F.failures folder.new)) }
     ensures files_stay { F.files folder.new ≡ F.files folder.old }
     ensures created_stay { F.created folder.new ≡ F.created folder.old }
 {
@@ -339,6 +369,15 @@ fn read_rounds<F: Folder>(
         → AsksForAll before (F.asked folder.new) files.new roles.now) }
     ensures stops { OnErr result ((before : Option _) → RoundsOnce before (tried (F.asked folder.old) files.old []) roles.now
         → AsksOnce before (F.asked folder.new)) }
+    ensures order { OnOk result (IfSome (F.files folder.old) (λ all. (before : List _)
+        → InRounds all roles.now before (tried (F.asked folder.old) files.old [])
+        → AsksWhole all roles.now before (F.asked folder.new))) }
+    ensures ends { IfErr result (λ fault. IfSome (F.files folder.old) (λ all. (before : List _)
+        → InRounds all roles.now before (tried (F.asked folder.old) files.old [])
+        → (rounds : ℕ) × StopsAmong (asked_in all roles.now rounds) before (F.asked folder.new) (ending_of fault))) }
+    ensures unfailed { OnOk result (F.failed folder.new ≡ F.failed folder.old) }
+    ensures fails { OnErr result (FailsLast (F.asked folder.new) (F.failed folder.old) (F.failed folder.new)
+        (F.failures folder.old) (F.failures folder.new)) }
     ensures files_stay { F.files folder.new ≡ F.files folder.old }
     ensures created_stay { F.created folder.new ≡ F.created folder.old }
 {
@@ -380,6 +419,12 @@ fn load_files<F: Folder>(alloc: Global, roles: &Roles, folder: &mut F) -> Result
     ensures told { IfErr result (λ fault. TellsLastAsked (F.asked folder.new) (ending_of fault)) }
     ensures asks { IfOk result (λ files. AsksForAll (F.asked folder.old) (F.asked folder.new) files roles.now) }
     ensures once { AsksOnce (F.asked folder.old) (F.asked folder.new) }
+    ensures order { OnOk result (AsksAll (F.files folder.old) roles.now (F.asked folder.old) (F.asked folder.new)) }
+    ensures ends { IfErr result (λ fault. bad_name roles.now ≡ None
+        → AsksUntil (F.files folder.old) roles.now (F.asked folder.old) (F.asked folder.new) (ending_of fault)) }
+    ensures unfailed { OnOk result (F.failed folder.new ≡ F.failed folder.old) }
+    ensures fails { OnErr result (FailsLast (F.asked folder.new) (F.failed folder.old) (F.failed folder.new)
+        (F.failures folder.old) (F.failures folder.new)) }
     ensures files_stay { F.files folder.new ≡ F.files folder.old }
     ensures created_stay { F.created folder.new ≡ F.created folder.old }
 {
@@ -420,6 +465,12 @@ pub fn load<F: Folder>(
     ensures told { IfErr result (λ fault. TellsLastAsked (F.asked folder.new) (ending_of fault)) }
     ensures asks { IfOk result (λ r. AsksForAll (F.asked folder.old) (F.asked folder.new) r.0 r.1) }
     ensures once { AsksOnce (F.asked folder.old) (F.asked folder.new) }
+    ensures order { OnOk result (AsksAll (F.files folder.old) words.now (F.asked folder.old) (F.asked folder.new)) }
+    ensures ends { IfErr result (λ fault. AsksUntil (F.files folder.old) words.now (F.asked folder.old) (F.asked folder.new)
+        (ending_of fault)) }
+    ensures unfailed { OnOk result (F.failed folder.new ≡ F.failed folder.old) }
+    ensures fails { OnErr result (FailsLast (F.asked folder.new) (F.failed folder.old) (F.failed folder.new)
+        (F.failures folder.old) (F.failures folder.new)) }
     ensures files_stay { F.files folder.new ≡ F.files folder.old }
     ensures created_stay { F.created folder.new ≡ F.created folder.old }
 {

@@ -1,9 +1,7 @@
 //! A run of `ctangle`.
-ghost use Rattle.std.specs.Prelude.{◌≡◌, ℕ, List, Option, IfOk, map};
-ghost use Rattle.tangle_folders.specs.Folder.{File};
-ghost use Rattle.ctangle_cli.specs.Loading.{LoadsTo, load_of};
+ghost use Rattle.std.specs.Prelude.{◌≡◌, ℕ, List, IfOk, map};
 ghost use Rattle.ctangle_cli.specs.Messages.{status_of};
-ghost use Rattle.ctangle_cli.specs.Run.{NamedEnds, RunEnds, SessionEnds, quiet};
+ghost use Rattle.ctangle_cli.specs.Run.{Loads, Moment, NamedEnds, RunEnds, SessionEnds, quiet};
 
 use crate::laws::output_names_differ;
 use crate::loading::{LoadFault, load};
@@ -37,12 +35,16 @@ fn run_session<F: Folder, E: Sink>(
         (record {
           files = F.files folder.old;
           created = F.created folder.old;
+          asked = F.asked folder.old;
+          failed = F.failed folder.old;
           folder_failures = F.failures folder.old;
           stream = E.stream err.old;
         })
         (record {
           files = F.files folder.new;
           created = F.created folder.new;
+          asked = F.asked folder.new;
+          failed = F.failed folder.new;
           folder_failures = F.failures folder.new;
           stream = E.stream err.new;
         }) result }
@@ -99,18 +101,21 @@ fn run_loaded<F: Folder, E: Sink>(
     folder: &mut F,
     err: &mut E,
 ) -> Ended
-    ensures { (all created : Option (List File)) (failures : ℕ)
-        → LoadsTo all (λ all. load_of all roles) failures (F.failures folder.old) files
-        → F.files folder.old ≡ all → F.created folder.old ≡ created → NamedEnds roles
+    ensures { (old : Moment) → Loads roles old
         (record {
-          files = all;
-          created = created;
-          folder_failures = failures;
+          files = F.files folder.old;
+          created = F.created folder.old;
+          asked = F.asked folder.old;
+          failed = F.failed folder.old;
+          folder_failures = F.failures folder.old;
           stream = E.stream err.old;
-        })
+        }) files
+        → NamedEnds roles old
         (record {
           files = F.files folder.new;
           created = F.created folder.new;
+          asked = F.asked folder.new;
+          failed = F.failed folder.new;
           folder_failures = F.failures folder.new;
           stream = E.stream err.new;
         }) result.status }
@@ -134,12 +139,16 @@ fn run_named<F: Folder, E: Sink>(alloc: Global, words: &Words, folder: &mut F, e
         (record {
           files = F.files folder.old;
           created = F.created folder.old;
+          asked = F.asked folder.old;
+          failed = F.failed folder.old;
           folder_failures = F.failures folder.old;
           stream = E.stream err.old;
         })
         (record {
           files = F.files folder.new;
           created = F.created folder.new;
+          asked = F.asked folder.new;
+          failed = F.failed folder.new;
           folder_failures = F.failures folder.new;
           stream = E.stream err.new;
         }) result.status }
@@ -165,12 +174,16 @@ pub fn run_keeping_session<F: Folder, E: Sink>(
         (record {
           files = F.files folder.old;
           created = F.created folder.old;
+          asked = F.asked folder.old;
+          failed = F.failed folder.old;
           folder_failures = F.failures folder.old;
           stream = E.stream err.old;
         })
         (record {
           files = F.files folder.new;
           created = F.created folder.new;
+          asked = F.asked folder.new;
+          failed = F.failed folder.new;
           folder_failures = F.failures folder.new;
           stream = E.stream err.new;
         }) result.status }
@@ -210,12 +223,16 @@ pub fn run_ctangle<F: Folder, E: Sink>(
         (record {
           files = F.files folder.old;
           created = F.created folder.old;
+          asked = F.asked folder.old;
+          failed = F.failed folder.old;
           folder_failures = F.failures folder.old;
           stream = E.stream err.old;
         })
         (record {
           files = F.files folder.new;
           created = F.created folder.new;
+          asked = F.asked folder.new;
+          failed = F.failed folder.new;
           folder_failures = F.failures folder.new;
           stream = E.stream err.new;
         }) result }

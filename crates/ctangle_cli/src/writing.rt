@@ -30,6 +30,8 @@ fn write_file<F: Folder>(
     ensures nothing { IfErr result (λ fault. fault ≡ NoMemory → F.created folder.new ≡ F.created folder.old) }
     ensures failed { IfErr result (λ fault. fault ≢ NoMemory → Failed (F.failures folder.old) (F.failures folder.new)) }
     ensures unfailed_memory { IfErr result (λ fault. fault ≡ NoMemory → F.failures folder.new ≡ F.failures folder.old) }
+    ensures asked_stay { F.asked folder.new ≡ F.asked folder.old }
+    ensures failed_stay { F.failed folder.new ≡ F.failed folder.old }
     ensures files_stay { F.files folder.new ≡ F.files folder.old }
 {
     let mut out = folder.create(alloc, name)?;
@@ -63,6 +65,8 @@ pub fn write_outputs<'a, F: Folder>(
         (F.created folder.old) (F.created folder.new) stop.name.now stop.fault) }
     ensures failed { IfErr result (λ stop. stop.fault ≢ NoMemory → Failed (F.failures folder.old) (F.failures folder.new)) }
     ensures unfailed_memory { IfErr result (λ stop. stop.fault ≡ NoMemory → F.failures folder.new ≡ F.failures folder.old) }
+    ensures asked_stay { F.asked folder.new ≡ F.asked folder.old }
+    ensures failed_stay { F.failed folder.new ≡ F.failed folder.old }
 {
     let names = session.output_names();
     for (index, name) in names.enumerate() {

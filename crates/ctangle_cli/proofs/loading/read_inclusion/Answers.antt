@@ -1,10 +1,12 @@
 use Rattle.std.proofs.Common.{◌≡◌, false, true, refl, sym, ◌∙◌}
-use Rattle.std.proofs.lemmas.Result.{IfErr-weaker, on_ok_weaker}
+use Rattle.std.proofs.lemmas.Result.{IfErr-weaker, err_from_is_err_and, on_ok_weaker}
 use Rattle.tangle_files.specs.Adding.{has_file, is_name}
 use Rattle.ctangle_cli.specs.Tries.{tried}
 use Rattle.ctangle_cli.specs.Loading.{ending_of}
+use Rattle.ctangle_cli.specs.Loading.Ending.{Memory}
 use Rattle.ctangle_cli.proofs.AskLemmas.{always_err, asks_this, stops_at, stops_short, tries_absent, tries_added, tries_this, untried}
 use Rattle.ctangle_cli.proofs.LoadLemmas.{stops_along, included_bytes, absent_adds_none}
+use Rattle.ctangle_cli.proofs.OrderLemmas.{ends_about, ends_at, found_added, found_none, goes_asked, named_ends, named_goes}
 use Rattle.ctangle_cli.proofs.loading.read_inclusion.Goals as goal
 
 pub returns-in-Ok-clause-err : goal.returns-in-Ok-clause-err
@@ -77,3 +79,54 @@ pub returns-in-Err-NoMemory-clause-stops : goal.returns-in-Err-NoMemory-clause-s
 returns-in-Err-NoMemory-clause-stops g c =
     stops_short _ _ c.args.name.now (untried _ _ (sym c.has.ensures ∙ c.if-has.false) (sym c.contains.ensures ∙ c.if-contains.false))
     (rw c.in-Err-NoMemory.field-0-is at c.in-Err-NoMemory.ensures.asks)
+
+pub returns-in-Ok-clause-order : goal.returns-in-Ok-clause-order
+returns-in-Ok-clause-order g c =
+    let old = tried (g.F.Folder.asked c.args.folder.now) c.args.files.now c.args.absent.now in
+    let new = tried (g.F.Folder.asked c.read_file.new.self) c.add_file.new.files c.args.absent.now in
+    on_ok_weaker c.add_file.result
+    (λ ok. named_goes (g.F.Folder.files c.args.folder.now) old new c.args.name.now (sym c.is_file_name.ensures ∙ c.if-not-is_file_name.false)
+    (goes_asked (g.F.Folder.files c.args.folder.now) old new c.args.name.now (untried _ _ (sym c.has.ensures ∙ c.if-has.false) (sym c.contains.ensures ∙ c.if-contains.false)) c.in-Ok.ensures.asks
+    (tries_added old.asked new.asked c.args.files.now c.add_file.new.files c.args.absent.now c.args.name.now c.in-Ok.bytes.items ok)
+    (found_added (g.F.Folder.files c.args.folder.now) c.args.files.now c.add_file.new.files c.args.name.now c.in-Ok.bytes c.in-Ok.ensures.answer ok)))
+    c.add_file.ensures.ok
+
+pub returns-in-Ok-clause-ends : goal.returns-in-Ok-clause-ends
+returns-in-Ok-clause-ends g c =
+    let old = tried (g.F.Folder.asked c.args.folder.now) c.args.files.now c.args.absent.now in
+    let asked = g.F.Folder.asked c.read_file.new.self in
+    IfErr-weaker c.add_file.result _ _
+    (λ fault about. named_ends (g.F.Folder.files c.args.folder.now) old asked c.args.name.now (ending_of fault) (sym c.is_file_name.ensures ∙ c.if-not-is_file_name.false)
+    (ends_about (g.F.Folder.files c.args.folder.now) old asked c.args.name.now (ending_of fault) (untried _ _ (sym c.has.ensures ∙ c.if-has.false) (sym c.contains.ensures ∙ c.if-contains.false)) c.in-Ok.ensures.asks about))
+    c.add_file.ensures.about
+
+pub returns-in_ok-insert-in-Err-Missing-clause-order : goal.returns-in_ok-insert-in-Err-Missing-clause-order
+returns-in_ok-insert-in-Err-Missing-clause-order g c =
+    let old = tried (g.F.Folder.asked c.args.folder.now) c.args.files.now c.args.absent.now in
+    let new = tried (g.F.Folder.asked c.read_file.new.self) c.args.files.now c.insert.new.self in
+    named_goes (g.F.Folder.files c.args.folder.now) old new c.args.name.now (sym c.is_file_name.ensures ∙ c.if-not-is_file_name.false)
+    (goes_asked (g.F.Folder.files c.args.folder.now) old new c.args.name.now (untried _ _ (sym c.has.ensures ∙ c.if-has.false) (sym c.contains.ensures ∙ c.if-contains.false)) (rw c.in-Err-Missing.field-0-is at c.in-Err-Missing.ensures.asks)
+    (tries_absent old.asked new.asked c.args.files.now c.args.absent.now c.insert.new.self c.args.name.now c.in_ok-insert-in-Err-Missing.ensures.holds)
+    (found_none (g.F.Folder.files c.args.folder.now) c.args.files.now c.args.name.now (rw c.in-Err-Missing.field-0-is at c.in-Err-Missing.ensures.answer)))
+
+pub returns-in_err-insert-in-Err-Missing-clause-ends : goal.returns-in_err-insert-in-Err-Missing-clause-ends
+returns-in_err-insert-in-Err-Missing-clause-ends g c =
+    let left = err_from_is_err_and c.from_residual.result c.from_residual.ensures.1 in
+    let old = tried (g.F.Folder.asked c.args.folder.now) c.args.files.now c.args.absent.now in
+    let asked = g.F.Folder.asked c.read_file.new.self in
+    rw (left.1, left.2) (named_ends (g.F.Folder.files c.args.folder.now) old asked c.args.name.now Memory (sym c.is_file_name.ensures ∙ c.if-not-is_file_name.false)
+    (ends_about (g.F.Folder.files c.args.folder.now) old asked c.args.name.now Memory (untried _ _ (sym c.has.ensures ∙ c.if-has.false) (sym c.contains.ensures ∙ c.if-contains.false)) (rw c.in-Err-Missing.field-0-is at c.in-Err-Missing.ensures.asks) tt))
+
+pub returns-in-Err-TooBig-clause-ends : goal.returns-in-Err-TooBig-clause-ends
+returns-in-Err-TooBig-clause-ends g c =
+    let old = tried (g.F.Folder.asked c.args.folder.now) c.args.files.now c.args.absent.now in
+    let asked = g.F.Folder.asked c.read_file.new.self in
+    named_ends (g.F.Folder.files c.args.folder.now) old asked c.args.name.now (ending_of c.cannot_read.result) (sym c.is_file_name.ensures ∙ c.if-not-is_file_name.false)
+    (ends_at (g.F.Folder.files c.args.folder.now) old asked c.args.name.now (ending_of c.cannot_read.result) (untried _ _ (sym c.has.ensures ∙ c.if-has.false) (sym c.contains.ensures ∙ c.if-contains.false)) (rw c.in-Err-TooBig.field-0-is at c.in-Err-TooBig.ensures.asks) c.cannot_read.ensures)
+
+pub returns-in-Err-Failed-clause-ends : goal.returns-in-Err-Failed-clause-ends
+returns-in-Err-Failed-clause-ends g c =
+    let old = tried (g.F.Folder.asked c.args.folder.now) c.args.files.now c.args.absent.now in
+    let asked = g.F.Folder.asked c.read_file.new.self in
+    named_ends (g.F.Folder.files c.args.folder.now) old asked c.args.name.now (ending_of c.cannot_read-in-Err-Failed.result) (sym c.is_file_name.ensures ∙ c.if-not-is_file_name.false)
+    (ends_at (g.F.Folder.files c.args.folder.now) old asked c.args.name.now (ending_of c.cannot_read-in-Err-Failed.result) (untried _ _ (sym c.has.ensures ∙ c.if-has.false) (sym c.contains.ensures ∙ c.if-contains.false)) (rw c.in-Err-Failed.field-0-is at c.in-Err-Failed.ensures.asks) c.cannot_read-in-Err-Failed.ensures)

@@ -4,6 +4,7 @@ use Rattle.ctangle_cli.specs.Loading.{ending_of}
 use Rattle.ctangle_cli.specs.Tries.{tried}
 use Rattle.ctangle_cli.proofs.AskLemmas.{always_err, asks_this, or_false, stops_at, stops_short, tries_added}
 use Rattle.ctangle_cli.proofs.LoadLemmas.{stops_along, wanted_bytes}
+use Rattle.ctangle_cli.proofs.OrderLemmas.{ends_about, found_added, goes_asked}
 use Rattle.ctangle_cli.proofs.loading.read_wanted.Goals as goal
 
 pub returns-in-Ok-clause-err : goal.returns-in-Ok-clause-err
@@ -41,3 +42,20 @@ returns-in-Err-Failed-clause-stops g c = stops_at _ _ c.args.name.now (or_false 
 
 pub returns-in-Err-NoMemory-clause-stops : goal.returns-in-Err-NoMemory-clause-stops
 returns-in-Err-NoMemory-clause-stops g c = stops_short _ _ c.args.name.now (or_false _ ∙ c.requires) (rw c.in-Err-NoMemory.field-0-is at c.in-Err-NoMemory.ensures.asks)
+
+pub returns-in-Ok-clause-order : goal.returns-in-Ok-clause-order
+returns-in-Ok-clause-order g c =
+    let old = tried (g.F.Folder.asked c.args.folder.now) c.args.files.now [] in
+    let new = tried (g.F.Folder.asked c.read_file.new.self) c.add_file.new.files [] in
+    on_ok_weaker c.add_file.result
+    (λ ok. goes_asked (g.F.Folder.files c.args.folder.now) old new c.args.name.now (or_false _ ∙ c.requires) c.in-Ok.ensures.asks
+    (tries_added old.asked new.asked c.args.files.now c.add_file.new.files [] c.args.name.now c.in-Ok.bytes.items ok)
+    (found_added (g.F.Folder.files c.args.folder.now) c.args.files.now c.add_file.new.files c.args.name.now c.in-Ok.bytes c.in-Ok.ensures.answer ok))
+    c.add_file.ensures.ok
+
+pub returns-in-Ok-clause-ends : goal.returns-in-Ok-clause-ends
+returns-in-Ok-clause-ends g c =
+    let old = tried (g.F.Folder.asked c.args.folder.now) c.args.files.now [] in
+    IfErr-weaker c.add_file.result _ _
+    (λ fault about. ends_about (g.F.Folder.files c.args.folder.now) old (g.F.Folder.asked c.read_file.new.self) c.args.name.now (ending_of fault) (or_false _ ∙ c.requires) c.in-Ok.ensures.asks about)
+    c.add_file.ensures.about

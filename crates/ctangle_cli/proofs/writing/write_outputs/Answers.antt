@@ -17,6 +17,8 @@ loop-index-preserved g c =
     record {
       written = wrote_next (outputs_of c.args.session.now.files c.args.session.now.roles) _ _ _ c.in-Some.name.now _ next c.in-Ok.ensures.whole;
       unfailed = c.in-Ok.ensures.unfailed ∙ c.loop-index.invariant.unfailed;
+      asked_stay = c.in-Ok.ensures.asked_stay ∙ c.loop-index.invariant.asked_stay;
+      failed_stay = c.in-Ok.ensures.failed_stay ∙ c.loop-index.invariant.failed_stay;
     }
 
 pub returns-in-Err-clause-stopped : goal.returns-in-Err-clause-stopped

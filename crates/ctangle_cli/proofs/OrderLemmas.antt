@@ -1,0 +1,395 @@
+-- In which order loading asks, step by step.
+use Rattle.std.proofs.Common.{◌≡◌, ◌∙◌, ◌⊎◌, inl, inr, ℕ, zero, suc, Bool, true, false, cond, not, ◌||◌, List, [], ◌∷◌, ◌++◌, Option, Some, None, Ok, Err, ap, subst, sym, refl, append_assoc, append-nil}
+use Rattle.std.specs.Prelude.{IfSome, filter, ⊤}
+use Rattle.std.specs.List.{list_any}
+use Rattle.std.specs.Str.{bytes_eq}
+use Rattle.std.specs.declared.vec.Vec.{Vec}
+use Rattle.std.specs.Global.{Global}
+use Rattle.std.proofs.lemmas.List.Folds.{list_any-append}
+use Rattle.std.proofs.lemmas.Slice.Eq.{bytes_eq-Decides}
+use Rattle.tangle_files.specs.declared.refusal.Refusal.{Refusal}
+use Rattle.tangle_files.specs.declared.refusal.Refusal.TheVariants.{NoMemory as NoRoom}
+use Rattle.tangle_files.specs.Lines.{FileTable}
+use Rattle.tangle_files.specs.Adding.{has_file, is_name}
+use Rattle.tangle_files.specs.Roles.{RolesRead}
+use Rattle.tangle_streams.specs.Streams.{one_more_failure}
+use Rattle.tangle_folders.specs.declared.folder.FolderFault.TheVariants.{Missing}
+use Rattle.tangle_folders.specs.Folder.{File, Reads, bytes_of, with_asked}
+use Rattle.ctangle_cli.specs.Loading.{Ending, IsAskedLast, IsEnding, add_bytes, bad_name, missing_of, refused_as}
+use Rattle.ctangle_cli.specs.Loading.Ending.{Unreadable, Refuses, Memory}
+use Rattle.ctangle_cli.specs.Questions.{AsksAll, AsksFront, AsksSome, AsksUntil, AsksUpTo, AsksWhole, FailsLast, StopsAmong, ask, ask_all, asked_in, asked_unless, file_if_there, files_under, named_in}
+use Rattle.ctangle_cli.specs.Tries.{EndsAmong, GoesOn, HasAsked, InRounds, IsAbout, Tries, is_tried, tried}
+use Rattle.ctangle_cli.proofs.AskLemmas.{TriesThis, added, behind_more, or_false, or_left, or_right}
+
+-- a name that is new, and one that is not
+ask_new : (asked : List (List ℕ)) (name : List ℕ) → list_any (bytes_eq name) asked ≡ false → ask asked name ≡ asked ++ name ∷ []
+ask_new asked name e = ap (λ b. cond b asked (asked ++ name ∷ [])) e
+
+ask_old : (asked : List (List ℕ)) (name : List ℕ) → list_any (bytes_eq name) asked ≡ true → ask asked name ≡ asked
+ask_old asked name e = ap (λ b. cond b asked (asked ++ name ∷ [])) e
+
+-- what was asked for stays in front
+ask_front : (asked : List (List ℕ)) (name : List ℕ) → (more : List (List ℕ)) × (ask asked name ≡ asked ++ more)
+ask_front asked name = by (list_any (bytes_eq name) asked)
+  where
+    by : (b : Bool) → (more : List (List ℕ)) × (cond b asked (asked ++ name ∷ []) ≡ asked ++ more)
+    by true = ([], sym (append-nil asked))
+    by false = (name ∷ [], refl)
+
+ask_all_front : (asked names : List (List ℕ)) → (more : List (List ℕ)) × (ask_all asked names ≡ asked ++ more)
+ask_all_front asked [] = ([], sym (append-nil asked))
+ask_all_front asked (name ∷ names) =
+    let here = ask_front asked name in
+    let rest = ask_all_front (ask asked name) names in
+    (here.0 ++ rest.0, rest.1 ∙ ap (λ l. l ++ rest.0) here.1 ∙ append_assoc asked here.0 rest.0)
+
+-- asking again asks for nothing
+abbrev AreAsked : List (List ℕ) → List (List ℕ) → Type 0
+AreAsked asked [] = ⊤
+AreAsked asked (name ∷ names) = (list_any (bytes_eq name) asked ≡ true) × AreAsked asked names
+
+stays_asked : (asked names : List (List ℕ)) (name : List ℕ) → list_any (bytes_eq name) asked ≡ true → list_any (bytes_eq name) (ask_all asked names) ≡ true
+stays_asked asked names name e =
+    let front = ask_all_front asked names in
+    ap (list_any (bytes_eq name)) front.1 ∙ list_any-append (bytes_eq name) asked front.0 ∙ or_left (list_any (bytes_eq name) asked) (list_any (bytes_eq name) front.0) e
+
+is_asked : (asked : List (List ℕ)) (name : List ℕ) → list_any (bytes_eq name) (ask asked name) ≡ true
+is_asked asked name = by (list_any (bytes_eq name) asked) refl
+  where
+    by : (b : Bool) → list_any (bytes_eq name) asked ≡ b → list_any (bytes_eq name) (cond b asked (asked ++ name ∷ [])) ≡ true
+    by true e = e
+    by false e =
+        list_any-append (bytes_eq name) asked (name ∷ [])
+        ∙ or_right (list_any (bytes_eq name) asked) (bytes_eq name name || false) (or_false (bytes_eq name name) ∙ (bytes_eq-Decides name name).1 refl)
+
+become_asked : (asked names : List (List ℕ)) → AreAsked (ask_all asked names) names
+become_asked asked [] = tt
+become_asked asked (name ∷ names) = (stays_asked (ask asked name) names name (is_asked asked name), become_asked (ask asked name) names)
+
+none_new : (asked names : List (List ℕ)) → AreAsked asked names → ask_all asked names ≡ asked
+none_new asked [] h = refl
+none_new asked (name ∷ names) h = ap (λ l. ask_all l names) (ask_old asked name h.0) ∙ none_new asked names h.1
+
+ask_again : (asked names : List (List ℕ)) → ask_all (ask_all asked names) names ≡ ask_all asked names
+ask_again asked names = none_new (ask_all asked names) names (become_asked asked names)
+
+files_under-append : (all : List File) (xs ys : List (List ℕ)) → files_under all (xs ++ ys) ≡ files_under all xs ++ files_under all ys
+files_under-append all [] ys = refl
+files_under-append all (x ∷ xs) ys =
+    ap (λ t. file_if_there x (bytes_of all x) ++ t) (files_under-append all xs ys)
+    ∙ sym (append_assoc (file_if_there x (bytes_of all x)) (files_under all xs) (files_under all ys))
+
+nothing_yet : (all : List File) (before : List (List ℕ)) → HasAsked all before (record { asked = Some before; files = []; absent = [] }) []
+nothing_yet all before = record { behind = ap (λ l. Some l) (sym (append-nil before)); same = λ name. refl; files = refl }
+
+-- the folder was asked for this name, and answered
+pub goes_asked : (told : Option (List File)) (old new : Tries) (name : List ℕ) → is_tried old name ≡ false → new.asked ≡ with_asked old.asked name → TriesThis old new name
+    → IfSome told (λ all. new.files ≡ old.files ++ file_if_there name (bytes_of all name)) → GoesOn told old new (name ∷ [])
+goes_asked None old new name fresh asks this found = tt
+goes_asked (Some all) old new name fresh asks this found = λ before since h.
+    subst (HasAsked all before new) (sym (ask_new since name (h.same name ∙ fresh))) (record {
+      behind = behind_more before since old.asked new.asked name h.behind asks;
+      same = λ other. list_any-append (bytes_eq other) since (name ∷ []) ∙ ap (λ b. b || (bytes_eq other name || false)) (h.same other)
+          ∙ ap (λ b. is_tried old other || b) (or_false (bytes_eq other name)) ∙ sym (this other);
+      files = found ∙ ap (λ t. t ++ file_if_there name (bytes_of all name)) h.files
+          ∙ ap (λ t. files_under all since ++ t) (sym (append-nil (file_if_there name (bytes_of all name)))) ∙ sym (files_under-append all since (name ∷ []));
+    })
+
+pub found_added : (told : Option (List File)) (files next : FileTable) (name : List ℕ) (bytes : Vec ℕ Global) → Reads told name (Ok bytes) → add_bytes files name bytes.items ≡ Ok next
+    → IfSome told (λ all. next ≡ files ++ file_if_there name (bytes_of all name))
+found_added None files next name bytes h e = tt
+found_added (Some all) files next name bytes h e = sym (added files next name bytes.items e) ∙ ap (λ o. files ++ file_if_there name o) (sym h)
+
+pub found_none : (told : Option (List File)) (files : FileTable) (name : List ℕ) → Reads told name (Err Missing) → IfSome told (λ all. files ≡ files ++ file_if_there name (bytes_of all name))
+found_none None files name h = tt
+found_none (Some all) files name h = sym (append-nil files) ∙ ap (λ o. files ++ file_if_there name o) (sym h)
+
+-- the folder was not asked
+pub goes_none : (told : Option (List File)) (old : Tries) → GoesOn told old old []
+goes_none None old = tt
+goes_none (Some all) old = λ before since h. h
+
+pub goes_tried : (told : Option (List File)) (old : Tries) (name : List ℕ) → is_tried old name ≡ true → GoesOn told old old (name ∷ [])
+goes_tried None old name e = tt
+goes_tried (Some all) old name e = λ before since h. subst (HasAsked all before old) (sym (ask_old since name (h.same name ∙ e))) h
+
+pub one_name : (name : List ℕ) → is_name name ≡ true → filter is_name (name ∷ []) ≡ name ∷ []
+one_name name e = ap (λ b. cond b (name ∷ []) []) e
+
+pub goes_skipped : (told : Option (List File)) (old : Tries) (name : List ℕ) → (has_file old.files name || not (is_name name)) ≡ true → GoesOn told old old (filter is_name (name ∷ []))
+goes_skipped told old name e = by (is_name name) e
+  where
+    by : (b : Bool) → (has_file old.files name || not b) ≡ true → GoesOn told old old (cond b (name ∷ []) [])
+    by false e = goes_none told old
+    by true e = goes_tried told old name (or_left (has_file old.files name) (list_any (bytes_eq name) old.absent) (sym (or_false (has_file old.files name)) ∙ e))
+
+-- loading ends at this name, or before it
+about_ending : (name : List ℕ) (given : Ending) → IsEnding (Unreadable name) given → IsAbout name given
+about_ending name given which = elim which [ inl e ↦ subst (IsAbout name) (sym e) refl | inr e ↦ subst (IsAbout name) (sym e) tt ]
+
+about_refusal : (name : List ℕ) (refusal : Refusal) → IsAbout name (refused_as name refusal)
+about_refusal name NoRoom = tt
+about_refusal name refusal = refl
+
+pub about_refused : (name : List ℕ) (refusal : Refusal) (given : Ending) → IsEnding (refused_as name refusal) given → IsAbout name given
+about_refused name refusal given which =
+    elim which [ inl e ↦ subst (IsAbout name) (sym e) (about_refusal name refusal) | inr e ↦ subst (IsAbout name) (sym e) tt ]
+
+stops_last : (since before : List (List ℕ)) (asked : Option (List (List ℕ))) (name : List ℕ) (ending : Ending) → asked ≡ Some (before ++ (since ++ name ∷ [])) → IsAbout name ending
+    → StopsAmong (since ++ name ∷ []) before asked ending
+stops_last since before asked name (Unreadable told) behind about =
+    subst (AsksUpTo (since ++ name ∷ []) before asked) (sym about) (record { front = since; rest = []; split = refl; behind = behind })
+stops_last since before asked name (Refuses told refusal) behind about =
+    subst (AsksUpTo (since ++ name ∷ []) before asked) (sym about) (record { front = since; rest = []; split = refl; behind = behind })
+stops_last since before asked name Memory behind about =
+    record { front = since ++ name ∷ []; rest = []; split = sym (append-nil (since ++ name ∷ [])); behind = behind }
+
+stops_further : (names more before : List (List ℕ)) (asked : Option (List (List ℕ))) (ending : Ending) → StopsAmong names before asked ending → StopsAmong (names ++ more) before asked ending
+stops_further names more before asked (Unreadable name) s =
+    record { front = s.front; rest = s.rest ++ more; split = ap (λ l. l ++ more) s.split ∙ append_assoc s.front (name ∷ s.rest) more; behind = s.behind }
+stops_further names more before asked (Refuses name refusal) s =
+    record { front = s.front; rest = s.rest ++ more; split = ap (λ l. l ++ more) s.split ∙ append_assoc s.front (name ∷ s.rest) more; behind = s.behind }
+stops_further names more before asked Memory s =
+    record { front = s.front; rest = s.rest ++ more; split = ap (λ l. l ++ more) s.split ∙ append_assoc s.front s.rest more; behind = s.behind }
+
+pub ends_about : (told : Option (List File)) (old : Tries) (asked : Option (List (List ℕ))) (name : List ℕ) (ending : Ending) → is_tried old name ≡ false → asked ≡ with_asked old.asked name
+    → IsAbout name ending → EndsAmong told old asked (name ∷ []) ending
+ends_about None old asked name ending fresh asks about = tt
+ends_about (Some all) old asked name ending fresh asks about = λ before since h.
+    subst (λ l. StopsAmong l before asked ending) (sym (ask_new since name (h.same name ∙ fresh)))
+    (stops_last since before asked name ending (behind_more before since old.asked asked name h.behind asks) about)
+
+pub ends_at : (told : Option (List File)) (old : Tries) (asked : Option (List (List ℕ))) (name : List ℕ) (ending : Ending) → is_tried old name ≡ false → asked ≡ with_asked old.asked name
+    → IsEnding (Unreadable name) ending → EndsAmong told old asked (name ∷ []) ending
+ends_at told old asked name ending fresh asks which = ends_about told old asked name ending fresh asks (about_ending name ending which)
+
+pub ends_before : (told : Option (List File)) (old : Tries) (asked : Option (List (List ℕ))) (names : List (List ℕ)) → asked ≡ old.asked → EndsAmong told old asked names Memory
+ends_before None old asked names same = tt
+ends_before (Some all) old asked names same = λ before since h.
+    let front = ask_all_front since names in
+    record { front = since; rest = front.0; split = front.1; behind = same ∙ h.behind }
+
+pub ends_short : (told : Option (List File)) (old : Tries) (asked : Option (List (List ℕ))) (name : List ℕ) → is_tried old name ≡ false → (asked ≡ old.asked) ⊎ (asked ≡ with_asked old.asked name)
+    → EndsAmong told old asked (name ∷ []) Memory
+ends_short told old asked name fresh which =
+    elim which [ inl e ↦ ends_before told old asked (name ∷ []) e | inr e ↦ ends_about told old asked name Memory fresh e tt ]
+
+-- one after another
+abbrev pub OrderSoFar : Option (List File) → Tries → Tries → List (List ℕ) → List (List ℕ) → Type 0
+OrderSoFar told old now all rest =
+    IfSome told (λ files. (before since : List (List ℕ)) → HasAsked files before old since
+    → (so_far : List (List ℕ)) × HasAsked files before now so_far × (ask_all so_far (filter is_name rest) ≡ ask_all since (filter is_name all)))
+
+pub order_begins : (told : Option (List File)) (old : Tries) (all : List (List ℕ)) → OrderSoFar told old old all all
+order_begins None old all = tt
+order_begins (Some files) old all = λ before since h. (since, h, refl)
+
+one_more : (so_far : List (List ℕ)) (name : List ℕ) (rest : List (List ℕ)) (b : Bool) → ask_all (ask_all so_far (cond b (name ∷ []) [])) rest ≡ ask_all so_far (cond b (name ∷ rest) rest)
+one_more so_far name rest true = refl
+one_more so_far name rest false = refl
+
+pub order_next : (told told' : Option (List File)) (old now next : Tries) (all names : List (List ℕ)) (name : List ℕ) (rest : List (List ℕ)) → told' ≡ told → names ≡ name ∷ rest
+    → OrderSoFar told old now all names → GoesOn told' now next (filter is_name (name ∷ [])) → OrderSoFar told old next all rest
+order_next told told' old now next all names name rest stay is so_far goes = by told so_far (subst (λ t. GoesOn t now next (filter is_name (name ∷ []))) stay goes)
+  where
+    by : (t : Option (List File)) → OrderSoFar t old now all names → GoesOn t now next (filter is_name (name ∷ [])) → OrderSoFar t old next all rest
+    by None so_far goes = tt
+    by (Some files) so_far goes = λ before since h.
+        let here = so_far before since h in (
+          ask_all here.0 (filter is_name (name ∷ [])),
+          goes before here.0 here.1,
+          one_more here.0 name (filter is_name rest) (is_name name) ∙ ap (λ l. ask_all here.0 (filter is_name l)) (sym is) ∙ here.2,
+        )
+
+pub order_stops : (told told' : Option (List File)) (old now : Tries) (asked : Option (List (List ℕ))) (all names : List (List ℕ)) (name : List ℕ) (rest : List (List ℕ)) (ending : Ending)
+    → told' ≡ told → names ≡ name ∷ rest → OrderSoFar told old now all names → EndsAmong told' now asked (filter is_name (name ∷ [])) ending → EndsAmong told old asked (filter is_name all) ending
+order_stops told told' old now asked all names name rest ending stay is so_far ends =
+    by told so_far (subst (λ t. EndsAmong t now asked (filter is_name (name ∷ [])) ending) stay ends)
+  where
+    by : (t : Option (List File)) → OrderSoFar t old now all names → EndsAmong t now asked (filter is_name (name ∷ [])) ending → EndsAmong t old asked (filter is_name all) ending
+    by None so_far ends = tt
+    by (Some files) so_far ends = λ before since h.
+        let here = so_far before since h in
+        let first = ask_all here.0 (filter is_name (name ∷ [])) in
+        let more = ask_all_front first (filter is_name rest) in
+        subst (λ l. StopsAmong l before asked ending)
+        (sym more.1 ∙ one_more here.0 name (filter is_name rest) (is_name name) ∙ ap (λ l. ask_all here.0 (filter is_name l)) (sym is) ∙ here.2)
+        (stops_further first more.0 before asked ending (ends before here.0 here.1))
+
+pub order_ends : (told : Option (List File)) (old now : Tries) (all rest : List (List ℕ)) → rest ≡ [] → OrderSoFar told old now all rest → GoesOn told old now (filter is_name all)
+order_ends None old now all rest is so_far = tt
+order_ends (Some files) old now all rest is so_far = λ before since h.
+    let here = so_far before since h in
+    subst (HasAsked files before now) (ap (λ l. ask_all here.0 (filter is_name l)) (sym is) ∙ here.2) here.1
+
+-- round by round
+abbrev pub RoundsSoFar : Option (List File) → RolesRead → Tries → Tries → Type 0
+RoundsSoFar told roles start now = IfSome told (λ all. (before : List (List ℕ)) → InRounds all roles before start → InRounds all roles before now)
+
+pub rounds_begin : (told : Option (List File)) (roles : RolesRead) (start : Tries) → RoundsSoFar told roles start start
+rounds_begin None roles start = tt
+rounds_begin (Some all) roles start = λ before r. r
+
+this_round : (all : List File) (roles : RolesRead) (before : List (List ℕ)) (old : Tries) (missed : List (List ℕ)) (r : InRounds all roles before old) → missed ≡ missing_of old.files roles
+    → ask_all (asked_in all roles r.0) (filter is_name missed) ≡ asked_in all roles (suc r.0)
+this_round all roles before old missed r is = ap (λ l. ask_all (asked_in all roles r.0) (filter is_name l)) (is ∙ ap (λ t. missing_of t roles) r.1.files)
+
+pub rounds_go_on : (told told' : Option (List File)) (roles : RolesRead) (start old new : Tries) (missed : List (List ℕ)) → told' ≡ told → missed ≡ missing_of old.files roles
+    → RoundsSoFar told roles start old → GoesOn told' old new (filter is_name missed) → RoundsSoFar told roles start new
+rounds_go_on told told' roles start old new missed stay is so_far goes = by told so_far (subst (λ t. GoesOn t old new (filter is_name missed)) stay goes)
+  where
+    by : (t : Option (List File)) → RoundsSoFar t roles start old → GoesOn t old new (filter is_name missed) → RoundsSoFar t roles start new
+    by None so_far goes = tt
+    by (Some all) so_far goes = λ before r.
+        let here = so_far before r in
+        (suc here.0, subst (HasAsked all before new) (this_round all roles before old missed here is) (goes before (asked_in all roles here.0) here.1))
+
+pub rounds_are_all : (told told' : Option (List File)) (roles : RolesRead) (start old new : Tries) (missed : List (List ℕ)) → told' ≡ told → missed ≡ missing_of old.files roles
+    → new.files ≡ old.files → RoundsSoFar told roles start old → GoesOn told' old new (filter is_name missed)
+    → IfSome told (λ all. (before : List (List ℕ)) → InRounds all roles before start → AsksWhole all roles before new.asked)
+rounds_are_all told told' roles start old new missed stay is same so_far goes = by told so_far (subst (λ t. GoesOn t old new (filter is_name missed)) stay goes)
+  where
+    by : (t : Option (List File)) → RoundsSoFar t roles start old → GoesOn t old new (filter is_name missed)
+        → IfSome t (λ all. (before : List (List ℕ)) → InRounds all roles before start → AsksWhole all roles before new.asked)
+    by None so_far goes = tt
+    by (Some all) so_far goes = λ before r.
+        let here = so_far before r in
+        let next = asked_in all roles (suc here.0) in
+        let last : HasAsked all before new next = subst (HasAsked all before new) (this_round all roles before old missed here is) (goes before (asked_in all roles here.0) here.1) in
+        let files : files_under all next ≡ files_under all (asked_in all roles here.0) = sym last.files ∙ same ∙ here.1.files in
+        record {
+          rounds = suc here.0;
+          behind = last.behind;
+          last = ap (λ t. ask_all next (filter is_name (missing_of t roles))) files
+              ∙ ask_again (asked_in all roles here.0) (filter is_name (missing_of (files_under all (asked_in all roles here.0)) roles));
+        }
+
+abbrev pub RoundsStop : Option (List File) → RolesRead → Tries → Option (List (List ℕ)) → Ending → Type 0
+RoundsStop told roles start asked ending =
+    IfSome told (λ all. (before : List (List ℕ)) → InRounds all roles before start → (rounds : ℕ) × StopsAmong (asked_in all roles rounds) before asked ending)
+
+pub rounds_stop_among : (told told' : Option (List File)) (roles : RolesRead) (start old : Tries) (asked : Option (List (List ℕ))) (missed : List (List ℕ)) (ending : Ending) → told' ≡ told
+    → missed ≡ missing_of old.files roles → RoundsSoFar told roles start old → EndsAmong told' old asked (filter is_name missed) ending → RoundsStop told roles start asked ending
+rounds_stop_among told told' roles start old asked missed ending stay is so_far ends = by told so_far (subst (λ t. EndsAmong t old asked (filter is_name missed) ending) stay ends)
+  where
+    by : (t : Option (List File)) → RoundsSoFar t roles start old → EndsAmong t old asked (filter is_name missed) ending → RoundsStop t roles start asked ending
+    by None so_far ends = tt
+    by (Some all) so_far ends = λ before r.
+        let here = so_far before r in
+        (suc here.0, subst (λ l. StopsAmong l before asked ending) (this_round all roles before old missed here is) (ends before (asked_in all roles here.0) here.1))
+
+pub rounds_stop_here : (told : Option (List File)) (roles : RolesRead) (start old : Tries) → RoundsSoFar told roles start old → RoundsStop told roles start old.asked Memory
+rounds_stop_here None roles start old so_far = tt
+rounds_stop_here (Some all) roles start old so_far = λ before r.
+    let here = so_far before r in
+    (here.0, record { front = asked_in all roles here.0; rest = []; split = sym (append-nil (asked_in all roles here.0)); behind = here.1.behind })
+
+-- from the web on
+abbrev pub Begun : Option (List File) → Option (List (List ℕ)) → RolesRead → Tries → Type 0
+Begun told asked roles now = IfSome told (λ all. IfSome asked (λ before. InRounds all roles before now))
+
+pub begins_rounds : (told : Option (List File)) (asked : Option (List (List ℕ))) (roles : RolesRead) (mid now : Tries) → GoesOn told (tried asked [] []) mid (roles.web ∷ [])
+    → GoesOn told mid now (named_in roles.change) → Begun told asked roles now
+begins_rounds None asked roles mid now first second = tt
+begins_rounds (Some all) None roles mid now first second = tt
+begins_rounds (Some all) (Some before) roles mid now first second =
+    (zero, second before (ask_all [] (roles.web ∷ [])) (first before [] (nothing_yet all before)))
+
+pub all_asked : (told : Option (List File)) (asked now : Option (List (List ℕ))) (roles : RolesRead) (start : Tries) → Begun told asked roles start
+    → IfSome told (λ all. (before : List (List ℕ)) → InRounds all roles before start → AsksWhole all roles before now) → AsksAll told roles asked now
+all_asked None asked now roles start begun whole = tt
+all_asked (Some all) None now roles start begun whole = tt
+all_asked (Some all) (Some before) now roles start begun whole = whole before begun
+
+pub some_until : (told : Option (List File)) (roles : RolesRead) (before now : Option (List (List ℕ))) (ending : Ending) → AsksSome told roles before now ending → AsksUntil told roles before now ending
+some_until told roles before now (Unreadable name) h = h
+some_until told roles before now (Refuses name refusal) h = inr h
+some_until told roles before now Memory h = h
+
+some_of : (told : Option (List File)) (roles : RolesRead) (asked now : Option (List (List ℕ))) (ending : Ending) → bad_name roles ≡ None
+    → IfSome told (λ all. IfSome asked (λ before. (rounds : ℕ) × StopsAmong (asked_in all roles rounds) before now ending)) → AsksUntil told roles asked now ending
+some_of told roles asked now ending fine h =
+    some_until told roles asked now ending (subst (λ o. IfSome told (λ all. IfSome asked (λ before. (rounds : ℕ) × StopsAmong (asked_unless all roles o rounds) before now ending))) (sym fine) h)
+
+pub until_first : (told : Option (List File)) (asked now : Option (List (List ℕ))) (roles : RolesRead) (ending : Ending) → EndsAmong told (tried asked [] []) now (roles.web ∷ []) ending
+    → bad_name roles ≡ None → AsksUntil told roles asked now ending
+until_first told asked now roles ending ends fine = some_of told roles asked now ending fine (by told asked ends)
+  where
+    by : (t : Option (List File)) (a : Option (List (List ℕ))) → EndsAmong t (tried a [] []) now (roles.web ∷ []) ending
+        → IfSome t (λ all. IfSome a (λ before. (rounds : ℕ) × StopsAmong (asked_in all roles rounds) before now ending))
+    by None a ends = tt
+    by (Some all) None ends = tt
+    by (Some all) (Some before) ends =
+        let first = ask_all [] (roles.web ∷ []) in
+        let more = ask_all_front first (named_in roles.change) in
+        (zero, subst (λ l. StopsAmong l before now ending) (sym more.1) (stops_further first more.0 before now ending (ends before [] (nothing_yet all before))))
+
+pub until_second : (told : Option (List File)) (asked now : Option (List (List ℕ))) (roles : RolesRead) (mid : Tries) (ending : Ending) → GoesOn told (tried asked [] []) mid (roles.web ∷ [])
+    → EndsAmong told mid now (named_in roles.change) ending → bad_name roles ≡ None → AsksUntil told roles asked now ending
+until_second told asked now roles mid ending first ends fine = some_of told roles asked now ending fine (by told asked first ends)
+  where
+    by : (t : Option (List File)) (a : Option (List (List ℕ))) → GoesOn t (tried a [] []) mid (roles.web ∷ []) → EndsAmong t mid now (named_in roles.change) ending
+        → IfSome t (λ all. IfSome a (λ before. (rounds : ℕ) × StopsAmong (asked_in all roles rounds) before now ending))
+    by None a first ends = tt
+    by (Some all) None first ends = tt
+    by (Some all) (Some before) first ends = (zero, ends before (ask_all [] (roles.web ∷ [])) (first before [] (nothing_yet all before)))
+
+pub until_rounds : (told : Option (List File)) (asked now : Option (List (List ℕ))) (roles : RolesRead) (start : Tries) (ending : Ending) → Begun told asked roles start
+    → RoundsStop told roles start now ending → bad_name roles ≡ None → AsksUntil told roles asked now ending
+until_rounds told asked now roles start ending begun stops fine = some_of told roles asked now ending fine (by told asked begun stops)
+  where
+    by : (t : Option (List File)) (a : Option (List (List ℕ))) → Begun t a roles start → RoundsStop t roles start now ending
+        → IfSome t (λ all. IfSome a (λ before. (rounds : ℕ) × StopsAmong (asked_in all roles rounds) before now ending))
+    by None a begun stops = tt
+    by (Some all) None begun stops = tt
+    by (Some all) (Some before) begun stops = stops before begun
+
+-- nothing was asked
+none_of : (names before : List (List ℕ)) → AsksFront names before (Some before)
+none_of names before = record { front = []; rest = names; split = refl; behind = ap (λ l. Some l) (sym (append-nil before)) }
+
+pub until_none : (told : Option (List File)) (asked : Option (List (List ℕ))) (roles : RolesRead) → AsksUntil told roles asked asked Memory
+until_none None asked roles = tt
+until_none (Some all) None roles = tt
+until_none (Some all) (Some before) roles = (zero, none_of (asked_unless all roles (bad_name roles) zero) before)
+
+pub until_bad : (told : Option (List File)) (asked : Option (List (List ℕ))) (roles : RolesRead) (name : List ℕ) (refusal : Refusal) (given : Ending) → bad_name roles ≡ Some name
+    → IsEnding (refused_as name refusal) given → AsksUntil told roles asked asked given
+until_bad told asked roles name refusal given bad which =
+    elim which [ inl e ↦ subst (AsksUntil told roles asked asked) (sym e) (by refusal) | inr e ↦ subst (AsksUntil told roles asked asked) (sym e) (until_none told asked roles) ]
+  where
+    by : (r : Refusal) → AsksUntil told roles asked asked (refused_as name r)
+    by NoRoom = until_none told asked roles
+    by r = inl (bad, refl)
+
+-- the folder did not fail, or at the last name
+pub fails_not : (asked failed failed' : Option (List (List ℕ))) (n n' : ℕ) → failed' ≡ failed → n' ≡ n → FailsLast asked failed failed' n n'
+fails_not asked failed failed' n n' same counted = inl (same, counted)
+
+pub fails_here : (before asked failed failed' : Option (List (List ℕ))) (name : List ℕ) (n n' : ℕ) → asked ≡ with_asked before name → failed' ≡ with_asked failed name → n' ≡ one_more_failure n
+    → FailsLast asked failed failed' n n'
+fails_here before asked failed failed' name n n' asks fails counted = inr (name, subst (λ a. IsAskedLast a name) (sym asks) (by before), fails, counted)
+  where
+    by : (a : Option (List (List ℕ))) → IsAskedLast (with_asked a name) name
+    by None = tt
+    by (Some names) = (names, refl)
+
+pub fails_since : (asked failed now failed' : Option (List (List ℕ))) (n m n' : ℕ) → now ≡ failed → m ≡ n → FailsLast asked now failed' m n' → FailsLast asked failed failed' n n'
+fails_since asked failed now failed' n m n' same counted h =
+    subst (λ k. FailsLast asked failed failed' k n') counted (subst (λ l. FailsLast asked l failed' m n') same h)
+
+-- the name is a file name
+pub named_goes : (told : Option (List File)) (old new : Tries) (name : List ℕ) → is_name name ≡ true → GoesOn told old new (name ∷ []) → GoesOn told old new (filter is_name (name ∷ []))
+named_goes told old new name named h = subst (GoesOn told old new) (sym (one_name name named)) h
+
+pub named_ends : (told : Option (List File)) (old : Tries) (asked : Option (List (List ℕ))) (name : List ℕ) (ending : Ending) → is_name name ≡ true → EndsAmong told old asked (name ∷ []) ending
+    → EndsAmong told old asked (filter is_name (name ∷ [])) ending
+named_ends told old asked name ending named h = subst (λ l. EndsAmong told old asked l ending) (sym (one_name name named)) h
+
+-- by the same names
+pub until_same : (told : Option (List File)) (before now : Option (List (List ℕ))) (ending : Ending) (roles names : RolesRead) → roles ≡ names → AsksUntil told roles before now ending
+    → AsksUntil told names before now ending
+until_same told before now ending roles names same h = subst (λ (r : RolesRead). AsksUntil told r before now ending) same h
+
+pub all_same : (told : Option (List File)) (before now : Option (List (List ℕ))) (roles names : RolesRead) → roles ≡ names → AsksAll told roles before now → AsksAll told names before now
+all_same told before now roles names same h = subst (λ (r : RolesRead). AsksAll told r before now) same h
