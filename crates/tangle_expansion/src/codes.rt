@@ -1,5 +1,5 @@
 //! What two shapes are compared by, beside the bytes of their items: codes of the items, and the names that they use.
-ghost use Rattle.std.specs.Prelude.{◌≡◌, ◌↔◌, true, ◌++◌, ◌-◌, ◌<◌, length, OnOk, decimal};
+ghost use Rattle.std.specs.Prelude.{◌≡◌, ◌↔◌, true, ◌++◌, ◌-◌, ◌<◌, ◌≤◌, length, OnOk, decimal};
 ghost use Rattle.std.specs.List.{All};
 ghost use Rattle.tangle_scan.specs.WellFormed.{IsUseBelow};
 ghost use Rattle.tangle_expansion.specs.ItemCodes.{use_code as code_of_use, code_in, names_resolved};
@@ -42,6 +42,17 @@ pub(crate) fn text_code(kind: ItemKind, span: Span) -> ItemCode
     ItemCode {
         kind,
         size: span.end.saturating_sub(span.start),
+    }
+}
+
+/// The same code, where the range does not end before it starts.
+pub(crate) fn code_of_span(kind: ItemKind, span: Span) -> ItemCode
+    requires { span.start ≤ span.end }
+    ensures { result ≡ record { kind = kind; size = span.end - span.start } }
+{
+    ItemCode {
+        kind,
+        size: span.end - span.start,
     }
 }
 

@@ -13,7 +13,7 @@ ghost use Rattle.tangle_expansion.specs.NodeTexts.{node_title, node_bytes, node_
 ghost use Rattle.tangle_expansion.specs.Runs.{AddsItem, AddsText, IsKept, run_bytes};
 ghost use Rattle.tangle_expansion.specs.ItemSlots.{marks_behind_item, name_slots, item_slots, piece_slots, pieces_slots, pieces_at};
 
-use crate::codes::{ItemCode, ItemKind, add_name, code_count, code_of, end_of_piece, text_code};
+use crate::codes::{ItemCode, ItemKind, add_name, code_count, code_of, code_of_span, end_of_piece};
 use crate::expansion::{NodeText, Step};
 use crate::runs::{Run, end_of, joined, no_run, run_of, text_of, with_space};
 use crate::steps::{marks_behind, pieces_behind};
@@ -117,6 +117,18 @@ impl Planning {
 
     /// Adds the code of an item, or of the end of a piece.
     fn add_code(&mut self, code: ItemCode) -> Result<(), NoMemory>
+        ensures { OnOk result (self.new ≡ record self.old { codes = self.old.codes ++ code ∷ [] }) }
+    {
+        if self.codes.len() < self.codes.capacity() {
+            self.codes.push_reserved(code);
+            return Ok(());
+        }
+        self.add_code_with_growth(code)
+    }
+
+    /// Adds a code where there is no room. It stands apart, since the common way is shorter without it.
+    #[inline(never)]
+    fn add_code_with_growth(&mut self, code: ItemCode) -> Result<(), NoMemory>
         ensures { OnOk result (self.new ≡ record self.old { codes = self.old.codes ++ code ∷ [] }) }
     {
         self.codes.push(code)?;
@@ -250,7 +262,7 @@ fn add_text<'w>(
     ensures range { IfOk result (IsKept web.now.texts) }
     ensures added { IfOk result (λ next. AddsText web.now.texts kind span run.entry next planning.old planning.new) }
 {
-    planning.add_code(text_code(kind, span))?;
+    planning.add_code(code_of_span(kind, span))?;
     if let Some(more) = joined(run, span) {
         return Ok(more);
     }
