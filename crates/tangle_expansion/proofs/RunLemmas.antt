@@ -96,6 +96,8 @@ runs_with_space run more x blank lt byte same number start end = rw blank (recor
       ∙ ap (λ n. take (n - more.start) (drop more.start more.line.now)) (sym end);
   slots = λ texts table has_piece node piece marks. refl;
   marks = λ marks. refl;
+  code = λ table. refl;
+  no_use = λ table. refl;
 })
 
 -- the items of a piece from one number on are still to be added to what is being made, behind a range

@@ -24,6 +24,10 @@ item_code Macros = record { kind = code.Macros; size = 0 }
 item_code (Use name) = record { kind = code.Use; size = 0 }
 item_code NoUse = record { kind = code.NoUse; size = 0 }
 
+-- white space
+abbrev pub blank_code : ItemCode
+blank_code = record { kind = code.Blank; size = 1 }
+
 -- the end of a piece
 abbrev pub piece_end : ItemCode
 piece_end = record { kind = code.PieceEnd; size = 0 }

@@ -6,6 +6,7 @@ use Rattle.tangle_scan.specs.Rules.{span_text}
 use Rattle.tangle_scan.specs.SourceOrder.{IsInRange, IsSpan}
 use Rattle.tangle_names.specs.NameTable.{TableRead}
 use Rattle.tangle_expansion.specs.Shapes.{Title}
+use Rattle.tangle_expansion.specs.Codes.{blank_code}
 use Rattle.tangle_expansion.specs.ItemCodes.{bytes_in, code_in, names_in}
 use Rattle.tangle_expansion.specs.ItemSlots.{marks_behind_item, item_slots}
 use Rattle.tangle_expansion.specs.Slots.{byte_slots}
@@ -38,13 +39,15 @@ pub record IsJoined (run : Run) (span : Span) (more : Run) : Type 0 where
   pub range : (texts : List (List ℕ)) → IsKept texts run → IsSpan texts span → IsKept texts more
   pub text : (texts : List (List ℕ)) → IsKept texts run → IsSpan texts span → run_bytes run ++ span_text texts span ≡ run_bytes more
 
--- a range with an item behind it is a longer one
+-- a range with white space behind it is a longer one
 pub record IsRunWith (run : Run) (item : Item) (more : Run) : Type 0 where
   pub range : (texts : List (List ℕ)) → IsKept texts run → IsKept texts more
   pub bytes : (texts : List (List ℕ)) → IsKept texts run → run_bytes run ++ bytes_in texts item ≡ run_bytes more
   pub slots : (texts : List (List ℕ)) (table : TableRead) (has_piece : ℕ → Bool) (node : Title) (piece marks : ℕ)
       → item_slots texts table has_piece node piece marks item ≡ byte_slots (bytes_in texts item)
   pub marks : (marks : ℕ) → marks_behind_item marks item ≡ marks
+  pub code : (table : TableRead) → code_in table item ≡ blank_code
+  pub no_use : (table : TableRead) → names_in table item ≡ []
 
 -- an item was added behind what is being made and a range that was still to be copied
 pub record AddsItem (texts : List (List ℕ)) (table : TableRead) (has_piece : ℕ → Bool) (item : Item) (run next : Run) (old new : Making) : Type 0 where

@@ -3,7 +3,7 @@ ghost use Rattle.std.specs.Prelude.{◌≡◌, ◌↔◌, true, ◌++◌, ◌-�
 ghost use Rattle.std.specs.List.{All};
 ghost use Rattle.tangle_scan.specs.WellFormed.{IsUseBelow};
 ghost use Rattle.tangle_expansion.specs.ItemCodes.{use_code as code_of_use, code_in, names_resolved};
-ghost use Rattle.tangle_expansion.specs.Codes.{piece_end};
+ghost use Rattle.tangle_expansion.specs.Codes.{blank_code, piece_end};
 
 use itoa::Buffer;
 use tangle_lines::NoMemory;
@@ -99,6 +99,13 @@ pub(crate) fn code_of(item: &Item, table: &NameTable) -> ItemCode
         Item::UseOf(occurrence) => use_code(table.resolve(occurrence.number())),
         Item::Defs => fixed_code(ItemKind::Macros, 0),
     }
+}
+
+/// The code of white space.
+pub(crate) fn code_of_blank() -> ItemCode
+    ensures { result ≡ blank_code }
+{
+    fixed_code(ItemKind::Blank, 1)
 }
 
 /// The code of the end of a piece.

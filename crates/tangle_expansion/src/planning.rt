@@ -13,7 +13,9 @@ ghost use Rattle.tangle_expansion.specs.NodeTexts.{node_title, node_bytes, node_
 ghost use Rattle.tangle_expansion.specs.Runs.{AddsItem, AddsText, IsKept, run_bytes};
 ghost use Rattle.tangle_expansion.specs.ItemSlots.{marks_behind_item, name_slots, item_slots, piece_slots, pieces_slots, pieces_at};
 
-use crate::codes::{ItemCode, ItemKind, add_name, code_count, code_of, code_of_span, end_of_piece};
+use crate::codes::{
+    ItemCode, ItemKind, add_name, code_count, code_of, code_of_blank, code_of_span, end_of_piece,
+};
 use crate::expansion::{NodeText, Step};
 use crate::runs::{Run, end_of, joined, no_run, run_of, text_of, with_space};
 use crate::steps::{marks_behind, pieces_behind};
@@ -285,11 +287,12 @@ fn add_other<'w>(
     ensures range { IfOk result (IsKept web.now.texts) }
     ensures added { IfOk result (λ next. AddsItem web.now.texts table.now (λ id. slice_index_or has_piece.now id false) item.now run.entry next planning.old planning.new) }
 {
-    planning.add_code(code_of(item, table))?;
-    planning.add_name(table, item)?;
     if let Some(more) = with_space(run, item) {
+        planning.add_code(code_of_blank())?;
         return Ok(more);
     }
+    planning.add_code(code_of(item, table))?;
+    planning.add_name(table, item)?;
     add_run(planning, run)?;
     add_item(planning, web, table, has_piece, *item)?;
     Ok(end_of(run))
