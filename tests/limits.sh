@@ -13,6 +13,7 @@ test_limits() {
     test_weight
     test_rare_tokens
     test_graphs
+    test_growing
 }
 
 repeated() { # COUNT TEXT
@@ -65,6 +66,18 @@ sparse_file() { # FILE SIZE
     dd if=/dev/null of="$1" bs=1 seek="$2" 2>/dev/null
 }
 
+# A file of 67,108,864 bytes, of lines of 65,535 bytes each; its last bytes are these.
+longest_file() { # FILE END
+    {
+        repeated 65535 x
+        printf '\n'
+    } >"$room/line"
+    for _number in $(seq 64); do cat "$room/line"; done >"$room/lines"
+    for _number in $(seq 16); do cat "$room/lines"; done >"$1"
+    truncate -s "-$(printf "$2" | wc -c)" "$1"
+    printf "$2" >>"$1"
+}
+
 test_file_size() {
     begin_case a
     sparse_file "$case/in/a.w" 67108864
@@ -75,6 +88,41 @@ test_file_size() {
     sparse_file "$case/in/a.w" 67108865
     must_end 3 'ctangle: cannot read a.w'
     run_case 'file of 67,108,865 bytes' "$case"
+
+    test_longest_files
+}
+
+# The web, an included file and the change file at the limit and one byte past it.
+test_longest_files() {
+    begin_case a
+    longest_file "$case/in/a.w" '\n@\n@c\nlast'
+    printf '/*1:*/\n#line 1026 "a.w"\n\nlast\n/*:1*/\n' >"$case/want/a.c"
+    run_case 'web of 67,108,864 bytes' "$case"
+    printf x >>"$case/in/a.w"
+    rm "$case/want/a.c"
+    must_end 3 'ctangle: cannot read a.w'
+    run_case 'web of 67,108,865 bytes' "$case"
+
+    begin_case a
+    printf '@i b.w\n' >"$case/in/a.w"
+    longest_file "$case/in/b.w" '\n@\n@c\nlast'
+    printf '/*1:*/\n#line 1026 "b.w"\n\nlast\n/*:1*/\n' >"$case/want/a.c"
+    run_case 'included file of 67,108,864 bytes' "$case"
+    printf x >>"$case/in/b.w"
+    rm "$case/want/a.c"
+    must_end 3 'ctangle: cannot read b.w'
+    run_case 'included file of 67,108,865 bytes' "$case"
+
+    begin_case a a
+    printf '@ A.\n@c\nint x;\n' >"$case/in/a.w"
+    longest_file "$case/in/a.ch" '\n@x\nint x;\n@y\nlast'
+    must_end 1 'a.ch:1025: error: change without @z'
+    printf '/*1:*/\n#line 2 "a.w"\n\n#line 1028 "a.ch"\nlast\n/*:1*/\n' >"$case/want/a.c"
+    run_case 'change file of 67,108,864 bytes' "$case"
+    printf x >>"$case/in/a.ch"
+    rm "$case/want/a.c"
+    must_end 3 'ctangle: cannot read a.ch'
+    run_case 'change file of 67,108,865 bytes' "$case"
 }
 
 test_file_names() {
@@ -339,4 +387,16 @@ test_graphs() {
         python3 -B "$top/tests/hostile.py" "$graph" "$case"
         run_timed_case "$graph" 5000000
     done <"$room/graphs"
+}
+
+# A web of 40,000 names beside one of 10,000: memory and instructions.
+test_growing() {
+    if [ ! -x "${RETANGLE:-$top/bin/retangle}" ] \
+        || ! cc -O2 -shared -fPIC -o "$room/refuse.so" "$top/tests/refuse.c"; then
+        fail '40,000 names' 'retangle is not there, or tests/refuse.c does not compile'
+        return
+    fi
+    python3 -B "$top/tests/growing.py" "$room/ctangle" "${RETANGLE:-$top/bin/retangle}" \
+        "$room/measure" "$room/refuse.so" "$top" >"$room/log" 2>&1
+    count_last_line '40,000 names' "$room/log"
 }

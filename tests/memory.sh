@@ -1,17 +1,22 @@
 # Each allocation of a run, of a conversation and of calls refused, one a time, by a library that
-# is loaded before the C library's malloc.
+# is loaded before the C library's malloc; and how many allocations there are, which shows what is
+# expanded.
 
 test_memory() {
     if ! cc -O2 -shared -fPIC -o "$room/refuse.so" "$top/tests/refuse.c"; then
         fail 'refused allocations' 'tests/refuse.c does not compile'
         return
     fi
+    one_web=$top/tests/cases/reading/one-web-makes-one-c-file
     for name in reading/one-web-makes-one-c-file reading/change-past-the-end-of-an-included-file \
-        programs/longer-output-is-replaced output/name-over-two-sections-and-a-named-file \
+        programs/longer-output-is-replaced programs/flags-and-names-without-extensions \
+        programs/four-names-are-too-many output/name-over-two-sections-and-a-named-file \
         output/names-that-contain-each-other-have-no-output; do
-        refuse_each_allocation "${name#*/}" "$top/tests/cases/$name"
+        refuse_each_allocation refusing "${name#*/}" "$top/tests/cases/$name"
     done
+    refuse_each_allocation refusing_from 'one web, without memory from an allocation on' "$one_web"
     test_conversation
+    test_counts
     test_crates
 }
 
@@ -25,18 +30,30 @@ test_conversation() {
     count_last_line 'refused allocations of a conversation' "$room/log"
 }
 
+test_counts() {
+    python3 -B "$top/tests/counted.py" "$retangle" "$room/refuse.so" >"$room/log" 2>&1
+    count_last_line 'counted allocations' "$room/log"
+}
+
 refusing() {
     REFUSE_AT=$at REFUSE_REPORT="$room/refused" LD_PRELOAD="$room/refuse.so" "$@"
 }
 
+# Each allocation behind that one is refused too.
+refusing_from() {
+    REFUSE_ALL=1 refusing "$@"
+}
+
 # Refuses the first allocation of a run, the second and so on, until a run has no further one to refuse.
-refuse_each_allocation() { # NAME CASE
+refuse_each_allocation() { # RUNNER NAME CASE
+    refuser=$1
+    shift
     at=0
     refused=0
     while :; do
         at=$((at + 1))
         rm -f "$room/refused"
-        run_program "$2" refusing
+        run_program "$2" "$refuser"
         [ -e "$room/refused" ] || break
         [ "$status" != 3 ] || refused=$((refused + 1))
         if survived "$2"; then pass; else report "$1, allocation $at refused"; fi

@@ -1,14 +1,17 @@
 // Refuses allocations of a program: preloaded, it comes before malloc and realloc of the C library.
 //
-// REFUSE_AT=N refuses the Nth allocation of the process, from 1; then it makes the file that REFUSE_REPORT
-// names.
-// A test asks from inside: a request for 2^62 + n bytes is answered with a small block and refuses the nth
-// allocation after it (none where n is 0), and one for 2^62 + 2^61 bytes is answered where that refusal is still
-// to come. Without this library nothing is so large, so the same test passes and refuses nothing.
+// REFUSE_AT=N refuses the Nth allocation of the process, from 1, and with REFUSE_ALL=1 each one
+// behind it too; then it makes the file that REFUSE_REPORT names. The file that COUNT_TO names gets,
+// at the end of the process, how many allocations there were and how many bytes they asked for.
+// A test asks from inside: a request for 2^62 + n bytes is answered with a small block and refuses
+// the nth allocation after it (none where n is 0), and one for 2^62 + 2^61 bytes is answered where
+// that refusal is still to come. Without this library nothing is so large, so the same test passes
+// and refuses nothing.
 #define _GNU_SOURCE
 #include <fcntl.h>
 #include <malloc.h>
 #include <stddef.h>
+#include <stdio.h>
 #include <stdlib.h>
 #include <unistd.h>
 
@@ -19,13 +22,15 @@ static const size_t CONTROL = (size_t)1 << 62;
 static const size_t IS_WAITING = (size_t)1 << 61;
 
 static size_t left;
-static int started;
+static int started, refuses_all;
+static size_t allocations, bytes;
 
 static void start(void) {
     if (!started) {
         started = 1;
         const char *at = getenv("REFUSE_AT");
         left = at ? (size_t)atol(at) : 0;
+        refuses_all = left && getenv("REFUSE_ALL");
     }
 }
 
@@ -35,10 +40,13 @@ static void report(void) {
         close(open(name, O_CREAT | O_WRONLY, 0666));
 }
 
-static int is_refused(void) {
+static int is_refused(size_t more) {
     start();
+    allocations++;
+    bytes += more;
     if (!left || --left)
         return 0;
+    left = refuses_all;
     report();
     return 1;
 }
@@ -54,11 +62,23 @@ static void *control(size_t request) {
 void *malloc(size_t size) {
     if (size / CONTROL == 1)
         return control(size);
-    return is_refused() ? NULL : __libc_malloc(size);
+    return is_refused(size) ? NULL : __libc_malloc(size);
 }
 
 // A block that has the room stays where it is: giving room back asks for none, and a call does without that.
 void *realloc(void *block, size_t size) {
-    int grows = size > malloc_usable_size(block);
-    return grows && is_refused() ? NULL : __libc_realloc(block, size);
+    size_t has = malloc_usable_size(block);
+    return size > has && is_refused(size - has) ? NULL : __libc_realloc(block, size);
+}
+
+__attribute__((destructor)) static void count(void) {
+    const char *to = getenv("COUNT_TO");
+    if (!to)
+        return;
+    char text[64];
+    int size = snprintf(text, sizeof text, "%zu %zu\n", allocations, bytes);
+    int file = open(to, O_CREAT | O_WRONLY | O_TRUNC, 0666);
+    if (file < 0 || write(file, text, size) != size)
+        _exit(127);
+    close(file);
 }

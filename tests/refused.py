@@ -8,6 +8,7 @@ made and answered. Or the run ends with status 3 behind an answer, or before the
 did without that memory, and all is answered. The last line is 'N passed, M failed'.
 """
 import os
+import shutil
 import subprocess
 import sys
 import tempfile
@@ -117,20 +118,28 @@ def wanted(web, script):
     return ways, [way for way in ways.values() if way.startswith('edit') and way not in spared]
 
 
-def run(folder, script, at, report):
+def run(folder, words, script, at, report):
     environment = dict(os.environ, LD_PRELOAD=refuse, REFUSE_AT=str(at), REFUSE_REPORT=report)
-    return subprocess.run([program, 'a'], cwd=folder, env=environment, input=script, capture_output=True, timeout=SECONDS)
+    return subprocess.run([program] + words, cwd=folder, env=environment, input=script,
+                          capture_output=True, timeout=SECONDS)
+
+
+def folder_with(room, files):
+    folder = os.path.join(room, 'folder')
+    shutil.rmtree(folder, ignore_errors=True)
+    os.makedirs(folder)
+    for name, text in files.items():
+        with open(os.path.join(folder, name), 'wb') as file:
+            file.write(text)
+    return folder
 
 
 def refuse_each(name, web, script, room):
     """Refuses each allocation, one a run: how many runs lack what."""
     (ways, edits), met = wanted(web, script), {}
-    folder, report = os.path.join(room, 'folder'), os.path.join(room, 'refused')
-    os.makedirs(folder, exist_ok=True)
-    with open(os.path.join(folder, 'a.w'), 'wb') as file:
-        file.write(web)
+    folder, report = folder_with(room, {'a.w': web}), os.path.join(room, 'refused')
     for at in range(1, MOST):
-        done = run(folder, script, at, report)
+        done = run(folder, ['a'], script, at, report)
         way = ways.get((done.returncode, done.stdout))
         if not os.path.exists(report):
             break
@@ -147,8 +156,48 @@ def refuse_each(name, web, script, room):
     return met
 
 
+# Words with what they end with: files that are named in each way and load others, words that are
+# refused, and files that are refused. Their texts are those of a run without a refusal.
+FILES = {'a.w': b'@i b.w\n@ A.\n@c\nint x;\n@i n.w\n', 'b.w': b'limbo\n@i c.w\n', 'c.w': b'\n',
+         'a.ch': b'@x\nint x;\n@y\nint z;\n@z\n'}
+SHOWN = b'= z.c 51\n/*1:*/\n#line 3 "a.w"\n\n#line 4 "a.ch"\nint z;\n/*:1*/\n'
+WORDS = {
+    'options': (['--change', 'a', '--out=z', 'a'], FILES, 1),
+    'a word that is no option': (['a', '--nothing'], FILES, 2),
+    'help': (['--help'], FILES, 2),
+    'no words': ([], FILES, 2),
+    'a file too many': (['a', 'b'], FILES, 2),
+    'a web that is not there': (['n'], FILES, 3),
+    'a line that is too long': (['a'], {'a.w': b'x' * 65536}, 3),
+}
+
+
+def refuse_each_word(name, words, files, status, room):
+    """Refuses each allocation, one a run, over a script of one question. What ends so answers nothing,
+    and reports at most that it is out of memory; anything else ends as without a refusal."""
+    folder, report = folder_with(room, files), os.path.join(room, 'refused')
+    script = b'show z.c\n'
+    whole, lacking = run(folder, words, script, 0, report), 0
+    check(whole.returncode == status, name, 'status %d' % whole.returncode)
+    check(whole.stdout == (SHOWN if status == 1 else b''), name, '%r' % whole)
+    check(bool(whole.stderr) == (status != 1), name, '%r' % whole)
+    for at in range(1, MOST):
+        done = run(folder, words, script, at, report)
+        if not os.path.exists(report):
+            break
+        os.remove(report)
+        ended = done.returncode, done.stdout, done.stderr
+        is_lacking = ended in ((3, b'', b'retangle: NoMemory\n'), (3, b'', b''))
+        lacking += is_lacking
+        check(is_lacking or ended == (status, whole.stdout, whole.stderr), name,
+              'allocation %d refused: %r' % (at, ended))
+    check(lacking, name, 'no run lacked memory')
+
+
 def main():
     with tempfile.TemporaryDirectory() as room:
+        for name, (words, files, status) in WORDS.items():
+            refuse_each_word(name, words, files, status, room)
         for name, (web, script) in CONVERSATIONS.items():
             met = refuse_each(name, web, script, room)
     check(met.get('edit 1', 0) >= met.get('edit 2', 0) + FEWER, 'chain', 'an edit that affects nothing makes no fewer allocations: %r' % met)

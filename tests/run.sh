@@ -4,8 +4,9 @@
 #
 # usage: tests/run.sh [PART..]
 #
-# The parts are documents, users, example, cases, conversations, machine, limits, memory, comparison, cuts and scripts; without one all are run. Several
-# run side by side, as many at a time as there are processors; what each says is shown when all have ended.
+# The parts are documents, users, example, cases, conversations, machine, streams, limits, sizes,
+# memory, comparison, cuts and scripts; without one all are run. Several run side by side, as many at
+# a time as there are processors; what each says is shown when all have ended.
 #
 # CTANGLE=PATH and RETANGLE=PATH take other programs.
 # The last line is 'N passed, M failed'.
@@ -28,7 +29,8 @@ chmod 755 "$room"
 . "$top/tests/lib.sh"
 
 # The longest parts come first.
-[ $# -gt 0 ] || set -- scripts comparison cuts memory limits conversations cases machine users example documents
+[ $# -gt 0 ] || set -- scripts comparison limits sizes cuts memory conversations streams cases machine users \
+    example documents
 if [ $# -gt 1 ]; then
     printf '%s\n' "$@" | xargs -P "$(nproc)" -I PART sh -c '"$0" "$1" >"$2/$1" 2>&1' "$0" PART "$room"
     for part; do
@@ -48,7 +50,9 @@ chmod 755 "$room/ctangle"
 . "$top/tests/cases.sh"
 . "$top/tests/conversations.sh"
 . "$top/tests/machine.sh"
+. "$top/tests/streams.sh"
 . "$top/tests/limits.sh"
+. "$top/tests/sizes.sh"
 . "$top/tests/memory.sh"
 . "$top/tests/comparison.sh"
 

@@ -4,6 +4,8 @@
 #![tactic(auto)]
 
 #[cfg(test)]
+mod conversations;
+#[cfg(test)]
 mod growths;
 #[cfg(test)]
 mod loads;

@@ -9,7 +9,7 @@ use tangle_graph::Store;
 use tangle_lines::NoMemory;
 use tangle_names::NameTable;
 use tangle_scan::{Web, scan};
-use tangle_test_support::{files_with, read};
+use tangle_test_support::{end_refusals, files_with, read, refuse_growth};
 
 const TWO_BRANCHES: &[u8] =
     b"@ P.\n@c\n@<A@>@<S@>\n@ @<A@>=\n@<B@>\n@ @<B@>=\n@<C@>\n@ @<C@>=\n1\n@ @<S@>=\n2\n";
@@ -28,13 +28,52 @@ const EDITS: [(&[u8], &[u8], &[Node]); 2] = [
     (NINTH_LINE_REPLACED, NINTH_LINE_REPLACED, &[]),
 ];
 
-// The nodes that the edit from one web to the other affects.
-fn affected_nodes(alloc: Global, old_web: &Web, new_web: &Web) -> Result<Vec<Node>, NoMemory> {
+// The nodes that the edit from one web to the other affects, told with this growth refused, and
+// whether none was.
+fn affected_without(
+    alloc: Global,
+    old_web: &Web,
+    new_web: &Web,
+    nth: u32,
+) -> Result<(Result<Vec<Node>, NoMemory>, bool), NoMemory> {
     let old_names = NameTable::build(alloc, old_web)?;
     let new_names = NameTable::build(alloc, new_web)?;
     let old = Store::build(alloc, old_web, &old_names, b"a.c")?;
     let new = Store::build(alloc, new_web, &new_names, b"a.c")?;
-    affected(alloc, &old, &old_names, &new, &new_names)
+    let is_harnessed = refuse_growth(alloc, nth);
+    let nodes = affected(alloc, &old, &old_names, &new, &new_names);
+    Ok((nodes, end_refusals(alloc, is_harnessed)))
+}
+
+// Whether no growth was refused: then the edit affects these nodes, and else it is not told.
+fn affected_is_spared(
+    rt: &impl Abort,
+    alloc: Global,
+    webs: (&Web, &Web),
+    nodes: &[Node],
+    nth: u32,
+) -> Result<bool, NoMemory> {
+    let (told, was_spared) = affected_without(alloc, webs.0, webs.1, nth)?;
+    assert_eq!(rt; told.is_ok(), was_spared);
+    if let Ok(told) = &told {
+        assert!(rt; told.as_slice() == nodes);
+    }
+    Ok(was_spared)
+}
+
+// Refuses the first growth, the second and so on, until none is refused.
+fn refuse_each(
+    rt: &impl Abort,
+    alloc: Global,
+    webs: (&Web, &Web),
+    nodes: &[Node],
+) -> Result<(), Fail> {
+    for nth in 1..100 {
+        if affected_is_spared(rt, alloc, webs, nodes, nth)? {
+            return Ok(());
+        }
+    }
+    Err(Fail::from("never told"))
 }
 
 // The edit from the one text of a web to the other affects these nodes.
@@ -51,12 +90,11 @@ fn check_affected(
     let new_source = read(alloc, &new_files, None)?;
     let old_web = scan(alloc, &old_source)?;
     let new_web = scan(alloc, &new_source)?;
-    assert!(rt; affected_nodes(alloc, &old_web, &new_web)?.as_slice() == nodes);
-    Ok(())
+    refuse_each(rt, alloc, (&old_web, &new_web), nodes)
 }
 
 #[test]
-fn nodes_that_edits_affect(rt: HostRuntime) -> Result<(), Fail> {
+fn nodes_that_edits_affect_with_each_growth_refused(rt: HostRuntime) -> Result<(), Fail> {
     for (before, after, nodes) in &EDITS {
         check_affected(&rt, rt.alloc(), before, after, nodes)?;
     }

@@ -43,6 +43,27 @@ fn each_growth_of_add_refused(rt: HostRuntime) -> Result<(), Fail> {
     Err(Fail::from("never added"))
 }
 
+// Copies a table with this growth refused, and says whether none was.
+fn copy_is_spared(rt: &impl Abort, alloc: Global, files: &Files, nth: u32) -> bool {
+    let is_harnessed = refuse_growth(alloc, nth);
+    let count = files.copy().map(|copy| copy.count()).ok();
+    let was_spared = end_refusals(alloc, is_harnessed);
+    let wanted = if was_spared { Some(2) } else { None };
+    assert_eq!(rt; count, wanted);
+    was_spared
+}
+
+#[test]
+fn each_growth_of_copy_refused(rt: HostRuntime) -> Result<(), Fail> {
+    let files = faulty_files(rt.alloc())?;
+    for nth in 1..100 {
+        if copy_is_spared(&rt, rt.alloc(), &files, nth) {
+            return Ok(());
+        }
+    }
+    Err(Fail::from("never copied"))
+}
+
 // Makes roles with this growth refused, and says whether none was.
 fn roles_are_spared(rt: &impl Abort, alloc: Global, nth: u32) -> bool {
     let is_harnessed = refuse_growth(alloc, nth);

@@ -1,0 +1,139 @@
+"""Counts the allocations of starts and of edits. An expansion takes allocations, so one that is made
+in vain shows here: twice, or in a second work.
+
+usage: counted.py RETANGLE REFUSE      REFUSE is tests/refuse.c as a library
+
+A conversation is counted with and without its last edit: the difference is what this edit took.
+Files are read and scanned, and names and texts are taken, anew for each edit and at a start, with
+allocations for each name. They are the same in both of what is compared here. What is left is the
+expansions, and some lists, whose room doubles. The last line is 'N passed, M failed'.
+"""
+import os
+import subprocess
+import sys
+import tempfile
+
+retangle, refuse = (os.path.abspath(path) for path in sys.argv[1:3])
+
+SECONDS = 60
+SIZES = (10, 1000, 10000)
+
+# What an edit takes for a first affected node that uses none: the list of the affected nodes, the
+# list of the work, and the expansion; and for another such node: its expansion.
+ONE_NODE, ANOTHER = 3, 1
+# Allocations of lists that have a place for each node: each of them doubles the room of one list.
+DOUBLINGS = 60
+CIRCULAR = '@<z@>'
+
+counts = {True: 0, False: 0}
+
+
+def check(holds, name, problem):
+    counts[bool(holds)] += 1
+    if not holds:
+        print('FAIL %s: %s' % (name, problem))
+
+
+def allocations(web, script, answers):
+    """How many allocations a conversation takes."""
+    with tempfile.TemporaryDirectory() as folder:
+        with open(os.path.join(folder, 'a.w'), 'w') as out:
+            out.write(web)
+        counted = os.path.join(folder, 'counted')
+        environment = dict(os.environ, LD_PRELOAD=refuse, COUNT_TO=counted)
+        done = subprocess.run([retangle, 'a'], cwd=folder, env=environment, input=script.encode(),
+                              capture_output=True, timeout=SECONDS)
+        written = done.stdout.decode()
+        check(written == answers, 'a conversation', '%r, not %r' % (written[:200], answers[:200]))
+        with open(counted) as reported:
+            return int(reported.read().split()[0])
+
+
+class Project:
+    """A program that uses so many names, a line each. These all use a last one. Two files use none,
+    and nothing uses them.
+
+    last: the text of the last name. If that name uses itself, the files alone can be expanded.
+    """
+
+    def __init__(self, count, last):
+        names = range(1, count + 1)
+        lines = ['@ P.', '@c'] + ['@<n%05d@>' % k for k in names]
+        for k in names:
+            lines += ['@ @<n%05d@>=' % k, '@<z@>']
+        lines += ['@ @<z@>=', last, '@ @(s.h@>=', '1', '@ @(t.h@>=', '1']
+        self.web = '\n'.join(lines) + '\n'
+        self.line_of_last = len(lines) - 4
+        self.lines_of_files = len(lines) - 2, len(lines)
+        work = 2 if last == CIRCULAR else count + 4
+        self.start = allocations(self.web, 'work\n', 'work %d\n' % work)
+
+
+def edits(lines):
+    return ''.join('replace %d a.w\n%s\n' % line for line in lines)
+
+
+def taken(project, before, edit, work):
+    """The allocations of an edit, or of a list of several, that affects so many nodes. The edits
+    before it are made one by one."""
+    front, answers = edits(before), 'ok\n' * len(before)
+    script = edits(edit)
+    if len(edit) > 1:
+        script = 'begin\n' + script + 'commit\n'
+        reported = 'ok\n' + 'held\n' * len(edit) + 'ok\n'
+    else:
+        reported = 'ok\n'
+    whole = allocations(project.web, front + script + 'work\n',
+                        answers + reported + 'work %d\n' % work)
+    return whole - allocations(project.web, front, answers)
+
+
+def check_one(name, project, before):
+    """An edit that affects one node takes so many allocations more than one that affects none, and
+    one that affects two nodes so many more again: whatever else the project has, and after other
+    edits."""
+    first, second = project.lines_of_files
+    nothing = taken(project, before, [(first, '1')], 0)
+    one = taken(project, before, [(first, '2')], 1) - nothing
+    check(one == ONE_NODE, name, 'for one node %d allocations, not %d' % (one, ONE_NODE))
+    two = (taken(project, before, [(first, '2'), (second, '2')], 2)
+           - taken(project, before, [(first, '1'), (second, '1')], 0))
+    check(two == ONE_NODE + ANOTHER, name,
+          'for two nodes %d allocations, not %d' % (two, ONE_NODE + ANOTHER))
+    return nothing
+
+
+def check_size(count):
+    name = '%d names' % count
+    project, circular = Project(count, '1'), Project(count, CIRCULAR)
+    nothing = check_one(name, project, [])
+    check_one(name + ', after an edit', project, [(project.line_of_last, '3')])
+
+    # An edit that affects nothing expands nothing, though all could be expanded.
+    in_circle = taken(circular, [], [(circular.lines_of_files[0], '1')], 0)
+    check(abs(nothing - in_circle) <= DOUBLINGS, name,
+          'an edit that affects nothing: %d allocations, and %d where nothing can be expanded'
+          % (nothing, in_circle))
+
+    # The expansion of the last name takes one allocation, and that of each name that uses it two,
+    # since it has a list of its uses. The program's list doubles its room.
+    least = 2 * count + 1
+    start = project.start - circular.start
+    check(least <= start <= least + DOUBLINGS, name,
+          'expansions at the start: %d allocations, at least %d' % (start, least))
+    everything = taken(project, [], [(project.line_of_last, '2')], count + 2) - nothing
+    check(least <= everything <= least + DOUBLINGS, name,
+          'expansions for an edit: %d allocations, at least %d' % (everything, least))
+    print('%s: an edit that affects nothing takes %d allocations, one that affects all %d more'
+          % (name, nothing, everything))
+
+
+def main():
+    for count in SIZES:
+        check_size(count)
+    print('%d passed, %d failed' % (counts[True], counts[False]))
+    return 1 if counts[False] else 0
+
+
+if __name__ == '__main__':
+    sys.exit(main())

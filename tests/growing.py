@@ -1,0 +1,114 @@
+"""What runs over a web of 40,000 names take beside runs over one of 10,000: four times as much, and
+not sixteen times.
+
+usage: growing.py CTANGLE RETANGLE MEASURE REFUSE TOP
+
+MEASURE is tests/measure.c as a program, REFUSE tests/refuse.c as a library, TOP the folder of the
+repository. Compared are the bytes that a run asks memory for, the most that it holds, and its
+instructions, or where nothing counts them its time. The last line is 'N passed, M failed'.
+"""
+import os
+import subprocess
+import sys
+import tempfile
+
+ctangle, retangle, measure, refuse, top = (os.path.abspath(path) for path in sys.argv[1:6])
+sys.path.insert(0, os.path.join(top, 'bench'))
+from measuring import find_counter
+
+FEW, MANY = 10000, 40000
+MOST = 4.5                  # times as much, where four times is meant
+MOST_TIME = 7               # the same of times, which vary
+NOTHING = os.devnull
+
+counts = {True: 0, False: 0}
+
+
+def check(holds, name, problem):
+    counts[bool(holds)] += 1
+    if not holds:
+        print('FAIL %s: %s' % (name, problem))
+
+
+def star(count):
+    """The program uses all names, and each of them the last one."""
+    names = range(count)
+    return (['@ P.', '@c'] + ['@<n%05d@>' % k for k in names]
+            + [line for k in names for line in ('@ @<n%05d@>=' % k, '@<z@>')] + ['@ @<z@>=', '1'])
+
+
+def chain(count, last='1'):
+    """The program uses the first name, and each name the next one."""
+    lines = ['@ P.', '@c', '@<n00000@>']
+    for k in range(count - 1):
+        lines += ['@ @<n%05d@>=' % k, '@<n%05d@>' % (k + 1)]
+    return lines + ['@ @<n%05d@>=' % (count - 1), last]
+
+
+def circle(count):
+    return chain(count, '@<n00000@>')
+
+
+def files(count):
+    """Each hundredth name is a file that uses the names before it."""
+    lines = ['@ P.', '@c', 'x']
+    for k in range(count):
+        used = ''.join('@<n%05d@>' % n for n in range(k - 99, k)) if k % 100 == 99 else '1'
+        lines += [('@ @(n%05d@>=' if k % 100 == 99 else '@ @<n%05d@>=') % k, used]
+    return lines
+
+
+# Edits that move all lines.
+SCRIPT = 'insert 1 a.w\n% top\nwork\nremove 1 a.w\nwork\n'
+
+
+class Taken:
+    """What a run over a web takes."""
+
+    def __init__(self, lines, words, script, counter):
+        with tempfile.TemporaryDirectory() as folder:
+            with open(os.path.join(folder, 'a.w'), 'w') as web:
+                web.write('\n'.join(lines) + '\n')
+            given, used = os.path.join(folder, 'script'), os.path.join(folder, 'used')
+            with open(given, 'w') as out:
+                out.write(script)
+            self.run([measure, used] + words, folder, given)
+            with open(used) as reported:
+                self.time, self.held = map(int, reported.read().split())
+            self.run(words, folder, given, LD_PRELOAD=refuse, COUNT_TO=used)
+            with open(used) as reported:
+                self.allocations, self.asked = map(int, reported.read().split())
+            self.instructions = counter and counter(words, folder, NOTHING, given)
+
+    @staticmethod
+    def run(command, folder, given, **variables):
+        with open(given) as script, open(NOTHING, 'w') as dropped:
+            subprocess.run(command, cwd=folder, env=dict(os.environ, **variables), stdin=script,
+                           stdout=dropped, stderr=dropped)
+
+
+def compare(name, few, many):
+    kinds = [('bytes asked for', 'asked'), ('allocations', 'allocations'), ('KB held', 'held')]
+    kinds.append(('instructions', 'instructions') if few.instructions else ('microseconds', 'time'))
+    reported = []
+    for kind, key in kinds:
+        before, after = getattr(few, key), getattr(many, key)
+        reported.append('%s %.1f' % (kind, after / max(before, 1)))
+        most = MOST_TIME if key == 'time' else MOST
+        check(after <= most * before, name, '%d %s for %d names, %d for %d'
+              % (before, kind, FEW, after, MANY))
+    print('%s: times as much: %s' % (name, ', '.join(reported)))
+
+
+def main():
+    counter = find_counter()
+    for web, program, script in ((star, ctangle, ''), (circle, ctangle, ''), (files, ctangle, ''),
+                                 (chain, retangle, SCRIPT)):
+        few, many = (Taken(web(count), [program, 'a'], script, counter) for count in (FEW, MANY))
+        compare('a %s of names' % web.__name__ if web != files else 'named files', few, many)
+    print('%d passed, %d failed' % (counts[True], counts[False]))
+    return 1 if counts[False] else 0
+
+
+if __name__ == '__main__':
+    sys.exit(main())

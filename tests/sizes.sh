@@ -1,0 +1,11 @@
+# Projects on both sides of the powers of two at which a program may stumble (tests/sizes.py).
+
+test_sizes() {
+    retangle=${RETANGLE:-$top/bin/retangle}
+    if [ ! -x "$retangle" ]; then
+        fail sizes "$retangle is not there: run make first"
+        return
+    fi
+    python3 -B "$top/tests/sizes.py" "$room/ctangle" "$retangle" "$top" >"$room/log" 2>&1
+    count_last_line sizes "$room/log"
+}

@@ -1,0 +1,16 @@
+# Streams and files that fail at each byte of what they give or take (tests/streams.py).
+
+test_streams() {
+    retangle=${RETANGLE:-$top/bin/retangle}
+    if [ ! -x "$retangle" ]; then
+        fail streams "$retangle is not there: run make first"
+        return
+    fi
+    if ! cc -O2 -shared -fPIC -o "$room/fail.so" "$top/tests/fail.c"; then
+        fail streams 'tests/fail.c does not compile'
+        return
+    fi
+    python3 -B "$top/tests/streams.py" "$room/ctangle" "$retangle" "$room/fail.so" "$top" \
+        >"$room/log" 2>&1
+    count_last_line streams "$room/log"
+}
