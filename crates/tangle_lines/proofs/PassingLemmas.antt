@@ -1,11 +1,11 @@
 -- Reading goes on past lines that no change takes and that are no inclusions.
-use Rattle.std.proofs.Common.{◌≡◌, ℕ, ◌+◌, Bool, List, [], ◌∷◌, ◌++◌, drop, Option, None, refl, sym, ap, ◌∙◌, append-nil, arith}
+use Rattle.std.proofs.Common.{◌≡◌, ℕ, ◌+◌, Bool, List, [], ◌∷◌, ◌++◌, drop, Option, None, Some, slice_get, true, false, not, ◌&&◌, cond, refl, sym, ap, ◌∙◌, append-nil, arith}
 use Rattle.tangle_files.specs.Lines.{FileTable}
 use Rattle.tangle_lines.specs.Change.{Change}
 use Rattle.tangle_lines.specs.Faults.{Finding}
 use Rattle.tangle_lines.specs.Inclusion.{included_name}
-use Rattle.tangle_lines.specs.Reading.{WaitingLine, Line, Reads, plain_step, change_here, waiting_lines, reads_from, before_reads}
-use Rattle.tangle_lines.specs.Waiting.{Makes, PassesOn}
+use Rattle.tangle_lines.specs.Reading.{WaitingLine, Line, Reads, plain_step, begins, change_here, waiting_lines, reads_from, before_reads}
+use Rattle.tangle_lines.specs.Waiting.{Makes, PassesOn, awaited, is_awaited}
 use Rattle.tangle_lines.proofs.ReadingLemmas.{at, so_far-plain}
 
 abbrev line_of : WaitingLine → Line
@@ -60,3 +60,14 @@ passes-next cs lines lines₁ lines₂ ws ws₁ ws₂ n m w before one first mor
 pub passes-same : (cs : List Change) (lines lines' : List Line) (ws ws₁ ws' ws₁' : List WaitingLine) (n : ℕ)
     → ws ≡ ws₁ → ws' ≡ ws₁' → PassesOn cs lines ws₁ n lines' ws₁' → PassesOn cs lines ws n lines' ws'
 passes-same cs lines lines' ws ws₁ ws' ws₁' n before after passed = rw (before, after) passed
+
+-- where the line at which the next change is used is another, no change is used
+pub unawaited : (cs : List Change) (w : WaitingLine) → is_awaited (awaited cs w.changed) w.bytes ≡ false → None ≡ change_here cs w
+unawaited [] w h = refl
+unawaited (c ∷ cs) w h = by w.changed c.old_lines h
+  where
+    by : (changed : Bool) (old : List (List ℕ)) → is_awaited (cond changed None (slice_get old 0)) w.bytes ≡ false
+        → None ≡ cond (not changed && begins old w.bytes) (Some c) None
+    by true old h = refl
+    by false [] h = refl
+    by false (o ∷ os) h = rw h refl

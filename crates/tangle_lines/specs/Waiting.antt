@@ -1,5 +1,6 @@
 -- The open files as one list of the lines that wait, and what one step makes of it.
-use Rattle.std.specs.Prelude.{◌≡◌, ℕ, ◌+◌, ◌≤◌, Bool, List, [], ◌∷◌, ◌++◌, length, drop, map}
+use Rattle.std.specs.Prelude.{◌≡◌, ℕ, ◌+◌, ◌≤◌, Bool, false, if◌then◌else◌, Option, None, Some, slice_get, List, [], ◌∷◌, ◌++◌, length, drop, map}
+use Rattle.std.specs.Str.{bytes_eq}
 use Rattle.tangle_lines.specs.declared.waiting.Rest.{Rest}
 use Rattle.tangle_lines.specs.declared.waiting.Rest.TheVariants.{OfFile, OfChange}
 use Rattle.tangle_files.specs.Lines.{FileTable}
@@ -37,6 +38,15 @@ IsPlain files w ws ws' lines lines' noted noted' = Makes (plain_step files w ws 
 -- a change was used at a line
 abbrev pub IsUsed : FileTable → ℕ → Change → WaitingLine → List WaitingLine → List WaitingLine → List Finding → List Finding → Type 0
 IsUsed files change_file c w ws ws' noted noted' = Makes (change_step files change_file c [] w ws 0) ws' [] [] noted noted'
+
+-- the first old line of the next change, in lines that it may be used at
+abbrev pub awaited : List Change → Bool → Option (List ℕ)
+awaited [] changed = None
+awaited (c ∷ cs) changed = if changed then None else slice_get c.old_lines 0
+
+abbrev pub is_awaited : Option (List ℕ) → List ℕ → Bool
+is_awaited None line = false
+is_awaited (Some old) line = bytes_eq line old
 
 -- so many lines were taken, below the limit, and reading goes on from where that leads as it would have without it
 abbrev pub PassesOn : List Change → List Line → List WaitingLine → ℕ → List Line → List WaitingLine → Type 0

@@ -1,11 +1,11 @@
 //! Reading of a web over open files.
-ghost use Rattle.std.specs.Prelude.{◌≡◌, ℕ, ◌+◌, ◌^◌, ◌<◌, ◌≤◌, [], ◌∷◌, ◌++◌, length, min, drop, map, true, None, IfOk, OnOk};
+ghost use Rattle.std.specs.Prelude.{◌≡◌, ℕ, ◌+◌, ◌^◌, ◌<◌, ◌≤◌, [], ◌∷◌, ◌++◌, length, min, drop, map, true, false, None, IfOk, OnOk};
 ghost use Rattle.std.specs.Option.{option_copied};
 ghost use Rattle.tangle_files.specs.Lines.{FileTable, number_of};
 ghost use Rattle.tangle_files.specs.Roles.{fits};
 ghost use Rattle.tangle_lines.specs.ReadingLaw.{ReadsByStep};
 ghost use Rattle.tangle_lines.specs.Reading.{State, line_limit, inclusion, reads_from, before_reads, change_number, changes_in, source_of, begins, change_here, unequal_front, unequal_lines, mismatch_faults, unused_faults};
-ghost use Rattle.tangle_lines.specs.Waiting.{IsPlain, IsUsed};
+ghost use Rattle.tangle_lines.specs.Waiting.{IsPlain, IsUsed, awaited, is_awaited};
 ghost use Rattle.tangle_lines.specs.Inclusion.{included_name};
 
 use crate::changes::{Change, changes_of};
@@ -156,13 +156,30 @@ fn change_at<'a, 'c>(changes: &'c [Change<'a>], line: &RawLine<'a>) -> Option<&'
     }
 }
 
-/// Whether the line is a source line as it stands: the next change is not used at it, and it is no
-/// inclusion.
-pub(crate) fn is_source_line(changes: &[Change<'_>], line: &RawLine<'_>) -> bool
-    ensures { result ≡ true →
-        (None ≡ change_here changes.now line.now) × (None ≡ included_name line.now.bytes) }
+/// The first old line of the next change, which is used at a line that equals it. `None` where none
+/// is used, as in lines that are changed.
+pub(crate) fn awaited_line<'c>(changes: &'c [Change<'_>], is_changed: bool) -> Option<&'c [u8]>
+    ensures { option_copied result ≡ awaited changes.entry.now is_changed }
 {
-    change_at(changes, line).is_none() && included_name(line.text.bytes()).is_none()
+    let [next, ..] = changes else {
+        return None;
+    };
+    match next.old_lines() {
+        [first, ..] if !is_changed => Some(first.bytes()),
+        _ => None,
+    }
+}
+
+/// Whether a line is a source line as it stands: it is not the one at which the next change is
+/// used, and it is no inclusion.
+pub(crate) fn is_source_line(awaited: Option<&[u8]>, line: &[u8]) -> bool
+    ensures { result ≡ true →
+        (is_awaited (option_copied awaited.entry) line.now ≡ false) × (None ≡ included_name line.now) }
+{
+    match awaited {
+        Some(old) if line == old => false,
+        _ => included_name(line).is_none(),
+    }
 }
 
 /// What was taken for old lines of a change.

@@ -6,7 +6,7 @@ ghost use Rattle.tangle_lines.specs.Waiting.{PassesOn};
 
 use crate::changes::Change;
 use crate::faults::Origin;
-use crate::reading::is_source_line;
+use crate::reading::{awaited_line, is_source_line};
 use crate::source::SourceLine;
 use std::alloc::Global;
 use std::marker::Model;
@@ -147,21 +147,17 @@ impl<'a, 'c> OpenFile<'a, 'c> {
         let Rest::OfFile(texts, read) = self.rest else {
             return Ok(0);
         };
+        let awaited = awaited_line(changes, self.is_changed);
         let mut number = read;
         while let Some((text, next)) = line_after(texts, number) {
-            let line = RawLine {
-                text,
-                place: Origin {
-                    file: self.file,
-                    line: next,
-                },
-                is_changed: self.is_changed,
-                depth: self.depth,
-            };
-            if (number - read) as usize >= room || !is_source_line(changes, &line) {
+            if (number - read) as usize >= room || !is_source_line(awaited, text.bytes()) {
                 break;
             }
-            lines.push(SourceLine::new(text, line.place, line.is_changed))?;
+            let place = Origin {
+                file: self.file,
+                line: next,
+            };
+            lines.push(SourceLine::new(text, place, self.is_changed))?;
             number = next;
         }
         self.rest = Rest::OfFile(texts, number);

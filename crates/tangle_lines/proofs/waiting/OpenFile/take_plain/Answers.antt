@@ -1,5 +1,7 @@
-use Rattle.std.proofs.Common.{◌≡◌, ◌+◌, ◌-◌, [], ◌∷◌, ◌++◌, refl, ap, ◌∙◌, arith}
-use Rattle.tangle_lines.proofs.PassingLemmas.{passes-none, passes-next, waiting-next}
+use Rattle.std.proofs.Common.{◌≡◌, ◌+◌, ◌-◌, [], ◌∷◌, ◌++◌, refl, sym, ap, ◌∙◌, arith}
+use Rattle.tangle_lines.specs.Inclusion.{included_name}
+use Rattle.tangle_lines.specs.Waiting.{awaited, is_awaited}
+use Rattle.tangle_lines.proofs.PassingLemmas.{passes-none, passes-next, unawaited, waiting-next}
 use Rattle.tangle_lines.proofs.waiting.OpenFile.take_plain.Goals as goal
 
 pub loop-text-init : goal.loop-text-init
@@ -24,5 +26,10 @@ loop-text-preserved c =
           passes-next c.args.changes.now c.args.lines.now.items c.loop-text.lines.items c.push.new.self.items _ _ _ _ _ _
           (c.loop-text.invariant.passed rest) one
           (waiting-next c.self.inside.file c.self.inside.is_changed c.self.inside.depth c.loop-text.number c.in-Some.next c.in-OfFile.texts.now c.in-Some.text.now rest next c.in-Some.ensures.line.1)
-          (c.in_ok-push.ensures.items ∙ ap (λ l. c.loop-text.lines.items ++ l ∷ []) c.new.ensures) (c.if-not-is_source_line.ensures refl).0 (c.if-not-is_source_line.ensures refl).1;
+          (c.in_ok-push.ensures.items ∙ ap (λ l. c.loop-text.lines.items ++ l ∷ []) c.new.ensures)
+          (unawaited c.args.changes.now (record { bytes = c.in-Some.text.now; place = record { file = c.self.inside.file; line = c.in-Some.next }; changed = c.self.inside.is_changed; depth = c.self.inside.depth })
+          (ap (λ b. is_awaited (awaited c.args.changes.now c.self.inside.is_changed) b) (sym c.bytes.ensures.value)
+          ∙ ap (λ a. is_awaited a c.bytes.result.now) (sym c.awaited_line-awaited.ensures)
+          ∙ (c.if-not-is_source_line.ensures refl).0))
+          ((c.if-not-is_source_line.ensures refl).1 ∙ ap included_name c.bytes.ensures.value);
     }
