@@ -264,29 +264,34 @@ def bench_edits(bench):
     lines, dropped = webs.leaves(35000, 3000), webs.leaves(35000, 3000, tail=DROPPED)
     folder = bench.folder({'a.w': lines})
     whole = bench.counter and bench.counter([bench.program, 'a'], folder, os.devnull)
-    edit = bench.cost_of_one(folder, replaces(lines, 12))
+    edit, moves, name, use = (bench.cost_of_one(folder, edits(lines, 12)) for edits in
+                              (replaces, insertions, names_more, uses_more))
     # The same edits where the parts are dropped: copying, reading and scanning, and the names that
-    # are no names.
+    # are no names. And the same part of a whole run.
     names = webs.names_in(dropped)
     others = (dropped, webs.uses_alone(names, '@<'), webs.uses_alone(names, '@^'))
     until, as_names, as_texts = (
         bench.cost_of_one(bench.folder({'a.w': web}), replaces(web, 12)) for web in others)
-    least, most = None, None
+    least, most, of_whole = None, None, None
     if edit is not None:
         least, most = edit - until, edit - until + as_names - as_texts
+        of_whole = whole - scanned(bench, dropped + [UNREPORTED], names)[0]
     refused = bench.cost_of_one(folder, refusals(110), few=10)
     few, many = (bench.run_of_script(folder, lines_of(replaces(lines, count))).kilobytes
                  for count in (10, 1000))
     table('Edits by retangle of a web of 35,000 lines with 3,000 names, of which ctangle takes %s '
-          'instructions' % show(whole),
+          'instructions, behind scanning %s' % (show(whole), show(of_whole)),
           ['', 'instructions or KB', 'ratio', 'wanted'],
           [['one replace of a line of a leaf', edit, ratio(edit, whole),
-            'at most 0.8 of a whole run'],
-           ['  of it store, comparison, sharing, expansion: at least', least, ratio(least, whole),
-            'at most 0.25 of a whole run'],
-           ['  at most, with the table of names', most, ratio(most, whole), ''],
+            'at most 0.76 of a whole run, and 72,000,000'],
+           ['one line more in front of all others', moves, ratio(moves, whole), 'no more than it'],
+           ['one use more', use, ratio(use, whole), 'at most 0.95 of a whole run'],
+           ['one name more', name, ratio(name, whole), 'at most 0.95 of a whole run'],
+           ['behind scanning one replace takes at least', least, ratio(least, of_whole),
+            'at most 0.15 of the same part of a whole run'],
+           ['  at most, with the table of names', most, ratio(most, of_whole), ''],
            ['one refused edit', refused, '', 'under 10,000'],
-           ['most memory in 1,000 edits, KB', many, ratio(many, few), 'no more than in ten']])
+           ['most memory in 1,000 edits, KB', many, ratio(many, few), 'at most 1.1 of ten']])
 
 
 def bench_marks(bench):
@@ -333,6 +338,30 @@ def replaces(lines, count):
     ends = heads[1:] or [len(lines)]            # counted from 1
     return [Command(['replace %d a.w' % ends[number * 37 % len(ends)], 'edited(%d);' % number],
                     ['ok']) for number in range(count)]
+
+
+def insertions(lines, count):
+    """So many commands that each insert a line in front of all sections, and so move all others."""
+    return [Command(['insert 1 a.w', '% line ' + str(number), 'work'], ['ok', 'work 0'])
+            for number in range(count)]
+
+
+def uses_more(lines, count):
+    """So many commands that each make the last line of a leaf a use of another leaf."""
+    return used_at_ends(lines, count, 'Leaf %d of the program')
+
+
+def names_more(lines, count):
+    """So many commands that each make the last line of a leaf a use of a name that is new."""
+    return used_at_ends(lines, count, 'Leaf %d, which is new')
+
+
+def used_at_ends(lines, count, name):
+    """So many commands that each make the last line of a leaf a use of the name with a number."""
+    made = replaces(lines, count)
+    for number, command in enumerate(made):
+        command.lines[1] = '@<' + name % (1000 + number) + '@>;'
+    return made
 
 
 def rewordings(lines, count):
