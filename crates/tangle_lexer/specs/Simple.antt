@@ -1,5 +1,5 @@
 -- What stands in most places of C text: words, white space, signs and line ends that open nothing.
-use Rattle.std.specs.Prelude.{◌≡◌, ◌<◌, ℕ, Bool, true, false, ◌==◌, ◌||◌, if◌then◌else◌, List, length, Option, None, Some, IsSome}
+use Rattle.std.specs.Prelude.{◌≡◌, ◌<◌, ℕ, Bool, true, false, ◌==◌, ◌||◌, not, if◌then◌else◌, List, length, Option, None, Some, IsSome}
 use Rattle.tangle_lines.specs.Bytes.{is_white}
 use Rattle.tangle_lexer.specs.declared.modes.Mode.{Mode}
 use Rattle.tangle_lexer.specs.declared.modes.Mode.TheVariants as mode
@@ -15,6 +15,10 @@ use Rattle.tangle_lexer.specs.Steps.{kind_of}
 -- a byte that may open something longer
 abbrev pub is_opener : ℕ → Bool
 is_opener b = b == at_sign || b == slash || b == double_quote || b == apostrophe || b == less_sign
+
+-- a sign that opens nothing longer
+abbrev pub is_sign_byte : ℕ → Bool
+is_sign_byte b = not (is_opener b || is_white b || is_word_byte b)
 
 -- what a byte is that opens nothing longer
 abbrev pub simple_of : ℕ → Option Simple

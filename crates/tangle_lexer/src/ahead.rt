@@ -71,6 +71,7 @@ fn at_sign_from(text: &[u8], column: usize) -> usize
 }
 
 /// The column where the word bytes from this column on end.
+// Four bytes are looked at in a turn, since most words have as many.
 #[inline(always)]
 fn word_end(text: &[u8], from: usize) -> usize
     requires { from ≤ length text.now }
@@ -78,6 +79,21 @@ fn word_end(text: &[u8], from: usize) -> usize
     ensures inside { result ≤ length text.now }
 {
     let mut end = from;
+    while text.len() - end >= 4 {
+        if !is_word_byte(text[end]) {
+            return end;
+        }
+        if !is_word_byte(text[end + 1]) {
+            return end + 1;
+        }
+        if !is_word_byte(text[end + 2]) {
+            return end + 2;
+        }
+        if !is_word_byte(text[end + 3]) {
+            return end + 3;
+        }
+        end += 4;
+    }
     while end < text.len() && is_word_byte(text[end]) {
         end += 1;
     }
@@ -113,12 +129,28 @@ fn is_ordinary(byte: u8) -> bool
 }
 
 /// The column where such bytes from this column on end.
+// Four bytes are looked at in a turn here too.
 fn ordinary_end(text: &[u8], from: usize) -> usize
     requires { from ≤ length text.now }
     ensures end { result ≡ from + run_length regions.is_ordinary (drop from text.now) }
     ensures inside { result ≤ length text.now }
 {
     let mut end = from;
+    while text.len() - end >= 4 {
+        if !is_ordinary(text[end]) {
+            return end;
+        }
+        if !is_ordinary(text[end + 1]) {
+            return end + 1;
+        }
+        if !is_ordinary(text[end + 2]) {
+            return end + 2;
+        }
+        if !is_ordinary(text[end + 3]) {
+            return end + 3;
+        }
+        end += 4;
+    }
     while end < text.len() && is_ordinary(text[end]) {
         end += 1;
     }

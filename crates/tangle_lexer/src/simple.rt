@@ -8,7 +8,7 @@ ghost use Rattle.tangle_lexer.specs.Steps.{c_lexeme, tokens_from, names_from};
 ghost use Rattle.tangle_lexer.specs.Heads.{is_head};
 
 use crate::ahead::Reader;
-use crate::bytes::is_word_byte;
+use crate::bytes::{is_white, is_word_byte};
 use crate::modes::{Mode, ScanState};
 use crate::regions::Unit;
 use crate::steps::{line_end, sign, white_space, word};
@@ -24,18 +24,50 @@ pub enum Simple {
     LineEnd,
 }
 
+/// Whether each byte is a sign that opens nothing longer.
+const SIGN_BYTES: [bool; 256] = [
+    true, true, true, true, true, true, true, true, true, false, true, false, false, false, true,
+    true, true, true, true, true, true, true, true, true, true, true, true, true, true, true, true,
+    true, false, true, false, true, false, true, true, false, true, true, true, true, true, true,
+    true, false, false, false, false, false, false, false, false, false, false, false, true, true,
+    false, true, true, true, false, false, false, false, false, false, false, false, false, false,
+    false, false, false, false, false, false, false, false, false, false, false, false, false,
+    false, false, false, false, true, true, true, true, false, true, false, false, false, false,
+    false, false, false, false, false, false, false, false, false, false, false, false, false,
+    false, false, false, false, false, false, false, false, false, true, true, true, true, true,
+    false, false, false, false, false, false, false, false, false, false, false, false, false,
+    false, false, false, false, false, false, false, false, false, false, false, false, false,
+    false, false, false, false, false, false, false, false, false, false, false, false, false,
+    false, false, false, false, false, false, false, false, false, false, false, false, false,
+    false, false, false, false, false, false, false, false, false, false, false, false, false,
+    false, false, false, false, false, false, false, false, false, false, false, false, false,
+    false, false, false, false, false, false, false, false, false, false, false, false, false,
+    false, false, false, false, false, false, false, false, false, false, false, false, false,
+    false, false, false, false, false, false, false, false, false, false, false, false, false,
+    false, false, false, false, false, false, false, false, false, false, false,
+];
+
+/// A sign that opens nothing longer.
+#[inline(always)]
+fn is_sign_byte(byte: u8) -> bool
+    ensures { result ≡ spec.is_sign_byte byte }
+{
+    SIGN_BYTES[byte as usize]
+}
+
 /// What this byte is, if it opens nothing longer.
 #[inline(always)]
 fn simple_of(byte: u8) -> Option<Simple>
     ensures { result ≡ spec.simple_of byte }
 {
     if is_word_byte(byte) {
-        return Some(Simple::Word);
-    }
-    match byte {
-        b'@' | b'/' | b'"' | b'\'' | b'<' => None,
-        b' ' | b'\t' | b'\r' | 11 | 12 => Some(Simple::White),
-        _ => Some(Simple::Sign),
+        Some(Simple::Word)
+    } else if is_sign_byte(byte) {
+        Some(Simple::Sign)
+    } else if is_white(byte) {
+        Some(Simple::White)
+    } else {
+        None
     }
 }
 

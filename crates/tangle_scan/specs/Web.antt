@@ -8,6 +8,7 @@ use Rattle.tangle_lines.specs.Faults.{Finding, fault_at}
 use Rattle.tangle_lines.specs.Reading.{Line, SourceRead, named, place_at}
 use Rattle.tangle_files.specs.Lines.{FileTable}
 use Rattle.tangle_scan.specs.declared.items.Item.{Item}
+use Rattle.tangle_scan.specs.declared.items.Item.TheVariants as item
 use Rattle.tangle_lexer.specs.declared.tokens.Token.{Token}
 use Rattle.tangle_lexer.specs.declared.tokens.Token.TheVariants as token
 use Rattle.tangle_lexer.specs.Lexemes.{NameRead}
@@ -23,6 +24,11 @@ pub record PieceRead : Type 0 where
   pub place : Origin
   pub name : Option ℕ
   pub items : List Item
+
+-- a line mark
+abbrev pub is_line_mark : Item → Bool
+is_line_mark (item.LineMark place) = true
+is_line_mark _ = false
 
 -- a web, with the bytes of its source lines and the names of its files
 pub record WebRead : Type 0 where

@@ -7,11 +7,11 @@ ghost use Rattle.tangle_scan.specs.Rules as rules;
 ghost use Rattle.tangle_lines.specs.Reading.{place_at};
 ghost use Rattle.tangle_scan.specs.Web as web;
 ghost use Rattle.tangle_lexer.specs.Heads.{is_head};
-ghost use Rattle.tangle_scan.specs.Web.{texts_of};
+ghost use Rattle.tangle_scan.specs.Web.{texts_of, is_line_mark};
 ghost use Rattle.tangle_scan.specs.Gathering.{own_fault, nothing, gathering_with, with_head};
 
 use crate::items::Item;
-use crate::laying::{lay_macro, lay_plain_part};
+use crate::laying::{LaidPart, lay_macro, lay_plain_part};
 use crate::pieces::{Macro, Piece};
 use crate::rare_parts::lay_rare_part;
 use crate::spacing::{first_byte, has_rare, macro_tokens};
@@ -81,26 +81,31 @@ fn note_faults(
     Ok(())
 }
 
-/// Lays the items of a C part whose head ends on a line, and answers whether some of its tokens are
-/// rare. Most parts have none. Where one has, what was laid up to the first one is laid again.
+/// Lays the items of a C part whose head ends on a line, and answers what is known of it. Most parts have none. Where one has, what was laid up to the first one is laid again.
 fn lay_part(
     source: &Source,
     items: &mut Vec<Item>,
     line: u32,
     tokens: &[Token],
-) -> Result<bool, NoMemory>
+) -> Result<LaidPart, NoMemory>
     ensures items { OnOk result (items.new.items
         ≡ rules.part_items source.now.lines line tokens.now) }
-    ensures rare { IfOk result (λ rare. rare ≡ list_any passes.is_rare tokens.now) }
+    ensures rare { IfOk result (λ laid. laid.has_rare ≡ list_any passes.is_rare tokens.now) }
+    ensures mark { IfOk result (λ laid. laid.may_have_mark ≡ false →
+        list_any is_line_mark items.new.items ≡ false) }
 {
-    let rare = lay_plain_part(source, items, line, tokens)?;
-    if rare {
-        lay_rare_part(source, items, line, tokens)?;
+    let laid = lay_plain_part(source, items, line, tokens)?;
+    if !laid.has_rare {
+        return Ok(laid);
     }
-    Ok(rare)
+    lay_rare_part(source, items, line, tokens)?;
+    Ok(LaidPart {
+        has_rare: true,
+        may_have_mark: true,
+    })
 }
 
-/// The items of a C part whose head ends on a line, and whether some of its tokens are rare.
+/// The items of a C part whose head ends on a line, and what is known of it.
 // They are laid where they stay, in room for an item of each token: a part has few more, and what
 // is left of the room is given back.
 fn part_items(
@@ -108,15 +113,17 @@ fn part_items(
     source: &Source,
     line: u32,
     tokens: &[Token],
-) -> Result<(Vec<Item>, bool), NoMemory>
+) -> Result<(Vec<Item>, LaidPart), NoMemory>
     ensures items { IfOk result (λ r. r.0.items
         ≡ rules.part_items source.now.lines line tokens.now) }
-    ensures rare { IfOk result (λ r. r.1 ≡ list_any passes.is_rare tokens.now) }
+    ensures rare { IfOk result (λ r. r.1.has_rare ≡ list_any passes.is_rare tokens.now) }
+    ensures mark { IfOk result (λ r. r.1.may_have_mark ≡ false →
+        list_any is_line_mark r.0.items ≡ false) }
 {
     let mut items = Vec::with_capacity(alloc, tokens.len())?;
-    let rare = lay_part(source, &mut items, line, tokens)?;
+    let laid = lay_part(source, &mut items, line, tokens)?;
     items.shrink_to_fit();
-    Ok((items, rare))
+    Ok((items, laid))
 }
 
 /// The tokens of a macro on their way to its items. Their memory serves every macro.
@@ -235,12 +242,12 @@ impl Gathering {
         }) }
         ensures rare { IfOk result (λ rare. rare ≡ list_any passes.is_rare tokens.now) }
     {
-        let (items, rare) = part_items(alloc, source, line, tokens)?;
+        let (items, laid) = part_items(alloc, source, line, tokens)?;
         let place = source.origin(line as usize);
-        self.pieces
-            .push(Piece::new(self.sections, place, name, items))?;
-        self.has_defs_code = self.has_defs_code || has_defs(tokens, rare);
-        Ok(rare)
+        let piece = Piece::new(self.sections, place, name, items, laid.may_have_mark);
+        self.pieces.push(piece)?;
+        self.has_defs_code = self.has_defs_code || has_defs(tokens, laid.has_rare);
+        Ok(laid.has_rare)
     }
 
     /// Adds a macro, or notes that it does not begin with an identifier, at the line of its `@d`. It answers whether some of its tokens

@@ -2,11 +2,12 @@
 //! macro. White space between two items of a line is a blank, and other white space is dropped. A
 //! line mark stands behind each use and each `@h`, and in place of a line end where the next source
 //! line has another place than the compiler would count.
-ghost use Rattle.std.specs.Prelude.{◌≡◌, ◌≤◌, ◌<◌, ◌-◌, ◌+◌, ◌^◌, ◌++◌, ◌∷◌, ◌&&◌, ◌||◌, [], ℕ, List, length, max, if◌then◌else◌, false, Option, None, Some, option_to_list, IfOk, OnOk};
+ghost use Rattle.std.specs.Prelude.{◌≡◌, ◌≤◌, ◌<◌, ◌-◌, ◌+◌, ◌^◌, ◌++◌, ◌∷◌, ◌&&◌, ◌||◌, [], ℕ, List, length, max, if◌then◌else◌, true, false, Option, None, Some, option_to_list, IfOk, OnOk};
 ghost use Rattle.std.specs.List.{list_any};
 ghost use Rattle.tangle_scan.specs.Rules as rules;
 ghost use Rattle.tangle_lines.specs.Reading.{place_at};
 ghost use Rattle.tangle_scan.specs.Passes as passes;
+ghost use Rattle.tangle_scan.specs.Web.{is_line_mark};
 ghost use Rattle.tangle_scan.specs.Passes.{counts, items_ahead, unmarked_from};
 ghost use Rattle.tangle_lexer.specs.declared.tokens.Token.{Token};
 ghost use Rattle.tangle_scan.specs.declared.items.Item.TheVariants as item;
@@ -28,6 +29,8 @@ struct Before {
 pub struct Count {
     pub file: usize,
     pub line: usize,
+    /// Some mark was put.
+    pub has_mark: bool,
 }
 
 /// How far the items of a C part were laid.
@@ -41,22 +44,25 @@ struct Laying {
 pub fn count_on(source: &Source, line: u32) -> Count
     ensures place { counts result ≡ place_at source.now.lines line }
     ensures room { result.line < 2 ^ 32 }
+    ensures mark { result.has_mark ≡ false }
 {
     let place = source.origin(line as usize);
     Count {
         file: place.file as usize,
         line: place.line as usize,
+        has_mark: false,
     }
 }
 
 /// The count on the next line.
 fn next_line(count: Count) -> Count
     requires { count.line < 2 ^ 63 }
-    ensures { counts result ≡ rules.next_line (counts count) }
+    ensures count { counts result ≡ rules.next_line (counts count) }
+    ensures mark { result.has_mark ≡ count.has_mark }
 {
     Count {
-        file: count.file,
         line: count.line + 1,
+        ..count
     }
 }
 
@@ -82,11 +88,13 @@ fn put_mark(items: &mut Vec<Item>, place: Origin) -> Result<Count, NoMemory>
     ensures items { OnOk result (items.new.items ≡ items.old.items ++ item.LineMark place ∷ []) }
     ensures count { IfOk result (λ count. counts count ≡ place) }
     ensures room { IfOk result (λ count. count.line < 2 ^ 32) }
+    ensures mark { IfOk result (λ count. count.has_mark ≡ true) }
 {
     items.push(Item::LineMark(place))?;
     Ok(Count {
         file: place.file as usize,
         line: place.line as usize,
+        has_mark: true,
     })
 }
 
@@ -104,6 +112,8 @@ pub fn put_line_end(
         ++ rules.line_item source.now.lines (counts count) line ∷ []) }
     ensures count { IfOk result (λ next. counts next ≡ rules.count_behind source.now.lines (counts count) line) }
     ensures room { IfOk result (λ next. next.line ≤ max (2 ^ 32) (count.line + 1)) }
+    ensures mark { IfOk result (λ next. next.has_mark
+        ≡ (is_line_mark (rules.line_item source.now.lines (counts count) line) || count.has_mark)) }
 {
     match mark_behind(source, count, line) {
         None => {
@@ -174,6 +184,8 @@ pub fn put_item(
     ensures items { OnOk result (items.new.items ≡ items.old.items ++ passes.items_at source.now.lines token) }
     ensures count { IfOk result (λ next. counts next ≡ passes.count_after source.now.lines (counts count) token) }
     ensures room { IfOk result (λ next. next.line ≤ max (2 ^ 32) (count.line + 1)) }
+    ensures mark { IfOk result (λ next. next.has_mark
+        ≡ (list_any is_line_mark (passes.items_at source.now.lines token) || count.has_mark)) }
 {
     match token {
         Token::UseOf(number, line) => {
@@ -218,6 +230,8 @@ fn lay_token(
         items.new.items ++ items_ahead source.now.lines next es ≡ items.old.items ++ items_ahead source.now.lines at (token.now ∷ es)) }
     ensures room { IfOk result (λ next. next.count.line ≤ max (2 ^ 32) (at.count.line + 1)) }
     ensures rare { OnOk result (has_rare.new ≡ (passes.is_rare token.now || has_rare.old)) }
+    ensures mark { IfOk result (λ next. list_any is_line_mark items.old.items ≡ at.count.has_mark
+        → list_any is_line_mark items.new.items ≡ next.count.has_mark) }
 {
     match *token {
         Token::White => Ok(laid_to(at.before.item, true, at.count)),
@@ -239,6 +253,15 @@ fn lay_token(
     }
 }
 
+/// What is known of a C part whose items were laid.
+#[derive(Clone, Copy)]
+pub struct LaidPart {
+    /// Some of its tokens are rare.
+    pub has_rare: bool,
+    /// Some of its items may be a line mark.
+    pub may_have_mark: bool,
+}
+
 /// Lays the items of a C part whose head ends on a line, as long as no token is rare, and answers
 /// whether one is.
 pub fn lay_plain_part(
@@ -246,10 +269,12 @@ pub fn lay_plain_part(
     items: &mut Vec<Item>,
     line: u32,
     tokens: &[Token],
-) -> Result<bool, NoMemory>
-    ensures items { IfOk result (λ rare. rare ≡ false →
+) -> Result<LaidPart, NoMemory>
+    ensures items { IfOk result (λ laid. laid.has_rare ≡ false →
         items.new.items ≡ rules.part_items source.now.lines line tokens.now) }
-    ensures rare { IfOk result (λ rare. rare ≡ list_any passes.is_rare tokens.now) }
+    ensures rare { IfOk result (λ laid. laid.has_rare ≡ list_any passes.is_rare tokens.now) }
+    ensures mark { IfOk result (λ laid. laid.may_have_mark ≡ false →
+        list_any is_line_mark items.new.items ≡ false) }
 {
     items.clear();
     let mut has_rare = false;
@@ -263,10 +288,16 @@ pub fn lay_plain_part(
     for token in tokens {
         at = lay_token(source, items, at, token, &mut has_rare)?;
         if has_rare {
-            return Ok(true);
+            return Ok(LaidPart {
+                has_rare: true,
+                may_have_mark: true,
+            });
         }
     }
-    Ok(false)
+    Ok(LaidPart {
+        has_rare: false,
+        may_have_mark: at.count.has_mark,
+    })
 }
 
 /// Lays a token behind the items of a macro.

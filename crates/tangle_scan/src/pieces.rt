@@ -1,5 +1,7 @@
 //! The pieces and the macros of a web.
-ghost use Rattle.std.specs.Prelude.{◌≡◌, ℕ, List};
+ghost use Rattle.std.specs.Prelude.{◌≡◌, ℕ, List, false};
+ghost use Rattle.std.specs.List.{list_any};
+ghost use Rattle.tangle_scan.specs.Web.{is_line_mark};
 
 use crate::items::Item;
 use std::marker::Model;
@@ -12,19 +14,32 @@ pub struct Piece {
     place: Origin,
     name: Option<usize>,
     items: Vec<Item>,
+    /// Without it no item is a line mark.
+    may_have_mark: bool,
 }
 
 impl Model for Piece {
-    ghost use Rattle.tangle_scan.specs.Web.{PieceRead};
+    ghost use Rattle.std.specs.Prelude.{◌≡◌, false};
+    ghost use Rattle.std.specs.List.{list_any};
+    ghost use Rattle.tangle_scan.specs.Web.{PieceRead, is_line_mark};
 
     ghost Value = { PieceRead };
 
     ghost view = { λ p. record { section = p.section; place = p.place; name = p.name; items = p.items.items } };
+
+    ghost invariant = { λ p. p.may_have_mark ≡ false → list_any is_line_mark p.items.items ≡ false };
 }
 
 impl Piece {
-    /// A piece of these items.
-    pub(crate) fn new(section: usize, place: Origin, name: Option<usize>, items: Vec<Item>) -> Self
+    /// A piece of these items, of which none may be a line mark but where that is said.
+    pub(crate) fn new(
+        section: usize,
+        place: Origin,
+        name: Option<usize>,
+        items: Vec<Item>,
+        may_have_mark: bool,
+    ) -> Self
+        requires { may_have_mark ≡ false → list_any is_line_mark items.items ≡ false }
         ensures { result ≡ record { section = section; place = place; name = name; items = items.items } }
     {
         Piece {
@@ -32,6 +47,7 @@ impl Piece {
             place,
             name,
             items,
+            may_have_mark,
         }
     }
 
@@ -54,6 +70,13 @@ impl Piece {
         ensures { result ≡ self.now.name }
     {
         self.name
+    }
+
+    /// Whether some item may be a line mark: where the answer is no, none is.
+    pub fn may_have_mark(&self) -> bool
+        ensures { result ≡ false → list_any is_line_mark self.now.items ≡ false }
+    {
+        self.may_have_mark
     }
 
     /// The items.
