@@ -1,4 +1,6 @@
+mod AlikeLemmas
 mod FirstLemmas
+mod KeptLemmas
 mod KeyLemmas
 mod LawLemmas
 mod MeaningLemmas

@@ -1,10 +1,11 @@
 -- One more occurrence, and one more name.
-use Rattle.std.proofs.Common.{◌≡◌, ◌<◌, ◌≤◌, option_to_list, ◌+◌, ◌∙◌, ℕ, zero, suc, Bool, true, false, cond, not, ◌||◌, ◌&&◌, List, [], ◌∷◌, ◌++◌, length, map, take, drop, drop-cons, get_or, refl, ap, sym, arith, append_assoc, append-nil, add-zero, zero-add, Vec}
+use Rattle.std.proofs.Common.{◌≡◌, ◌<◌, ◌≤◌, option_to_list, ◌+◌, ◌∙◌, ℕ, zero, suc, Bool, true, false, cond, not, ◌||◌, ◌&&◌, List, [], ◌∷◌, ◌++◌, length, map, flat_map, take, drop, drop-cons, get_or, refl, ap, sym, arith, append_assoc, append-nil, add-zero, zero-add, Vec}
 use Rattle.std.specs.Global.{Global}
 use Rattle.std.proofs.lemmas.List.{get_or-map, length-map}
 use Rattle.std.proofs.lemmas.Option.{slice_get_past}
 use Rattle.std.proofs.lemmas.List.Folds.{list_any_more}
 use Rattle.tangle_names.specs.declared.Resolved.{Resolved}
+use Rattle.tangle_names.specs.declared.Resolved.TheVariants.{NoFullName}
 use Rattle.tangle_lines.specs.declared.faults.FaultKind.TheVariants as kind
 use Rattle.tangle_lines.specs.Faults.{Finding, fault_about}
 use Rattle.tangle_scan.specs.Web.{WebRead}
@@ -12,39 +13,8 @@ use Rattle.tangle_lexer.specs.Occurrences.{OccurrenceRead}
 use Rattle.std.specs.List.{list_any, position_or_len}
 use Rattle.tangle_names.specs.Names.{Text, One}
 use Rattle.tangle_names.specs.Resolving.{resolution}
-use Rattle.tangle_names.specs.Faults.{begins_another, spot_of}
-use Rattle.tangle_names.specs.Numbers.{key_texts, is_number, first_by_number, NotesNumber, Flags, warning, warnings}
-
-pub warnings-more : (web : WebRead) (begins : List Bool) (firsts : List ℕ) (k : ℕ) (ts : List Text) (i : ℕ) (d : Text) → i < length ts
-    → warnings web begins firsts k (take (i + 1) ts) ≡ warnings web begins firsts k (take i ts) ++ warning web (get_or begins (k + i) false) (get_or firsts (k + i) 0) (get_or ts i d)
-warnings-more web begins firsts k [] i d h = absurd (omega (arith, h))
-warnings-more web begins firsts k (t ∷ ts) zero d h =
-    append-nil (warning web (get_or begins k false) (get_or firsts k 0) t) ∙ ap (λ j. warning web (get_or begins j false) (get_or firsts j 0) t) (sym (add-zero k))
-warnings-more web begins firsts k (t ∷ ts) (suc i) d h =
-    let one_more : suc i + 1 ≡ suc (i + 1) = omega arith in
-    let place : k + 1 + i ≡ k + suc i = omega arith in
-    let low : i < length ts = omega (arith, h) in
-    let first = warning web (get_or begins k false) (get_or firsts k 0) t in
-    let last : ℕ → List Finding = λ (n : ℕ). warning web (get_or begins n false) (get_or firsts n 0) (get_or ts i d) in
-    ap (λ n. warnings web begins firsts k (take n (t ∷ ts))) one_more
-    ∙ (ap (λ r. first ++ r) (warnings-more web begins firsts (k + 1) ts i d low ∙ ap (λ n. warnings web begins firsts (k + 1) (take i ts) ++ last n) place)
-    ∙ sym (append_assoc first (warnings web begins firsts (k + 1) (take i ts)) (last (k + suc i))))
-
-pub warning_step : (web : WebRead) (begins : List Bool) (firsts : List ℕ) (names : List (Vec ℕ Global)) (i : ℕ) (name : Vec ℕ Global) (seen : Text)
-    (b : Bool) (first : ℕ) (before now next : List Finding) → i < length names
-    → name ≡ get_or names i name → seen ≡ name.items → b ≡ get_or begins i false → first ≡ get_or firsts i 0
-    → now ≡ before ++ warnings web begins firsts 0 (take i (key_texts names))
-    → next ≡ now ++ warning web b first seen → next ≡ before ++ warnings web begins firsts 0 (take (i + 1) (key_texts names))
-warning_step web begins firsts names i name seen b first before now next h read shown marked placed sofar is =
-    let inside : i < length (key_texts names) = omega (arith, h, length-map names (λ (v : Vec ℕ Global). v.items)) in
-    let text : get_or (key_texts names) i [] ≡ seen = get_or-map (λ (v : Vec ℕ Global). v.items) names i name [] h ∙ (ap (λ (v : Vec ℕ Global). v.items) (sym read) ∙ sym shown) in
-    let more = warnings-more web begins firsts 0 (key_texts names) i [] inside in
-    let at : 0 + i ≡ i = zero-add i in
-    let last : warning web (get_or begins (0 + i) false) (get_or firsts (0 + i) 0) (get_or (key_texts names) i []) ≡ warning web b first seen =
-    (λ j. warning web (get_or begins (at j) false) (get_or firsts (at j) 0) (text j)) ∙ (λ j. warning web (sym marked j) (sym placed j) seen) in
-    is ∙ (ap (λ r. r ++ warning web b first seen) sofar
-    ∙ (append_assoc before (warnings web begins firsts 0 (take i (key_texts names))) (warning web b first seen)
-    ∙ ap (λ r. before ++ r) (sym (more ∙ ap (λ r. warnings web begins firsts 0 (take i (key_texts names)) ++ r) last))))
+use Rattle.tangle_names.specs.Faults.{begins_another, resolution_fault, spot_of}
+use Rattle.tangle_names.specs.Numbers.{key_texts, is_number, first_by_number, NotesNumber, Flags, fault_of_number, warning}
 
 resolved_at : (f : OccurrenceRead → Resolved) (os : List OccurrenceRead) (rs : List Resolved) (i : ℕ) (o : OccurrenceRead) (r : Resolved) → i < length os → o ≡ get_or os i o
     → rs ≡ map f os → r ≡ get_or rs i r → r ≡ f o
@@ -94,8 +64,11 @@ beginning_step texts names i id old new inside h sofar flags =
     let test : Text → Bool = λ (t : Text). begins_another texts t && is_number id (resolution names (One t)) in
     flags.flags id h ∙ (ap (λ b. b || test (get_or texts i [])) sofar ∙ sym (list_any_more test texts i [] inside))
 
--- no occurrence, no warning
-pub no_warning : (web : WebRead) (b : Bool) (first : ℕ) (name : Text) → length web.occurrences ≤ first → warning web b first name ≡ []
-no_warning web true first name past =
+-- no occurrence, no warning and no fault
+pub no_warning : (web : WebRead) (first : ℕ) (name : Text) → length web.occurrences ≤ first → warning web first name ≡ []
+no_warning web first name past =
     ap (λ found. map (λ (o : OccurrenceRead). fault_about kind.PrefixName (spot_of web.file_names o.place) name) (option_to_list found)) (slice_get_past web.occurrences first past)
-no_warning web false first name past = refl
+
+pub no_fault : (web : WebRead) (resolved : List Resolved) (number : ℕ) → length web.occurrences ≤ number → fault_of_number web resolved number ≡ []
+no_fault web resolved number past =
+    ap (λ found. flat_map (resolution_fault web.file_names (get_or resolved number NoFullName)) (option_to_list found)) (slice_get_past web.occurrences number past)

@@ -17,12 +17,12 @@ use Rattle.tangle_names.specs.Faults.{spot_of}
 use Rattle.tangle_names.specs.Names.{Text, Meaning, Nothing, One, Several, full_names, meaning, means, only_with, prefix, begins_with}
 use Rattle.tangle_names.specs.Resolving.{meanings, names_of, names_in_order, resolution, resolve, resolves_to, with_name, first_file_number, first_number, first_occurrence}
 use Rattle.tangle_names.specs.Faults.{begins_another, faults, prefix_fault}
-use Rattle.tangle_names.specs.Numbers.{begins_another_by_number, first_by_number, is_number, number_below, warning, warnings}
+use Rattle.tangle_names.specs.Numbers.{begins_another_by_number, first_by_number, is_number, number_below}
 use Rattle.tangle_names.specs.Sorted.{SameTexts}
-use Rattle.tangle_names.specs.NameTable.{table_of}
+use Rattle.tangle_names.specs.NameTable.{table_over}
 use Rattle.tangle_names.proofs.MeaningLemmas.{cons_cases, from-one, here, into_filter, list_any-none, list_any-some, no_item, out_of_filter, there}
 
-map-map : {X Y Z : Type 0} (g : Y → Z) (f : X → Y) (xs : List X) → map g (map f xs) ≡ map (λ x. g (f x)) xs
+pub map-map : {X Y Z : Type 0} (g : Y → Z) (f : X → Y) (xs : List X) → map g (map f xs) ≡ map (λ x. g (f x)) xs
 map-map g f [] = refl
 map-map g f (x ∷ xs) = ap (λ r. g (f x) ∷ r) (map-map g f xs)
 
@@ -172,7 +172,7 @@ any-at q xs n c = by (q n) refl
         at v true same = (λ i. (ap q (sym ((bytes_eq-Decides n v).0 same)) ∙ is) i && bytes_eq n v)
         at v false same = ap (λ b. q v && b) same ∙ and_false (q v)
 
-any-same : (q : Text → Bool) (xs ys : List Text) → SameTexts xs ys → list_any q ys ≡ list_any q xs
+pub any-same : (q : Text → Bool) (xs ys : List Text) → SameTexts xs ys → list_any q ys ≡ list_any q xs
 any-same q xs ys same = by (list_any q xs) refl
   where
     by : (b : Bool) → list_any q xs ≡ b → list_any q ys ≡ list_any q xs
@@ -217,53 +217,14 @@ first_files_are os names numbers count named size all known =
     ∙ ((λ i. number_below (all i) ((known id inside ∙ first_file-known os id within) i))
     ∙ sym (get_or-map (first_file_number os) (names_in_order os) id [] None within)))
 
-warning-is : (web : WebRead) (b : Bool) (name : Text)
-    → warning web b (first_number web.occurrences name) name
-    ≡ cond b (map (λ (o : OccurrenceRead). fault_about kind.PrefixName (spot_of web.file_names o.place) name) (option_to_list (first_occurrence web.occurrences name))) []
-warning-is web b name =
-    ap (λ found. cond b (map (λ (o : OccurrenceRead). fault_about kind.PrefixName (spot_of web.file_names o.place) name) (option_to_list found)) []) (sym (find_at (resolves_to web.occurrences name) web.occurrences))
-
-warnings-flat : (g : Text → List Finding) (web : WebRead) (begins : List Bool) (firsts : List ℕ) (k : ℕ) (ts : List Text)
-    → ((j : ℕ) → j < length ts → warning web (get_or begins (k + j) false) (get_or firsts (k + j) 0) (get_or ts j []) ≡ g (get_or ts j []))
-    → warnings web begins firsts k ts ≡ flat_map g ts
-warnings-flat g web begins firsts k [] same = refl
-warnings-flat g web begins firsts k (t ∷ ts) same =
-    let first : warning web (get_or begins k false) (get_or firsts k 0) t ≡ g t =
-    ap (λ n. warning web (get_or begins n false) (get_or firsts n 0) t) (sym (add-zero k)) ∙ same 0 (omega arith) in
-    let rest : warnings web begins firsts (k + 1) ts ≡ flat_map g ts = warnings-flat g web begins firsts (k + 1) ts (λ j h.
-    let moved : k + 1 + j ≡ k + suc j = omega arith in
-    let inside : suc j < length (t ∷ ts) = omega (arith, h) in
-    ap (λ n. warning web (get_or begins n false) (get_or firsts n 0) (get_or ts j [])) moved ∙ same (suc j) inside) in
-    λ i. first i ++ rest i
-
-pub warnings_are : (web : WebRead) (texts names : List Text) (begins : List Bool) (firsts : List ℕ) → SameTexts (full_names web.occurrences) texts → names ≡ names_in_order web.occurrences
-    → ((id : ℕ) → id < length names → get_or begins id false ≡ begins_another_by_number names texts id)
-    → firsts ≡ map (first_number web.occurrences) (names_in_order web.occurrences)
-    → warnings web begins firsts 0 names ≡ flat_map (prefix_fault web) (names_in_order web.occurrences)
-warnings_are web texts names begins firsts same named marks places =
-    ap (warnings web begins firsts 0) named ∙ warnings-flat (prefix_fault web) web begins firsts 0 ordered (λ j h.
-    let inside : j < length names = omega (arith, h, ap length named) in
-    let at : 0 + j ≡ j = zero-add j in
-    let marked : get_or begins j false ≡ begins_another (full_names web.occurrences) (get_or ordered j []) =
-    marks j inside ∙ ap (λ ns. begins_another_by_number ns texts j) named ∙ begins-known web.occurrences texts j same h in
-    let placed : get_or firsts j 0 ≡ first_number web.occurrences (get_or ordered j []) =
-    ap (λ ns. get_or ns j 0) places ∙ get_or-map (first_number web.occurrences) ordered j [] 0 h in
-    (λ i. warning web (get_or begins (at i) false) (get_or firsts (at i) 0) (get_or ordered j []))
-    ∙ (λ i. warning web (marked i) (placed i) (get_or ordered j []))
-    ∙ warning-is web (begins_another (full_names web.occurrences) (get_or ordered j [])) (get_or ordered j []))
-  where
-    ordered : List Text
-    ordered = names_in_order web.occurrences
-
 pub names_are : (os : List OccurrenceRead) (ms : List Meaning) (texts : List Text) → ms ≡ meanings os → texts ≡ names_of ms → texts ≡ names_in_order os
 names_are os ms texts came named = named ∙ ap names_of came
 
 pub resolved_are : (os : List OccurrenceRead) (ms : List Meaning) (texts : List Text) (rs : List Resolved) → ms ≡ meanings os → texts ≡ names_in_order os → rs ≡ map (resolution texts) ms → rs ≡ map (resolve os) os
 resolved_are os ms texts rs came named is = is ∙ ((λ i. map (resolution (named i)) (came i)) ∙ map-map (resolution (names_in_order os)) (meaning (full_names os)) os)
 
-pub table_is : (web : WebRead) (names : List Text) (rs : List Resolved) (firsts : List ℕ) (first_files : List (Option ℕ)) (fs : List Finding) → names ≡ names_in_order web.occurrences
-    → rs ≡ map (resolve web.occurrences) web.occurrences → firsts ≡ map (first_number web.occurrences) (names_in_order web.occurrences)
-    → first_files ≡ map (first_file_number web.occurrences) (names_in_order web.occurrences) → fs ≡ faults web
-    → record { names = names; resolved = rs; first_occurrences = firsts; first_file_occurrences = first_files; faults = fs } ≡ table_of web
-table_is web names rs firsts first_files fs a b c d e =
-    λ i. record { names = a i; resolved = b i; first_occurrences = c i; first_file_occurrences = d i; faults = e i }
+pub table_is : (os : List OccurrenceRead) (names : List Text) (rs : List Resolved) (firsts : List ℕ) (first_files : List (Option ℕ)) (faults : List Finding) → names ≡ names_in_order os
+    → rs ≡ map (resolve os) os → firsts ≡ map (first_number os) (names_in_order os) → first_files ≡ map (first_file_number os) (names_in_order os)
+    → record { names = names; resolved = rs; first_occurrences = firsts; first_file_occurrences = first_files; faults = faults } ≡ table_over os faults
+table_is os names rs firsts first_files faults a b c d =
+    λ i. record { names = a i; resolved = b i; first_occurrences = c i; first_file_occurrences = d i; faults = faults }

@@ -1,7 +1,8 @@
 -- The table of a web's names.
-use Rattle.std.specs.Prelude.{ℕ, List, Option, map}
+use Rattle.std.specs.Prelude.{◌≡◌, ℕ, Bool, List, Option, map}
 use Rattle.tangle_names.specs.declared.Resolved.{Resolved}
 use Rattle.tangle_lines.specs.Faults.{Finding}
+use Rattle.tangle_lexer.specs.Occurrences.{OccurrenceRead}
 use Rattle.tangle_scan.specs.Web.{WebRead}
 use Rattle.tangle_names.specs.Names.{Text}
 use Rattle.tangle_names.specs.Resolving.{first_file_number, first_number, names_in_order, resolve}
@@ -25,3 +26,21 @@ table_of web = record {
   first_file_occurrences = map (first_file_number web.occurrences) (names_in_order web.occurrences);
   faults = faults web;
 }
+
+-- the table over these occurrences, with these faults
+abbrev pub table_over : List OccurrenceRead → List Finding → TableRead
+table_over os faults = record {
+  names = names_in_order os;
+  resolved = map (resolve os) os;
+  first_occurrences = map (first_number os) (names_in_order os);
+  first_file_occurrences = map (first_file_number os) (names_in_order os);
+  faults = faults;
+}
+
+-- how an occurrence is written: its text, whether it is an abbreviation, and whether it has `@(`
+abbrev pub written_name : OccurrenceRead → Text × Bool × Bool
+written_name o = (o.text, o.is_abbreviation, o.is_file)
+
+-- there are as many old occurrences as new ones, and each is written as the new one of its number
+abbrev pub AreWrittenAlike : List OccurrenceRead → List OccurrenceRead → Type 0
+AreWrittenAlike old new = map written_name old ≡ map written_name new

@@ -1,6 +1,6 @@
 -- Names by their numbers. These words are cited by private contracts alone: the table is built over numbers.
-use Rattle.std.specs.Prelude.{◌≡◌, ◌<◌, ℕ, ◌+◌, Bool, false, not, nat_lt, ◌==◌, ◌&&◌, ◌||◌, List, [], ◌∷◌, ◌++◌, length, map, slice_get, slice_index_or, Option, Some, None, option_to_list, Vec, if◌then◌else◌}
-use Rattle.std.specs.List.{list_any, position_or_len}
+use Rattle.std.specs.Prelude.{◌≡◌, ◌<◌, ℕ, ◌+◌, Bool, true, false, not, nat_lt, ◌==◌, ◌&&◌, ◌||◌, List, [], ◌∷◌, ◌++◌, length, filter, flat_map, map, slice_get, slice_index_or, Option, Some, None, option_to_list, Vec, if◌then◌else◌}
+use Rattle.std.specs.List.{enumerate_from, list_any, position_or_len}
 use Rattle.std.specs.Global.{Global}
 use Rattle.tangle_names.specs.declared.Resolved.{Resolved}
 use Rattle.tangle_names.specs.declared.Resolved.TheVariants.{Name, NoFullName, Ambiguous}
@@ -8,7 +8,7 @@ use Rattle.tangle_lines.specs.declared.faults.FaultKind.TheVariants as kind
 use Rattle.tangle_lines.specs.Faults.{fault_about, Finding}
 use Rattle.tangle_scan.specs.Web.{WebRead}
 use Rattle.tangle_lexer.specs.Occurrences.{OccurrenceRead}
-use Rattle.tangle_names.specs.Faults.{spot_of}
+use Rattle.tangle_names.specs.Faults.{resolution_fault, spot_of}
 use Rattle.tangle_names.specs.Names.{Text, One}
 use Rattle.tangle_names.specs.Resolving.{resolution}
 use Rattle.tangle_names.specs.Faults.{begins_another}
@@ -44,17 +44,29 @@ pub record Flags (old new : List Bool) (flagged : Bool) (resolved : Resolved) : 
   pub flags : (id : ℕ) → id < length old → slice_index_or new id false
       ≡ (slice_index_or old id false || (flagged && is_number id resolved))
 
--- the warning for a name whose first occurrence has this number, if the name begins another
-abbrev pub warning : WebRead → Bool → ℕ → Text → List Finding
-warning web begins first name = if begins
-    then map (λ o. fault_about kind.PrefixName (spot_of web.file_names o.place) name) (option_to_list (slice_get web.occurrences first))
-    else []
+-- the numbers of the items that pass, where the first item has number k
+abbrev pub numbers_from : {X : Type 0} → (X → Bool) → ℕ → List X → List ℕ
+numbers_from q k xs = map (λ e. e.0) (filter (λ e. q e.1) (enumerate_from k xs))
 
--- the warnings for the names from number k on
-abbrev pub warnings : WebRead → List Bool → List ℕ → ℕ → List Text → List Finding
-warnings web begins firsts k [] = []
-warnings web begins firsts k (name ∷ names) = warning web (slice_index_or begins k false) (slice_index_or firsts k 0) name
-    ++ warnings web begins firsts (k + 1) names
+-- it resolves to no name
+abbrev pub is_unresolved : Resolved → Bool
+is_unresolved (Name id) = false
+is_unresolved NoFullName = true
+is_unresolved Ambiguous = true
+
+-- the fault of the occurrence with this number, by what it resolves to
+abbrev pub fault_of_number : WebRead → List Resolved → ℕ → List Finding
+fault_of_number web resolved n =
+    flat_map (resolution_fault web.file_names (slice_index_or resolved n NoFullName)) (option_to_list (slice_get web.occurrences n))
+
+-- the warning for a name that begins another and whose first occurrence has this number
+abbrev pub warning : WebRead → ℕ → Text → List Finding
+warning web first name =
+    map (λ o. fault_about kind.PrefixName (spot_of web.file_names o.place) name) (option_to_list (slice_get web.occurrences first))
+
+-- the warning for the name with this number
+abbrev pub warning_of_number : WebRead → List Text → List ℕ → ℕ → List Finding
+warning_of_number web names firsts id = warning web (slice_index_or firsts id 0) (slice_index_or names id [])
 
 -- the name with this number begins another of the texts
 abbrev pub begins_another_by_number : List Text → List Text → ℕ → Bool

@@ -3,11 +3,11 @@ ghost use Rattle.std.specs.Prelude.{◌≡◌, ◌<◌, ℕ, [], IfOk, length, s
 ghost use Rattle.tangle_names.specs.declared.Resolved.TheVariants.{Name};
 ghost use Rattle.tangle_names.specs.Faults.{begins_another};
 ghost use Rattle.tangle_names.specs.Names.{One};
-ghost use Rattle.tangle_names.specs.Numbers.{begins_another_by_number, key_texts, Flags};
+ghost use Rattle.tangle_names.specs.Numbers.{begins_another_by_number, key_texts, numbers_from, Flags};
 ghost use Rattle.tangle_names.specs.Resolving.{resolution};
 ghost use Rattle.tangle_names.specs.Sorted.{IsInOrder, texts_of};
 
-use crate::numbers::number;
+use crate::numbers::{list_if, number};
 use crate::sorted::begins_at;
 use indexmap::IndexSet;
 use std::alloc::{AllocError, Global};
@@ -51,4 +51,15 @@ fn flag(flags: &mut Vec<bool>, id: usize)
     if id < flags.len() {
         flags[id] = true;
     }
+}
+
+/// The numbers that are flagged.
+pub(crate) fn flagged_numbers(alloc: Global, flags: &[bool]) -> Result<Vec<usize>, AllocError>
+    ensures { IfOk result (λ v. v.items ≡ numbers_from (λ flag. flag) 0 flags.now) }
+{
+    let mut numbers = Vec::new(alloc);
+    for number in 0..flags.len() {
+        list_if(&mut numbers, flags[number], number)?;
+    }
+    Ok(numbers)
 }

@@ -1,18 +1,12 @@
 //! The faults of names.
-ghost use Rattle.std.specs.Prelude.{◌≡◌, ◌++◌, ◌∷◌, [], IfOk, OnOk, length, map};
-ghost use Rattle.tangle_names.specs.declared.Resolved.{Resolved};
+ghost use Rattle.std.specs.Prelude.{◌≡◌, ◌<◌, ◌++◌, ◌∷◌, [], All, IfOk, OnOk, flat_map, length};
 ghost use Rattle.tangle_lines.specs.Faults.{fault_about};
-ghost use Rattle.tangle_lexer.specs.Occurrences.{OccurrenceRead};
-ghost use Rattle.tangle_names.specs.Faults.{spot_of};
-ghost use Rattle.tangle_names.specs.Names.{full_names};
-ghost use Rattle.tangle_names.specs.Resolving.{first_number, names_in_order, resolve};
-ghost use Rattle.tangle_names.specs.Sorted.{IsInOrder, SameTexts, texts_of};
-ghost use Rattle.tangle_names.specs.Faults.{faults, resolution_fault, resolution_faults};
-ghost use Rattle.tangle_names.specs.Numbers.{key_texts, warning, warnings};
+ghost use Rattle.tangle_names.specs.Faults.{faults, resolution_fault, spot_of};
+ghost use Rattle.tangle_names.specs.Numbers.{fault_of_number, key_texts, warning, warning_of_number};
+ghost use Rattle.tangle_names.specs.Resolution.{IsResolutionOf};
 
 use crate::Resolved;
-use crate::beginnings::beginnings;
-use indexmap::IndexSet;
+use crate::resolution::Resolution;
 use std::alloc::Global;
 use tangle_lines::{Fault, FaultKind, NoMemory, Origin};
 use tangle_scan::{Occurrence, Web};
@@ -53,20 +47,38 @@ fn add_resolution_fault(
     }
 }
 
-/// Puts the faults of the occurrences last that resolve to no name.
-pub(crate) fn add_resolution_faults(
+/// Puts the fault of the occurrence with this number last, by what it resolves to.
+fn add_fault_of_number(
     alloc: Global,
     faults: &mut Vec<Fault>,
     web: &Web,
     resolved: &[Resolved],
+    number: usize,
 ) -> Result<(), NoMemory>
     requires { length resolved.now ≡ length web.now.occurrences }
-    ensures { OnOk result ((f : OccurrenceRead → Resolved) → resolved.now ≡ map f web.now.occurrences
-        → faults.new.items
-        ≡ faults.old.items ++ resolution_faults web.now.file_names f web.now.occurrences) }
+    ensures { OnOk result (faults.new.items
+        ≡ faults.old.items ++ fault_of_number web.now resolved.now number) }
 {
-    for (i, occurrence) in web.occurrences().iter().enumerate() {
-        add_resolution_fault(alloc, faults, web, occurrence, resolved[i])?;
+    if let Some(occurrence) = web.occurrences().get(number) {
+        add_resolution_fault(alloc, faults, web, occurrence, resolved[number])?;
+    }
+    Ok(())
+}
+
+/// Puts the faults of the occurrences with these numbers last, by what each resolves to.
+fn add_faults_of_numbers(
+    alloc: Global,
+    faults: &mut Vec<Fault>,
+    web: &Web,
+    resolved: &[Resolved],
+    numbers: &[usize],
+) -> Result<(), NoMemory>
+    requires { length resolved.now ≡ length web.now.occurrences }
+    ensures { OnOk result (faults.new.items
+        ≡ faults.old.items ++ flat_map (fault_of_number web.now resolved.now) numbers.now) }
+{
+    for number in numbers {
+        add_fault_of_number(alloc, faults, web, resolved, *number)?;
     }
     Ok(())
 }
@@ -76,60 +88,59 @@ fn add_warning(
     alloc: Global,
     faults: &mut Vec<Fault>,
     web: &Web,
-    begins: bool,
     first: usize,
     name: &[u8],
 ) -> Result<(), NoMemory>
-    ensures { OnOk result (faults.new.items ≡ faults.old.items ++ warning web.now begins first name.now) }
+    ensures { OnOk result (faults.new.items ≡ faults.old.items ++ warning web.now first name.now) }
 {
-    if begins {
-        if let Some(occurrence) = web.occurrences().get(first) {
-            let place = occurrence.place();
-            add(alloc, faults, web, FaultKind::PrefixName, place, name)?;
-        }
+    if let Some(occurrence) = web.occurrences().get(first) {
+        let place = occurrence.place();
+        add(alloc, faults, web, FaultKind::PrefixName, place, name)?;
     }
     Ok(())
 }
 
-/// Puts the warnings last for the names that begin others.
-pub(crate) fn add_warnings(
+/// Puts the warnings last for the names with these numbers, which begin others.
+fn add_warnings(
     alloc: Global,
     faults: &mut Vec<Fault>,
     web: &Web,
     names: &[Vec<u8>],
-    begins: &[bool],
     firsts: &[usize],
+    ids: &[usize],
 ) -> Result<(), NoMemory>
-    requires begins { length begins.now ≡ length names.now }
     requires firsts { length firsts.now ≡ length names.now }
-    ensures { OnOk result (faults.new.items
-        ≡ faults.old.items ++ warnings web.now begins.now firsts.now 0 (key_texts names.now)) }
+    requires inside { All (λ id. id < length names.now) ids.now }
+    ensures { OnOk result (faults.new.items ≡ faults.old.items
+        ++ flat_map (warning_of_number web.now (key_texts names.now) firsts.now) ids.now) }
 {
-    for (id, name) in names.iter().enumerate() {
-        add_warning(alloc, faults, web, begins[id], firsts[id], name)?;
+    for id in ids {
+        add_warning(alloc, faults, web, firsts[*id], &names[*id])?;
     }
     Ok(())
 }
 
-/// The faults of names, by what each occurrence resolves to and by the number of each name's first occurrence.
+/// The faults of the names of a web that resolve so.
 pub(crate) fn faults(
     alloc: Global,
     web: &Web,
-    sorted: &[&[u8]],
-    names: &IndexSet<Vec<u8>>,
-    resolved: &[Resolved],
-    firsts: &[usize],
+    resolution: &Resolution,
 ) -> Result<Vec<Fault>, NoMemory>
-    requires order { IsInOrder (texts_of sorted.now) }
-    requires same { SameTexts (full_names web.now.occurrences) (texts_of sorted.now) }
-    requires names { key_texts names.now.keys ≡ names_in_order web.now.occurrences }
-    requires resolved { resolved.now ≡ map (resolve web.now.occurrences) web.now.occurrences }
-    requires firsts { firsts.now ≡ map (first_number web.now.occurrences) (names_in_order web.now.occurrences) }
+    requires { IsResolutionOf web.now.occurrences resolution.now }
     ensures { IfOk result (λ v. v.items ≡ faults web.now) }
 {
-    let begins = beginnings(alloc, sorted, names)?;
     let mut faults = Vec::new(alloc);
-    add_resolution_faults(alloc, &mut faults, web, resolved)?;
-    add_warnings(alloc, &mut faults, web, names.as_slice(), &begins, firsts)?;
+    let resolved = &resolution.resolved;
+    add_faults_of_numbers(alloc, &mut faults, web, resolved, &resolution.unresolved)?;
+    let names = resolution.names.as_slice();
+    let firsts = &resolution.firsts;
+    add_warnings(
+        alloc,
+        &mut faults,
+        web,
+        names,
+        firsts,
+        &resolution.beginnings,
+    )?;
     Ok(faults)
 }

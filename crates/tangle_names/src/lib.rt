@@ -7,6 +7,7 @@ mod first_numbers;
 mod laws;
 mod name_table;
 mod numbers;
+mod resolution;
 mod sorted;
 
 pub use laws::{

@@ -5,49 +5,36 @@ ghost use Rattle.tangle_names.specs.declared.Resolved.TheVariants.{NoFullName};
 
 use crate::Resolved;
 use crate::faults::faults;
-use crate::first_numbers::first_numbers;
-use crate::numbers::resolve_occurrences;
-use crate::sorted::sorted_names;
-use indexmap::IndexSet;
+use crate::resolution::{Resolution, are_written_alike};
 use std::alloc::Global;
 use std::marker::Model;
 use std::mem::replace;
+use std::rc::Rc;
 use tangle_lines::{Fault, NoMemory};
-use tangle_scan::Web;
+use tangle_scan::{Occurrence, Web};
 
 /// The full names of a web, what each occurrence resolves to, and the faults of names.
 #[derive(Drop)]
 pub struct NameTable {
-    names: IndexSet<Vec<u8>>,
-    resolved: Vec<Resolved>,
-    // The number of each name's first occurrence.
-    firsts: Vec<usize>,
-    // The number of each name's first occurrence as a file; the count of occurrences, where it has none.
-    first_files: Vec<usize>,
+    // Tables of webs whose occurrences are written alike share it. It is never changed.
+    resolution: Rc<Resolution>,
     faults: Vec<Fault>,
 }
 
 impl Model for NameTable {
-    ghost use Rattle.std.specs.Prelude.{◌≡◌, length, map};
     ghost use Rattle.tangle_names.specs.NameTable.{TableRead};
-    ghost use Rattle.tangle_names.specs.Numbers.{key_texts, number_below};
+    ghost use Rattle.tangle_names.specs.Resolution.{IsWellKept, table_read};
 
     ghost Value = { TableRead };
 
-    ghost view = { λ t. record {
-      names = key_texts t.names.keys;
-      resolved = t.resolved.items;
-      first_occurrences = t.firsts.items;
-      first_file_occurrences = map (number_below (length t.resolved.items)) t.first_files.items;
-      faults = t.faults.items;
-    } };
+    ghost view = { λ t. table_read t.resolution.value t.faults.items };
 
-    ghost invariant = { λ t. (length t.firsts.items ≡ length t.names.keys)
-        × (length t.first_files.items ≡ length t.names.keys) };
+    ghost invariant = { λ t. IsWellKept t.resolution.value };
 }
 
 impl NameTable {
-    ghost use Rattle.tangle_names.specs.NameTable.{table_of};
+    ghost use Rattle.tangle_names.specs.NameTable.{table_of, table_over};
+    ghost use Rattle.tangle_names.specs.Resolution.{IsResolutionOf};
 
     /// The table of the names of a web. A name that ends in three dots is an abbreviation, and the others are full
     /// names, mentions included. An abbreviation resolves to the one full name of the whole web that begins with what
@@ -60,20 +47,40 @@ impl NameTable {
     pub fn build(alloc: Global, web: &Web) -> Result<NameTable, NoMemory>
         ensures { IfOk result (λ table. table ≡ table_of web.now) }
     {
-        let occurrences = web.occurrences();
-        let sorted = sorted_names(alloc, occurrences)?;
-        let mut names = IndexSet::new(alloc);
-        let resolved = resolve_occurrences(alloc, &mut names, &sorted, occurrences)?;
-        let firsts = first_numbers(alloc, occurrences, &resolved, names.len(), false)?;
-        let first_files = first_numbers(alloc, occurrences, &resolved, names.len(), true)?;
-        let faults = faults(alloc, web, &sorted, &names, &resolved, &firsts)?;
-        Ok(NameTable {
-            names,
-            resolved,
-            firsts,
-            first_files,
-            faults,
-        })
+        let resolution = Resolution::build(alloc, web.occurrences())?;
+        NameTable::over(alloc, web, Rc::new(alloc, resolution)?)
+    }
+
+    /// The same table, built beside that of a web that was read before: where each occurrence is
+    /// written as the old one of its number, what the names resolve to is shared with the old table,
+    /// and nothing is sorted or looked up. Faults are placed anew in each case.
+    ///
+    /// # Errors
+    ///
+    /// `NoMemory`, where an allocation failed.
+    pub fn rebuild(
+        alloc: Global,
+        web: &Web,
+        old: &NameTable,
+        old_occurrences: &[Occurrence],
+    ) -> Result<NameTable, NoMemory>
+        requires { old.now ≡ table_over old_occurrences.now old.now.faults }
+        ensures { IfOk result (λ table. table ≡ table_of web.now) }
+    {
+        if are_written_alike(old_occurrences, web.occurrences()) {
+            NameTable::over(alloc, web, old.resolution.clone()?)
+        } else {
+            NameTable::build(alloc, web)
+        }
+    }
+
+    /// The table of a web whose names resolve so.
+    fn over(alloc: Global, web: &Web, resolution: Rc<Resolution>) -> Result<NameTable, NoMemory>
+        requires { IsResolutionOf web.now.occurrences resolution.value }
+        ensures { IfOk result (λ table. table ≡ table_of web.now) }
+    {
+        let faults = faults(alloc, web, &resolution)?;
+        Ok(NameTable { resolution, faults })
     }
 
     /// What the occurrence of this number resolves to: its full name, or why it has none.
@@ -81,21 +88,21 @@ impl NameTable {
         requires { occurrence < length self.now.resolved }
         ensures { result ≡ slice_index_or self.now.resolved occurrence NoFullName }
     {
-        self.resolved[occurrence]
+        self.resolution.resolved[occurrence]
     }
 
     /// The number of the full name with this text, if it is one.
     pub fn find(&self, text: &[u8]) -> Option<usize>
         ensures { result ≡ position (bytes_eq text.now) self.now.names }
     {
-        self.names.get_index_of(text)
+        self.resolution.names.get_index_of(text)
     }
 
     /// How many full names there are.
     pub fn count(&self) -> usize
         ensures { result ≡ length self.now.names }
     {
-        self.names.len()
+        self.resolution.names.len()
     }
 
     /// The text of the full name of this number.
@@ -103,7 +110,7 @@ impl NameTable {
         requires { id < length self.now.names }
         ensures { result.now ≡ slice_index_or self.now.names id [] }
     {
-        let text = &self.names.as_slice()[id];
+        let text = &self.resolution.names.as_slice()[id];
         text.as_slice()
     }
 
@@ -112,7 +119,7 @@ impl NameTable {
         requires { id < length self.now.names }
         ensures { result ≡ slice_index_or self.now.first_occurrences id 0 }
     {
-        self.firsts[id]
+        self.resolution.firsts[id]
     }
 
     /// The number of the first occurrence with `@(` that resolves to the full name of this number, if there is one.
@@ -120,8 +127,8 @@ impl NameTable {
         requires { id < length self.now.names }
         ensures { result ≡ slice_index_or self.now.first_file_occurrences id None }
     {
-        let number = self.first_files[id];
-        if number < self.resolved.len() {
+        let number = self.resolution.first_files[id];
+        if number < self.resolution.resolved.len() {
             Some(number)
         } else {
             None

@@ -16,6 +16,8 @@ mod messages;
 #[cfg(test)]
 mod reading;
 #[cfg(test)]
+mod rebuilding;
+#[cfg(test)]
 mod scanning;
 #[cfg(test)]
 mod section_names;

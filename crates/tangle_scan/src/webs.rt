@@ -95,12 +95,13 @@ impl<'s, 'a> Web<'s, 'a> {
         self.gathering.faults.as_slice()
     }
 
-    /// The same faults, for one who is done with the web.
-    pub fn into_faults(self) -> Vec<Fault>
-        ensures { result.items ≡ self.entry.faults }
+    /// The occurrences and the faults, for one who is done with the web.
+    pub fn into_occurrences_and_faults(self) -> (Vec<Occurrence>, Vec<Fault>)
+        ensures occurrences { result.0.items ≡ self.entry.occurrences }
+        ensures faults { result.1.items ≡ self.entry.faults }
     {
         let gathering = self.gathering;
-        gathering.faults
+        (self.occurrences, gathering.faults)
     }
 
     /// The text of an item of this web with a span.

@@ -1,21 +1,31 @@
-use Rattle.std.proofs.Common.{◌≡◌, ◌∙◌, ◌++◌, ap, arith, length, ℕ, Vec}
+use Rattle.std.proofs.Common.{◌≡◌, ◌<◌, ◌∙◌, ◌++◌, ap, arith, length, map, flat_map, subst, sym, ℕ, Vec}
+use Rattle.std.specs.Prelude.{All}
 use Rattle.std.specs.Global.{Global}
 use Rattle.std.proofs.lemmas.List.{length-map}
-use Rattle.tangle_names.specs.Resolving.{resolve}
-use Rattle.tangle_names.specs.Faults.{resolution_faults}
-use Rattle.tangle_names.specs.Numbers.{key_texts, warnings}
-use Rattle.tangle_names.specs.Sorted.{texts_of}
-use Rattle.tangle_names.proofs.TableLemmas.{warnings_are}
+use Rattle.tangle_names.specs.Resolving.{first_number, names_in_order, resolve}
+use Rattle.tangle_names.specs.Faults.{begins_another, resolution_faults}
+use Rattle.tangle_names.specs.NameTable.{TableRead}
+use Rattle.tangle_names.specs.Numbers.{fault_of_number, key_texts, warning_of_number}
+use Rattle.tangle_names.proofs.KeptLemmas.{faults_of_numbers, numbers_inside, warnings_of_numbers}
 use Rattle.tangle_names.proofs.faults.faults.Goals as goal
+
+pub add_warnings-requires-clause-inside : goal.add_warnings-requires-clause-inside
+add_warnings-requires-clause-inside c = λ k d h.
+    let keys = c.args.resolution.now.names.keys in
+    let all = subst (All (λ id. id < length (key_texts keys))) (sym (c.deref-4.ensures.value ∙ c.requires.kept.beginnings)) (numbers_inside (begins_another (key_texts keys)) (key_texts keys)) in
+    omega (arith, all k d h, length-map keys (λ (v : Vec ℕ Global). v.items), ap length c.as_slice-names.ensures.keys)
 
 pub returns : goal.returns
 returns c =
     let web = c.args.web.now in
-    let early = c.in_ok-add_resolution_faults.ensures (resolve web.occurrences) c.requires.resolved in
-    let size : length (key_texts c.args.names.now.keys) ≡ length c.args.names.now.keys = length-map c.args.names.now.keys (λ (v : Vec ℕ Global). v.items) in
-    let late = warnings_are web (texts_of c.args.sorted.now) (key_texts c.args.names.now.keys) c.in_ok-begins.begins.items c.args.firsts.now c.requires.same c.requires.names
-    (λ id h. c.in_ok-begins.ensures.begins id (omega (arith, h, size))) c.requires.firsts in
+    let os = web.occurrences in
+    let r = c.args.resolution.now in
+    let named : key_texts r.names.keys ≡ names_in_order os = ap (λ (t : TableRead). t.names) c.requires.table in
+    let all : r.resolved.items ≡ map (resolve os) os = ap (λ (t : TableRead). t.resolved) c.requires.table in
+    let firsts : r.firsts.items ≡ map (first_number os) (names_in_order os) = ap (λ (t : TableRead). t.first_occurrences) c.requires.table in
+    let early = (λ i. c.new-faults.ensures.items i ++ flat_map (fault_of_number web (c.deref.ensures.value i)) ((c.deref-2.ensures.value ∙ c.requires.kept.unresolved) i)) ∙ faults_of_numbers web r.resolved.items all in
+    let late = warnings_of_numbers web (key_texts r.names.keys) r.firsts.items named firsts in
     c.in_ok-add_warnings.ensures
-    ∙ (λ i. (early ∙ ap (λ r. r ++ resolution_faults web.file_names (resolve web.occurrences) web.occurrences) c.new-faults.ensures.items) i
-    ++ warnings web (c.deref.ensures.value i) c.args.firsts.now 0 (key_texts (c.as_slice.ensures.keys i)))
-    ∙ ap (λ r. resolution_faults web.file_names (resolve web.occurrences) web.occurrences ++ r) late
+    ∙ ((λ i. (c.in_ok-add_faults_of_numbers.ensures ∙ early) i
+    ++ flat_map (warning_of_number web (key_texts (c.as_slice-names.ensures.keys i)) (c.deref-3.ensures.value i)) ((c.deref-4.ensures.value ∙ c.requires.kept.beginnings) i))
+    ∙ ap (λ l. resolution_faults web.file_names (resolve os) os ++ l) late)

@@ -1,0 +1,102 @@
+-- What the names resolve to depends on how the occurrences are written alone.
+use Rattle.std.proofs.Common.{◌≡◌, ◌<◌, ◌+◌, ◌∙◌, ◌&&◌, ℕ, Bool, true, false, cond, not, List, [], ◌∷◌, ◌++◌, length, map, filter, take, get_or, refl, ap, sym, subst, arith, Option, Some, None, position}
+use Rattle.std.specs.Prelude.{nat_lt}
+use Rattle.std.specs.List.{position_or_len}
+use Rattle.std.proofs.lemmas.List.{get_or-map, length-map, map_push, take_more}
+use Rattle.tangle_lines.specs.declared.faults.Origin.{Origin}
+use Rattle.tangle_lines.specs.Faults.{Finding}
+use Rattle.tangle_lexer.specs.declared.occurrences.OccurrenceRole.TheVariants.{Mention}
+use Rattle.tangle_lexer.specs.Occurrences.{OccurrenceRead}
+use Rattle.tangle_names.specs.Names.{Text, Meaning, full_names, meaning, means}
+use Rattle.tangle_names.specs.NameTable.{AreWrittenAlike, TableRead, table_over, written_name}
+use Rattle.tangle_names.specs.declared.resolution.Resolution.{Resolution}
+use Rattle.tangle_names.specs.Resolution.{IsResolutionOf, IsWellKept, table_read}
+use Rattle.tangle_names.specs.Resolving.{first_file_number, first_number, meanings, names_in_order, names_of, resolution, resolve}
+use Rattle.tangle_names.proofs.TableLemmas.{map-map}
+
+-- an occurrence that is written so, without role and place
+plain : Text × Bool × Bool → OccurrenceRead
+plain w = record { text = w.0; is_abbreviation = w.1; is_file = w.2; role = Mention; place = record { file = 0; line = 0 } }
+
+bare : OccurrenceRead → OccurrenceRead
+unfolding plain
+bare o = plain (written_name o)
+
+position_or_len-map : {X Y : Type 0} (q : Y → Bool) (f : X → Y) (xs : List X) → position_or_len q (map f xs) ≡ position_or_len (λ x. q (f x)) xs
+position_or_len-map q f [] = refl
+position_or_len-map q f (x ∷ xs) = ap (λ n. cond (not (q (f x))) (1 + n) 0) (position_or_len-map q f xs)
+
+position-map : {X Y : Type 0} (q : Y → Bool) (f : X → Y) (xs : List X) → position q (map f xs) ≡ position (λ x. q (f x)) xs
+position-map q f xs =
+    let place = position_or_len-map q f xs in
+    let size = length-map xs f in
+    λ i. cond (nat_lt (place i) (size i)) (Some (place i)) None
+
+module _ where
+  full-bare : (os : List OccurrenceRead) → full_names (map bare os) ≡ full_names os
+  unfolding plain bare
+  full-bare [] = refl
+  full-bare (o ∷ os) = by (not o.is_abbreviation) (full-bare os)
+    where
+      passes : OccurrenceRead → Bool
+      passes o = not o.is_abbreviation
+
+      by : (b : Bool) → full_names (map bare os) ≡ full_names os
+          → map (λ (o : OccurrenceRead). o.text) (cond b (bare o ∷ filter (λ (o : OccurrenceRead). not o.is_abbreviation) (map bare os)) (filter (λ (o : OccurrenceRead). not o.is_abbreviation) (map bare os)))
+          ≡ map (λ (o : OccurrenceRead). o.text) (cond b (o ∷ filter (λ (o : OccurrenceRead). not o.is_abbreviation) os) (filter (λ (o : OccurrenceRead). not o.is_abbreviation) os))
+      by true e = ap (λ r. o.text ∷ r) e
+      by false e = e
+
+module _ (os : List OccurrenceRead) where
+  names-bare : names_in_order (map bare os) ≡ names_in_order os
+  unfolding plain bare
+  names-bare = ap names_of ((λ i. map (meaning (full-bare os i)) (map bare os)) ∙ map-map (meaning (full_names os)) bare os)
+
+  resolved-bare : map (resolve (map bare os)) (map bare os) ≡ map (resolve os) os
+  unfolding plain bare
+  resolved-bare =
+      (λ i. map (λ (o : OccurrenceRead). resolution (names-bare i) (meaning (full-bare os i) o)) (map bare os)) ∙ map-map (resolve os) bare os
+
+  first-bare : (name : Text) → first_number (map bare os) name ≡ first_number os name
+  unfolding plain bare
+  first-bare name =
+      (λ i. position_or_len (λ (o : OccurrenceRead). means name (meaning (full-bare os i) o)) (map bare os))
+      ∙ position_or_len-map (λ (o : OccurrenceRead). means name (meaning (full_names os) o)) bare os
+
+  first_file-bare : (name : Text) → first_file_number (map bare os) name ≡ first_file_number os name
+  unfolding plain bare
+  first_file-bare name =
+      (λ i. position (λ (o : OccurrenceRead). o.is_file && means name (meaning (full-bare os i) o)) (map bare os))
+      ∙ position-map (λ (o : OccurrenceRead). o.is_file && means name (meaning (full_names os) o)) bare os
+
+  table-bare : (faults : List Finding) → table_over (map bare os) faults ≡ table_over os faults
+  table-bare faults = λ i. record {
+    names = names-bare i;
+    resolved = resolved-bare i;
+    first_occurrences = map (λ (name : Text). first-bare name i) (names-bare i);
+    first_file_occurrences = map (λ (name : Text). first_file-bare name i) (names-bare i);
+    faults = faults;
+  }
+
+bare-alike : (old new : List OccurrenceRead) → AreWrittenAlike old new → map bare old ≡ map bare new
+unfolding bare
+bare-alike old new alike = sym (map-map plain written_name old) ∙ (ap (map plain) alike ∙ map-map plain written_name new)
+
+pub table-alike : (old new : List OccurrenceRead) (faults : List Finding) → AreWrittenAlike old new → table_over old faults ≡ table_over new faults
+table-alike old new faults alike =
+    sym (table-bare old faults) ∙ (ap (λ os. table_over os faults) (bare-alike old new alike) ∙ table-bare new faults)
+
+pub alike-at : (old new : List OccurrenceRead) (i : ℕ) (o n : OccurrenceRead) → AreWrittenAlike old new → i < length old → i < length new → o ≡ get_or old i o → n ≡ get_or new i n
+    → written_name o ≡ written_name n
+alike-at old new i o n alike h g at by =
+    ap written_name at ∙ (sym (get_or-map written_name old i o (written_name o) h) ∙ (ap (λ ws. get_or ws i (written_name o)) alike
+    ∙ (get_or-map written_name new i n (written_name o) g ∙ ap written_name (sym by))))
+
+-- what is kept of occurrences that are written alike
+pub kept-alike : (old new : List OccurrenceRead) (r s : Resolution) (faults others : List Finding) → table_read r faults ≡ table_over old others → IsWellKept r → s ≡ r
+    → AreWrittenAlike old new → IsResolutionOf new s
+kept-alike old new r s faults others table kept same alike =
+    subst (IsResolutionOf new) (sym same) (record {
+      table = ap (λ (t : TableRead). record t { faults = [] }) table ∙ table-alike old new [] alike;
+      kept = kept;
+    })

@@ -1,0 +1,192 @@
+-- The numbers that are kept beside the names, and the faults that are found by them.
+use Rattle.std.proofs.Common.{◌≡◌, ◌<◌, ◌≤◌, ◌+◌, ◌∙◌, ℕ, zero, suc, Bool, true, false, cond, not, ◌&&◌, List, [], ◌∷◌, ◌++◌, length, map, filter, flat_map, take, get_or, refl, ap, sym, subst, arith, add-zero, zero-add, append-nil, Option, Some, None, option_to_list, inl, inr}
+use Rattle.std.specs.Prelude.{All, slice_get}
+use Rattle.std.specs.List.{enumerate_from}
+use Rattle.std.specs.Str.{bytes_eq}
+use Rattle.std.proofs.lemmas.List.{get_or-map, length-map, take_more}
+use Rattle.std.proofs.lemmas.List.Folds.{find_at}
+use Rattle.tangle_lines.specs.declared.faults.FaultKind.TheVariants as kind
+use Rattle.tangle_lines.specs.Faults.{Finding, fault_about}
+use Rattle.tangle_lexer.specs.Occurrences.{OccurrenceRead}
+use Rattle.tangle_scan.specs.Web.{WebRead}
+use Rattle.tangle_names.specs.declared.Resolved.{Resolved}
+use Rattle.tangle_names.specs.declared.Resolved.TheVariants.{Name, NoFullName, Ambiguous}
+use Rattle.tangle_names.specs.Faults.{begins_another, prefix_fault, resolution_fault, resolution_faults, spot_of}
+use Rattle.tangle_names.specs.Names.{Text, begins_with, full_names}
+use Rattle.tangle_names.specs.Numbers.{begins_another_by_number, fault_of_number, is_unresolved, numbers_from, warning, warning_of_number}
+use Rattle.tangle_names.specs.Resolving.{first_number, first_occurrence, names_in_order, resolve, resolves_to}
+use Rattle.tangle_names.specs.Sorted.{SameTexts}
+use Rattle.tangle_names.proofs.LawLemmas.{same}
+use Rattle.tangle_names.proofs.TableLemmas.{any-same, begins-known}
+
+-- one item in front
+numbers-cons : {X : Type 0} (q : X → Bool) (k : ℕ) (x : X) (xs : List X)
+    → numbers_from q k (x ∷ xs) ≡ cond (q x) (k ∷ numbers_from q (k + 1) xs) (numbers_from q (k + 1) xs)
+numbers-cons {X} q k x xs = by (q x)
+  where
+    rest : List (ℕ × X)
+    rest = filter (λ (e : ℕ × X). q e.1) (enumerate_from (k + 1) xs)
+
+    by : (b : Bool) → map (λ (e : ℕ × X). e.0) (cond b ((k, x) ∷ rest) rest) ≡ cond b (k ∷ map (λ (e : ℕ × X). e.0) rest) (map (λ (e : ℕ × X). e.0) rest)
+    by true = refl
+    by false = refl
+
+-- one item behind
+numbers-push : {X : Type 0} (q : X → Bool) (k : ℕ) (xs : List X) (x : X)
+    → numbers_from q k (xs ++ x ∷ []) ≡ numbers_from q k xs ++ cond (q x) ((k + length xs) ∷ []) []
+numbers-push q k [] x = numbers-cons q k x [] ∙ ap {B = List ℕ} (λ n. cond (q x) (n ∷ []) []) (sym (add-zero k))
+numbers-push q k (y ∷ ys) x =
+    let moved : k + 1 + length ys ≡ k + suc (length ys) = omega arith in
+    let rest = numbers-push q (k + 1) ys x ∙ ap (λ n. numbers_from q (k + 1) ys ++ cond (q x) (n ∷ []) []) moved in
+    numbers-cons q k y (ys ++ x ∷ []) ∙ (ap (λ r. cond (q y) (k ∷ r) r) rest ∙ (by (q y) ∙ ap (λ r. r ++ cond (q x) ((k + length (y ∷ ys)) ∷ []) []) (sym (numbers-cons q k y ys))))
+  where
+    by : (b : Bool)
+        → cond b (k ∷ (numbers_from q (k + 1) ys ++ cond (q x) ((k + suc (length ys)) ∷ []) [])) (numbers_from q (k + 1) ys ++ cond (q x) ((k + suc (length ys)) ∷ []) [])
+        ≡ cond b (k ∷ numbers_from q (k + 1) ys) (numbers_from q (k + 1) ys) ++ cond (q x) ((k + suc (length ys)) ∷ []) []
+    by true = refl
+    by false = refl
+
+length-take : {X : Type 0} (xs : List X) (i : ℕ) → i ≤ length xs → length (take i xs) ≡ i
+length-take xs zero h = refl
+length-take [] (suc i) h = absurd (omega (arith, h))
+length-take (x ∷ xs) (suc i) h = ap suc (length-take xs i (omega (arith, h)))
+
+-- one item more
+pub numbers-more : {X : Type 0} (q : X → Bool) (xs : List X) (i : ℕ) (d : X) → i < length xs
+    → numbers_from q 0 (take (i + 1) xs) ≡ numbers_from q 0 (take i xs) ++ cond (q (get_or xs i d)) (i ∷ []) []
+numbers-more q xs i d h =
+    ap (numbers_from q 0) (take_more xs i d h) ∙ (numbers-push q 0 (take i xs) (get_or xs i d)
+    ∙ ap (λ n. numbers_from q 0 (take i xs) ++ cond (q (get_or xs i d)) (n ∷ []) []) (zero-add (length (take i xs)) ∙ length-take xs i (omega (arith, h))))
+
+pub listed-step : {X : Type 0} (q : X → Bool) (xs : List X) (i : ℕ) (d : X) (b : Bool) (before after : List ℕ) → i < length xs → b ≡ q (get_or xs i d)
+    → before ≡ numbers_from q 0 (take i xs) → after ≡ before ++ cond b (i ∷ []) [] → after ≡ numbers_from q 0 (take (i + 1) xs)
+listed-step q xs i d b before after h tested sofar pushed =
+    pushed ∙ ((λ j. sofar j ++ cond (tested j) (i ∷ []) []) ∙ sym (numbers-more q xs i d h))
+
+-- lists whose items pass at the same places
+numbers-agree : {X Y : Type 0} (q : X → Bool) (p : Y → Bool) (k : ℕ) (xs : List X) (ys : List Y) (d : X) (e : Y) → length xs ≡ length ys
+    → ((i : ℕ) → i < length ys → q (get_or xs i d) ≡ p (get_or ys i e)) → numbers_from q k xs ≡ numbers_from p k ys
+numbers-agree q p k [] [] d e long at = refl
+numbers-agree q p k [] (y ∷ ys) d e long at = absurd (omega (arith, long))
+numbers-agree q p k (x ∷ xs) [] d e long at = absurd (omega (arith, long))
+numbers-agree q p k (x ∷ xs) (y ∷ ys) d e long at =
+    let short : length xs ≡ length ys = omega (arith, long) in
+    let first : q x ≡ p y = at 0 (omega arith) in
+    let rest = numbers-agree q p (k + 1) xs ys d e short (λ i h. at (suc i) (omega (arith, h))) in
+    numbers-cons q k x xs ∙ ((λ i. cond (first i) (k ∷ rest i) (rest i)) ∙ sym (numbers-cons p k y ys))
+
+numbers-map : {X Y : Type 0} (q : Y → Bool) (f : X → Y) (k : ℕ) (xs : List X) → numbers_from q k (map f xs) ≡ numbers_from (λ x. q (f x)) k xs
+numbers-map q f k [] = refl
+numbers-map q f k (x ∷ xs) =
+    numbers-cons q k (f x) (map f xs) ∙ (ap (λ r. cond (q (f x)) (k ∷ r) r) (numbers-map q f (k + 1) xs) ∙ sym (numbers-cons (λ x. q (f x)) k x xs))
+
+-- each number is that of an item
+inside_or_later : {X : Type 0} (k : ℕ) (x : X) (xs : List X) (rest : List ℕ) (b : Bool) (n d : ℕ) → ((m : ℕ) → m < length rest → get_or rest m d < k + 1 + length xs)
+    → n < length (cond b (k ∷ rest) rest) → get_or (cond b (k ∷ rest) rest) n d < k + length (x ∷ xs)
+inside_or_later k x xs rest true zero d later h = omega arith
+inside_or_later k x xs rest true (suc n) d later h = omega (arith, later n (omega (arith, h)))
+inside_or_later k x xs rest false n d later h = omega (arith, later n h)
+
+numbers_inside-at : {X : Type 0} (q : X → Bool) (k : ℕ) (xs : List X) (n d : ℕ) → n < length (numbers_from q k xs) → get_or (numbers_from q k xs) n d < k + length xs
+numbers_inside-at q k [] n d h = absurd (omega (arith, h))
+numbers_inside-at q k (x ∷ xs) n d h =
+    subst (λ ns. n < length ns → get_or ns n d < k + length (x ∷ xs)) (sym (numbers-cons q k x xs))
+    (inside_or_later k x xs (numbers_from q (k + 1) xs) (q x) n d (λ m g. numbers_inside-at q (k + 1) xs m d g)) h
+
+pub numbers_inside : {X : Type 0} (q : X → Bool) (xs : List X) → All (λ n. n < length xs) (numbers_from q 0 xs)
+numbers_inside q xs n d h = omega (arith, numbers_inside-at q 0 xs n d h)
+
+-- what is found by the numbers is found by the items
+by_number : {X : Type 0} (g : ℕ → List Finding) (f : X → List Finding) (q : X → Bool) (k : ℕ) (xs : List X)
+    → ((i : ℕ) (x : X) → slice_get xs i ≡ Some x → cond (q x) (g (k + i)) [] ≡ f x) → flat_map g (numbers_from q k xs) ≡ flat_map f xs
+by_number g f q k [] at = refl
+by_number g f q k (x ∷ xs) at =
+    let first : cond (q x) (g k) [] ≡ f x = ap (λ n. cond (q x) (g n) []) (sym (add-zero k)) ∙ at 0 x refl in
+    let rest = by_number g f q (k + 1) xs (λ i y found.
+    let moved : k + 1 + i ≡ k + suc i = omega arith in
+    ap (λ n. cond (q y) (g n) []) moved ∙ at (suc i) y found) in
+    ap (flat_map g) (numbers-cons q k x xs) ∙ (by (q x) ∙ (λ i. first i ++ rest i))
+  where
+    by : (b : Bool) → flat_map g (cond b (k ∷ numbers_from q (k + 1) xs) (numbers_from q (k + 1) xs)) ≡ cond b (g k) [] ++ flat_map g (numbers_from q (k + 1) xs)
+    by true = refl
+    by false = refl
+
+inside_list : {X : Type 0} (xs : List X) (i : ℕ) (x : X) → slice_get xs i ≡ Some x → i < length xs
+inside_list [] i x found = absurd (cc)
+inside_list (y ∷ ys) zero x found = omega arith
+inside_list (y ∷ ys) (suc i) x found = omega (arith, inside_list ys i x found)
+
+at_place : {X : Type 0} (xs : List X) (i : ℕ) (x d : X) → slice_get xs i ≡ Some x → get_or xs i d ≡ x
+at_place [] i x d found = absurd (cc)
+at_place (y ∷ ys) zero x d found = cc
+at_place (y ∷ ys) (suc i) x d found = at_place ys i x d found
+
+-- the faults of occurrences
+by_what : (files : List Text) (r : Resolved) (o : OccurrenceRead) → cond (is_unresolved r) (resolution_fault files r o) [] ≡ resolution_fault files r o
+by_what files (Name id) o = refl
+by_what files NoFullName o = refl
+by_what files Ambiguous o = refl
+
+pub faults_of_numbers : (web : WebRead) (rs : List Resolved) → rs ≡ map (resolve web.occurrences) web.occurrences
+    → flat_map (fault_of_number web rs) (numbers_from is_unresolved 0 rs) ≡ resolution_faults web.file_names (resolve web.occurrences) web.occurrences
+faults_of_numbers web rs all =
+    ap (λ ns. flat_map (fault_of_number web rs) ns) (ap (numbers_from is_unresolved 0) all ∙ numbers-map is_unresolved f 0 os)
+    ∙ by_number (fault_of_number web rs) (λ (o : OccurrenceRead). resolution_fault web.file_names (f o) o) (λ (o : OccurrenceRead). is_unresolved (f o)) 0 os at
+  where
+    os : List OccurrenceRead
+    os = web.occurrences
+
+    f : OccurrenceRead → Resolved
+    f = resolve web.occurrences
+
+    at : (i : ℕ) (o : OccurrenceRead) → slice_get os i ≡ Some o → cond (is_unresolved (f o)) (fault_of_number web rs (0 + i)) [] ≡ resolution_fault web.file_names (f o) o
+    at i o found =
+        let number : 0 + i ≡ i = zero-add i in
+        let known : get_or rs i NoFullName ≡ f o =
+        ap (λ rs. get_or rs i NoFullName) all ∙ (get_or-map f os i o NoFullName (inside_list os i o found) ∙ ap f (at_place os i o o found)) in
+        let one : fault_of_number web rs i ≡ resolution_fault web.file_names (f o) o =
+        (λ j. flat_map (resolution_fault web.file_names (known j)) (option_to_list (found j))) ∙ append-nil (resolution_fault web.file_names (f o) o) in
+        ap (λ r. cond (is_unresolved (f o)) r []) (ap (fault_of_number web rs) number ∙ one) ∙ by_what web.file_names (f o) o
+
+-- the names that begin others
+same_names : (os : List OccurrenceRead) → SameTexts (names_in_order os) (full_names os)
+same_names os = record { over = λ t. (same os t).0; back = λ t. (same os t).1 }
+
+begins_same : (os : List OccurrenceRead) (name : Text) → begins_another (full_names os) name ≡ begins_another (names_in_order os) name
+begins_same os name = any-same (λ (other : Text). begins_with name other && not (bytes_eq name other)) (names_in_order os) (full_names os) (same_names os)
+
+pub beginnings_are : (os : List OccurrenceRead) (texts names : List Text) (flags : List Bool) (numbers : List ℕ) → SameTexts (full_names os) texts → names ≡ names_in_order os → length flags ≡ length names
+    → ((id : ℕ) → id < length names → get_or flags id false ≡ begins_another_by_number names texts id)
+    → numbers ≡ numbers_from (λ b. b) 0 flags → numbers ≡ numbers_from (begins_another names) 0 names
+beginnings_are os texts names flags numbers same named long known are =
+    are ∙ numbers-agree (λ b. b) (begins_another names) 0 flags names false [] long (λ id h.
+    let inside : id < length (names_in_order os) = omega (arith, h, ap length named) in
+    known id h ∙ (ap (λ ns. begins_another_by_number ns texts id) named
+    ∙ (begins-known os texts id same inside ∙ (begins_same os (get_or (names_in_order os) id [])
+    ∙ (λ i. begins_another (sym named i) (get_or (sym named i) id []))))))
+
+warning-is : (web : WebRead) (name : Text)
+    → warning web (first_number web.occurrences name) name
+    ≡ map (λ (o : OccurrenceRead). fault_about kind.PrefixName (spot_of web.file_names o.place) name) (option_to_list (first_occurrence web.occurrences name))
+warning-is web name =
+    ap (λ found. map (λ (o : OccurrenceRead). fault_about kind.PrefixName (spot_of web.file_names o.place) name) (option_to_list found)) (sym (find_at (resolves_to web.occurrences name) web.occurrences))
+
+pub warnings_of_numbers : (web : WebRead) (names : List Text) (firsts : List ℕ) → names ≡ names_in_order web.occurrences
+    → firsts ≡ map (first_number web.occurrences) (names_in_order web.occurrences)
+    → flat_map (warning_of_number web names firsts) (numbers_from (begins_another names) 0 names) ≡ flat_map (prefix_fault web) (names_in_order web.occurrences)
+warnings_of_numbers web names firsts named places =
+    by_number (warning_of_number web names firsts) (prefix_fault web) (begins_another names) 0 names at ∙ ap (flat_map (prefix_fault web)) named
+  where
+    os : List OccurrenceRead
+    os = web.occurrences
+
+    at : (i : ℕ) (name : Text) → slice_get names i ≡ Some name → cond (begins_another names name) (warning_of_number web names firsts (0 + i)) [] ≡ prefix_fault web name
+    at i name found =
+        let number : 0 + i ≡ i = zero-add i in
+        let read : get_or names i [] ≡ name = at_place names i name [] found in
+        let inside : i < length (names_in_order os) = omega (arith, inside_list names i name found, ap length named) in
+        let placed : get_or firsts i 0 ≡ first_number os name =
+        ap (λ ns. get_or ns i 0) places ∙ (get_or-map (first_number os) (names_in_order os) i [] 0 inside ∙ ap (first_number os) (ap (λ ns. get_or ns i []) (sym named) ∙ read)) in
+        let marked : begins_another names name ≡ begins_another (full_names os) name = ap (λ ns. begins_another ns name) named ∙ sym (begins_same os name) in
+        let one : warning_of_number web names firsts i ≡ warning web (first_number os name) name = λ j. warning web (placed j) (read j) in
+        λ j. cond (marked j) ((ap (warning_of_number web names firsts) number ∙ (one ∙ warning-is web name)) j) []

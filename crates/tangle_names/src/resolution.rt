@@ -1,0 +1,79 @@
+//! What the names of a web resolve to. It depends on how the occurrences are written, and on no place.
+ghost use Rattle.std.specs.Prelude.{◌≡◌, ◌↔◌, IfOk, IsTrue};
+ghost use Rattle.tangle_names.specs.NameTable.{AreWrittenAlike, written_name};
+ghost use Rattle.tangle_names.specs.Resolution.{IsResolutionOf};
+
+use crate::Resolved;
+use crate::beginnings::{beginnings, flagged_numbers};
+use crate::first_numbers::first_numbers;
+use crate::numbers::{resolve_occurrences, unresolved_numbers};
+use crate::sorted::sorted_names;
+use indexmap::IndexSet;
+use std::alloc::{AllocError, Global};
+use tangle_scan::Occurrence;
+
+/// The full names of a web, what each occurrence resolves to, and by which numbers the faults of
+/// names are found. An edit that leaves the occurrences written as they were leaves all of it.
+#[derive(Drop)]
+pub(crate) struct Resolution {
+    pub(crate) names: IndexSet<Vec<u8>>,
+    pub(crate) resolved: Vec<Resolved>,
+    // The number of each name's first occurrence.
+    pub(crate) firsts: Vec<usize>,
+    // The number of each name's first occurrence as a file; the count of occurrences, where it has none.
+    pub(crate) first_files: Vec<usize>,
+    // The numbers of the occurrences that resolve to no name.
+    pub(crate) unresolved: Vec<usize>,
+    // The numbers of the names that begin others.
+    pub(crate) beginnings: Vec<usize>,
+}
+
+impl Resolution {
+    /// What the names of a web with these occurrences resolve to.
+    pub(crate) fn build(alloc: Global, occurrences: &[Occurrence]) -> Result<Resolution, AllocError>
+        ensures { IfOk result (λ resolution. IsResolutionOf occurrences.now resolution) }
+    {
+        let sorted = sorted_names(alloc, occurrences)?;
+        let mut names = IndexSet::new(alloc);
+        let resolved = resolve_occurrences(alloc, &mut names, &sorted, occurrences)?;
+        let firsts = first_numbers(alloc, occurrences, &resolved, names.len(), false)?;
+        let first_files = first_numbers(alloc, occurrences, &resolved, names.len(), true)?;
+        let unresolved = unresolved_numbers(alloc, &resolved)?;
+        let flags = beginnings(alloc, &sorted, &names)?;
+        let beginnings = flagged_numbers(alloc, &flags)?;
+        Ok(Resolution {
+            names,
+            resolved,
+            firsts,
+            first_files,
+            unresolved,
+            beginnings,
+        })
+    }
+}
+
+/// Whether the two occurrences are written alike: with the same text, both abbreviated or neither,
+/// and both with `@(` or neither.
+fn is_written_alike(old: &Occurrence, new: &Occurrence) -> bool
+    ensures { IsTrue result ↔ (written_name old.now ≡ written_name new.now) }
+{
+    old.is_file() == new.is_file()
+        && old.is_abbreviation() == new.is_abbreviation()
+        && old.text() == new.text()
+}
+
+/// Whether there are as many old occurrences as new ones, and each is written as the new one of its
+/// number.
+pub(crate) fn are_written_alike(old: &[Occurrence], new: &[Occurrence]) -> bool
+    ensures { IsTrue result ↔ AreWrittenAlike old.now new.now }
+{
+    if old.len() != new.len() {
+        return false;
+    }
+    for i in 0..old.len() {
+        if !is_written_alike(&old[i], &new[i]) {
+            return false;
+        }
+    }
+    true
+}

@@ -1,0 +1,95 @@
+//! Tables that are built beside older ones: faults are placed anew, and each allocation fails in turn.
+ghost use Rattle.std.specs.Prelude.{◌≡◌};
+ghost use Rattle.tangle_names.specs.NameTable.{table_of};
+
+use crate::fault_lines::assert_faults;
+use crate::section_names::assert_names;
+use std::alloc::Global;
+use std::process::Abort;
+use std::test::Fail;
+use tangle_lines::NoMemory;
+use tangle_names::NameTable;
+use tangle_scan::{Web, scan};
+use tangle_test_support::{end_refusals, files_with, read, refuse_growth};
+
+// Four names and three faults.
+const OLD: &[u8] = b"@ A.\n@c\n@<a...@>@<a@>@<ab@>@<c...@>@<b@>@(d@>\n";
+
+// The same names, one line later.
+const MOVED: &[u8] = b"\n@ A.\n@c\n@<a...@>@<a@>@<ab@>@<c...@>@<b@>@(d@>\n";
+
+// The same names, one of which is a file's now.
+const NOW_A_FILE: &[u8] = b"@ A.\n@c\n@<a...@>@(a@>@<ab@>@<c...@>@<b@>@(d@>\n";
+
+// The table of the new web, built beside that of the old one.
+fn rebuilt(alloc: Global, old: &Web, table: &NameTable, new: &Web) -> Result<NameTable, NoMemory>
+    requires { table.now ≡ table_of old.now }
+{
+    NameTable::rebuild(alloc, new, table, old.occurrences())
+}
+
+// Rebuilds the table with this allocation refused, and says whether none was.
+fn rebuilding_is_spared(
+    rt: &impl Abort,
+    alloc: Global,
+    old: &Web,
+    table: &NameTable,
+    new: &Web,
+    nth: u32,
+) -> bool
+    requires { table.now ≡ table_of old.now }
+{
+    let is_harnessed = refuse_growth(alloc, nth);
+    let counts = rebuilt(alloc, old, table, new).map(|made| (made.count(), made.faults().len()));
+    let was_spared = end_refusals(alloc, is_harnessed);
+    assert_eq!(rt; matches!(counts, Ok((4, 3))), was_spared);
+    was_spared
+}
+
+// Refuses each allocation of rebuilding the table, until none is left.
+fn refuse_each(
+    rt: &impl Abort,
+    alloc: Global,
+    old: &Web,
+    table: &NameTable,
+    new: &Web,
+) -> Result<(), Fail>
+    requires { table.now ≡ table_of old.now }
+{
+    for nth in 1..1000 {
+        if rebuilding_is_spared(rt, alloc, old, table, new, nth) {
+            return Ok(());
+        }
+    }
+    Err(Fail::from("never built"))
+}
+
+// The table of the web with this text, built beside that of the old web, has faults on these lines.
+// Each of its allocations is refused first.
+fn check_rebuilt(rt: &impl Abort, alloc: Global, new: &[u8], lines: &[u8]) -> Result<(), Fail> {
+    let old_files = files_with(alloc, &[(b"a.w", OLD)])?;
+    let old_source = read(alloc, &old_files, None)?;
+    let old = scan(alloc, &old_source)?;
+    let table = NameTable::build(alloc, &old)?;
+    let files = files_with(alloc, &[(b"a.w", new)])?;
+    let source = read(alloc, &files, None)?;
+    let web = scan(alloc, &source)?;
+    refuse_each(rt, alloc, &old, &table, &web)?;
+    let made = rebuilt(alloc, &old, &table, &web)?;
+    assert_names(rt, &made, &[b"a", b"ab", b"b", b"d"]);
+    assert_faults(rt, alloc, made.faults(), lines)
+}
+
+#[test]
+fn a_table_of_names_that_only_moved(rt: HostRuntime) -> Result<(), Fail> {
+    let lines = b"a.w:4: error: several full names for <a...>\n\
+        a.w:4: error: no full name for <c...>\na.w:4: warning: begins another name: <a>\n";
+    check_rebuilt(&rt, rt.alloc(), MOVED, lines)
+}
+
+#[test]
+fn a_table_of_a_name_that_became_a_file(rt: HostRuntime) -> Result<(), Fail> {
+    let lines = b"a.w:3: error: several full names for <a...>\n\
+        a.w:3: error: no full name for <c...>\na.w:3: warning: begins another name: <a>\n";
+    check_rebuilt(&rt, rt.alloc(), NOW_A_FILE, lines)
+}
