@@ -21,3 +21,4 @@ pub mod ItemCodes
 pub mod Runs
 pub mod MacroTexts
 pub mod NodeTexts
+pub mod Comparing
