@@ -80,6 +80,14 @@ module _ (texts : List (List ℕ)) (table : TableRead) where
     uses = pieces_names table pieces ++ more.uses;
   }
 
+  -- the same, as it is said of a shape
+  abbrev pub with_shape : List PieceRead → Lists → Lists
+  with_shape pieces more = record {
+    codes = shape_codes (shape_of texts table pieces) ++ more.codes;
+    bytes = shape_bytes (shape_of texts table pieces) ++ more.bytes;
+    uses = pieces_names table pieces ++ more.uses;
+  }
+
 -- the lists begin with this front just where the others do with theirs, and what is behind the two is the same
 abbrev pub GoOnAs : Lists → (Lists → Lists) → Lists → (Lists → Lists) → Type 0
 GoOnAs lists front others front' = (more : Lists) → (lists ≡ front more → others ≡ front' more) × (others ≡ front' more → lists ≡ front more)

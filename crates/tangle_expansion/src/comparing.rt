@@ -3,7 +3,7 @@ ghost use Rattle.std.specs.Prelude.{◌≡◌, ◌≢◌, ◌↔◌, ◌∷◌, 
 ghost use Rattle.std.specs.List.{All};
 ghost use Rattle.tangle_scan.specs.SourceOrder.{IsInRange, IsSpan};
 ghost use Rattle.tangle_scan.specs.WellFormed.{IsUseBelow};
-ghost use Rattle.tangle_expansion.specs.Comparing.{HasItemsOf, IsPlanned, GoOnAs, IsBehind, IsNotBehind, IsBehindPlace, IsNotBehindPlace, lists_left, lists_at, no_lists, with_range, with_code, with_text, with_item, with_items, with_pieces};
+ghost use Rattle.tangle_expansion.specs.Comparing.{HasItemsOf, IsPlanned, GoOnAs, IsBehind, IsNotBehind, IsBehindPlace, IsNotBehindPlace, lists_left, lists_at, no_lists, with_range, with_code, with_text, with_item, with_items, with_shape};
 ghost use Rattle.tangle_expansion.specs.ItemCodes.{bytes_in, names_in, names_resolved, pieces_names, shape_of};
 ghost use Rattle.tangle_expansion.specs.Codes.{piece_end};
 ghost use Rattle.tangle_expansion.specs.ItemSlots.{pieces_at, pieces_slots};
@@ -192,7 +192,7 @@ fn behind_items<'w, 'o>(
     requires room { length items.now < length left.codes.now }
     ensures run { IfSome result (λ next. IsKept web.now.texts next.run) }
     ensures place { MatchOption result (IsNotBehind (with_items web.now.texts table.now items.now) (lists_left left.entry))
-        (λ next. GoOnAs (lists_left left.entry) (with_items web.now.texts table.now items.now) (lists_at (drop (length items.now) left.codes.now) next) (λ more. with_range next (with_code piece_end more))) }
+        (λ next. GoOnAs (lists_left left.entry) (with_items web.now.texts table.now items.now) (lists_at (drop (length items.now) left.entry.codes.now) next) (λ more. with_range next (with_code piece_end more))) }
 {
     let codes = left.codes;
     let mut place = Place {
@@ -242,7 +242,7 @@ fn behind_pieces<'o>(
 ) -> Option<Left<'o>>
     requires numbers { All (λ n. n < length web.now.pieces) numbers.now }
     requires ours { length table.now.resolved ≡ length web.now.occurrences }
-    ensures { MatchOption result (IsNotBehind (with_pieces web.now.texts table.now (pieces_at web.now.pieces numbers.now)) (lists_left left.entry)) (λ next. IsBehind (with_pieces web.now.texts table.now (pieces_at web.now.pieces numbers.now)) (lists_left left.entry) (lists_left next)) }
+    ensures { MatchOption result (IsNotBehind (with_shape web.now.texts table.now (pieces_at web.now.pieces numbers.now)) (lists_left left.entry)) (λ next. IsBehind (with_shape web.now.texts table.now (pieces_at web.now.pieces numbers.now)) (lists_left left.entry) (lists_left next)) }
 {
     let pieces = web.pieces();
     let mut left = left;
