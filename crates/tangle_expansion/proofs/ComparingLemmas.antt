@@ -13,7 +13,8 @@ use Rattle.tangle_expansion.specs.ItemCodes.{bytes_in, code_in, names_in, piece_
 use Rattle.tangle_expansion.specs.ItemSlots.{pieces_at, no_piece}
 use Rattle.tangle_expansion.specs.NodeTexts.{HoldsShape, texts_at}
 use Rattle.tangle_expansion.specs.Runs.{IsTextOf, run_bytes}
-use Rattle.tangle_expansion.specs.Comparing.{Lists, GoOnAs, IsBehind, IsNotBehind, with_code, with_bytes, with_uses, with_text, with_item, with_items, with_pieces, with_shape, with_range, lists_at, no_lists, lists_of, IsBehindPlace, IsNotBehindPlace, HasItemsOf}
+use Rattle.tangle_expansion.specs.Comparing.{HasItemsOf}
+use Rattle.tangle_expansion.specs.Fronts.{Lists, GoOnAs, IsBehind, IsNotBehind, with_code, with_bytes, with_uses, with_text, with_item, with_items, with_pieces, with_shape, with_range, lists_at, no_lists, lists_of, IsBehindPlace, IsNotBehindPlace}
 use Rattle.tangle_expansion.specs.declared.codes.ItemCode.{ItemCode}
 use Rattle.tangle_expansion.specs.declared.codes.ItemKind.{ItemKind}
 use Rattle.tangle_expansion.specs.declared.comparing.Place.{Place}
@@ -68,17 +69,17 @@ pub all_behind : (code first : ItemCode) (bytes uses : List ℕ) (l : Lists) (co
     → first ≡ code → l.codes ≡ first ∷ codes → l.bytes ≡ bytes ++ text → l.uses ≡ uses ++ rest
     → IsBehind (with_all code bytes uses) l (record { codes = codes; bytes = text; uses = rest })
 all_behind code first bytes uses l codes text rest same is b u = λ more. (
-    (λ e.
-        let both : (first ∷ codes) ≡ code ∷ more.codes = sym is ∙ ap (λ (m : Lists). m.codes) e in
-        lists_same (record { codes = codes; bytes = text; uses = rest }) more (cc)
-        (append_cancel_left bytes text more.bytes (sym b ∙ ap (λ (m : Lists). m.bytes) e))
-        (append_cancel_left uses rest more.uses (sym u ∙ ap (λ (m : Lists). m.uses) e))),
-    λ e.
-        lists_same l (with_all code bytes uses more)
-        (is ∙ ap (λ c. c ∷ codes) same ∙ ap (λ r. code ∷ r) (ap (λ (m : Lists). m.codes) e))
-        (b ∙ ap (λ r. bytes ++ r) (ap (λ (m : Lists). m.bytes) e))
-        (u ∙ ap (λ r. uses ++ r) (ap (λ (m : Lists). m.uses) e)),
-  )
+  (λ e.
+      let both : (first ∷ codes) ≡ code ∷ more.codes = sym is ∙ ap (λ (m : Lists). m.codes) e in
+      lists_same (record { codes = codes; bytes = text; uses = rest }) more (cc)
+      (append_cancel_left bytes text more.bytes (sym b ∙ ap (λ (m : Lists). m.bytes) e))
+      (append_cancel_left uses rest more.uses (sym u ∙ ap (λ (m : Lists). m.uses) e))),
+  λ e.
+      lists_same l (with_all code bytes uses more)
+      (is ∙ ap (λ c. c ∷ codes) same ∙ ap (λ r. code ∷ r) (ap (λ (m : Lists). m.codes) e))
+      (b ∙ ap (λ r. bytes ++ r) (ap (λ (m : Lists). m.bytes) e))
+      (u ∙ ap (λ r. uses ++ r) (ap (λ (m : Lists). m.uses) e)),
+)
 
 -- with the code alone, a place goes on as it is
 pub code_behind : (code first : ItemCode) (codes : List ItemCode) (bytes uses : List ℕ) → first ≡ code
@@ -90,13 +91,7 @@ cut_not run bytes text rest is differ more e = differ more (append_cancel_left r
 
 -- texts and items behind the bytes of a range
 
-module _ (texts : List (List ℕ)) (table : TableRead) where
-  -- an item that is its text
-  pub item_is_text : (x : Item) (kind : ItemKind) (s : Span) → IsTextOf x kind s → (more : Lists) → with_item texts table x more ≡ with_text texts kind s more
-  item_is_text x kind s is more =
-      lists_same (with_item texts table x more) (with_text texts kind s more)
-      (ap (λ c. c ∷ more.codes) (is.code table)) (ap (λ b. b ++ more.bytes) (is.bytes texts)) (ap (λ u. u ++ more.uses) (is.no_use table))
-
+module _ (texts : List (List ℕ)) where
   -- a text that a longer range ends with
   pub text_joined : (run next : List ℕ) (kind : ItemKind) (s : Span) → run ++ span_text texts s ≡ next
       → (more : Lists) → with_bytes run (with_text texts kind s more) ≡ with_code (record { kind = kind; size = s.end - s.start }) (with_bytes next more)
@@ -109,6 +104,13 @@ module _ (texts : List (List ℕ)) (table : TableRead) where
       → (more : Lists) → with_bytes run (with_text texts kind s more) ≡ with_code (record { kind = kind; size = s.end - s.start }) (with_bytes run (with_bytes next more))
   text_cut run next kind s is more =
       ap (λ b. record { codes = record { kind = kind; size = s.end - s.start } ∷ more.codes; bytes = run ++ (b ++ more.bytes); uses = more.uses }) (sym is)
+
+module _ (texts : List (List ℕ)) (table : TableRead) where
+  -- an item that is its text
+  pub item_is_text : (x : Item) (kind : ItemKind) (s : Span) → IsTextOf x kind s → (more : Lists) → with_item texts table x more ≡ with_text texts kind s more
+  item_is_text x kind s is more =
+      lists_same (with_item texts table x more) (with_text texts kind s more)
+      (ap (λ c. c ∷ more.codes) (is.code table)) (ap (λ b. b ++ more.bytes) (is.bytes texts)) (ap (λ u. u ++ more.uses) (is.no_use table))
 
   -- white space that a longer range ends with
   pub space_joined : (x : Item) (code : ItemCode) (run next : List ℕ) → code_in table x ≡ code → run ++ bytes_in texts x ≡ next → names_in table x ≡ []

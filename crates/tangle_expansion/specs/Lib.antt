@@ -22,3 +22,4 @@ pub mod Runs
 pub mod MacroTexts
 pub mod NodeTexts
 pub mod Comparing
+pub mod Fronts

@@ -3,7 +3,8 @@ ghost use Rattle.std.specs.Prelude.{◌≡◌, ◌≢◌, ◌↔◌, ◌∷◌, 
 ghost use Rattle.std.specs.List.{All};
 ghost use Rattle.tangle_scan.specs.SourceOrder.{IsInRange, IsSpan};
 ghost use Rattle.tangle_scan.specs.WellFormed.{IsUseBelow};
-ghost use Rattle.tangle_expansion.specs.Comparing.{HasItemsOf, IsPlanned, GoOnAs, IsBehind, IsNotBehind, IsBehindPlace, IsNotBehindPlace, lists_left, lists_at, no_lists, with_range, with_code, with_text, with_item, with_items, with_shape};
+ghost use Rattle.tangle_expansion.specs.Comparing.{HasItemsOf, IsPlanned};
+ghost use Rattle.tangle_expansion.specs.Fronts.{GoOnAs, IsBehind, IsNotBehind, IsBehindPlace, IsNotBehindPlace, lists_left, lists_at, no_lists, with_range, with_code, with_text, with_item, with_items, with_shape};
 ghost use Rattle.tangle_expansion.specs.ItemCodes.{bytes_in, names_in, names_resolved, pieces_names, shape_of};
 ghost use Rattle.tangle_expansion.specs.Codes.{piece_end};
 ghost use Rattle.tangle_expansion.specs.ItemSlots.{pieces_at, pieces_slots};

@@ -1,5 +1,5 @@
 use Rattle.std.proofs.Common.{drop}
-use Rattle.tangle_expansion.specs.Comparing.{GoOnAs, lists_at, lists_left, with_items, with_range}
+use Rattle.tangle_expansion.specs.Fronts.{GoOnAs, lists_at, lists_left, with_items, with_range}
 use Rattle.tangle_expansion.specs.Runs.{IsKept}
 use Rattle.tangle_expansion.proofs.comparing.behind_items.Given as goal
 

@@ -1,7 +1,7 @@
 use Rattle.std.proofs.Common.{◌∙◌, ◌++◌, ◌∷◌, refl, ap, sym, append_assoc}
 use Rattle.tangle_expansion.specs.ItemCodes.{bytes_in, code_in, names_in}
 use Rattle.tangle_expansion.specs.Runs.{run_bytes}
-use Rattle.tangle_expansion.specs.Comparing.{Lists, lists_at, with_bytes, with_item}
+use Rattle.tangle_expansion.specs.Fronts.{Lists, lists_at, with_bytes, with_item}
 use Rattle.tangle_expansion.proofs.ComparingLemmas.{all_behind, cut_not, front_same, item_cut, with_all}
 use Rattle.tangle_expansion.proofs.comparing.behind_other.Goals as goal
 

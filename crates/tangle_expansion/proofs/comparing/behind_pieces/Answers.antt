@@ -3,7 +3,7 @@ use Rattle.std.specs.Prelude.{slice_index_or}
 use Rattle.tangle_scan.specs.SourceOrder.{IsInRange}
 use Rattle.tangle_scan.specs.Web.{PieceRead}
 use Rattle.tangle_expansion.specs.ItemSlots.{pieces_at}
-use Rattle.tangle_expansion.specs.Comparing.{lists_left, with_items, with_pieces, with_shape}
+use Rattle.tangle_expansion.specs.Fronts.{lists_left, with_items, with_pieces, with_shape}
 use Rattle.tangle_expansion.proofs.HeldLemmas.{all_at}
 use Rattle.tangle_expansion.proofs.ComparingLemmas.{and_not, and_then, back_same, front_same, not_same, pieces_on, pieces_over, shape_in_front}
 use Rattle.tangle_expansion.proofs.comparing.behind_pieces.Goals as goal

@@ -1,5 +1,5 @@
 use Rattle.std.proofs.Common.{drop}
-use Rattle.tangle_expansion.specs.Comparing.{GoOnAs, lists_left, with_pieces}
+use Rattle.tangle_expansion.specs.Fronts.{GoOnAs, lists_left, with_pieces}
 use Rattle.tangle_expansion.specs.ItemSlots.{pieces_at}
 use Rattle.tangle_expansion.proofs.comparing.behind_pieces.Given as goal
 

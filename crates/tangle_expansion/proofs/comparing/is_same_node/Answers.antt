@@ -2,7 +2,7 @@ use Rattle.std.proofs.Common.{◌≡◌, ◌∙◌, ap, sym, true, false, true�
 use Rattle.std.specs.Prelude.{filter}
 use Rattle.tangle_expansion.specs.ItemSlots.{pieces_at}
 use Rattle.tangle_expansion.specs.NodeTexts.{node_title}
-use Rattle.tangle_expansion.specs.Comparing.{lists_of, no_lists}
+use Rattle.tangle_expansion.specs.Fronts.{lists_of, no_lists}
 use Rattle.tangle_expansion.proofs.ComparingLemmas.{has_items, items_had, lists_same, shape_had}
 use Rattle.tangle_expansion.proofs.NumberedShapes.{slots_same}
 use Rattle.tangle_expansion.proofs.comparing.is_same_node.Goals as goal
@@ -36,7 +36,7 @@ returns-in-Some-clause-plan c =
     let lists = lists_same (record { codes = c.deref.result.now; bytes = c.deref-2.result.now; uses = c.deref-3.result.now }) (lists_of old) c.deref.ensures.value c.deref-2.ensures.value c.deref-3.ensures.value in
     let has = λ (e : c.is_nothing.result ≡ true). has_items web.texts table pieces old (sym lists ∙ (c.in-Some.ensures no_lists).1 (c.is_nothing.ensures.0 e)) in
     λ e has_piece planned.
-        planned.plan ∙ slots_same planned.texts web.texts planned.table table planned.pieces pieces old planned.items (has e) has_piece (node_title old) 0
+    planned.plan ∙ slots_same planned.texts web.texts planned.table table planned.pieces pieces old planned.items (has e) has_piece (node_title old) 0
 
 pub returns-in-Some-clause-plan_uses : goal.returns-in-Some-clause-plan_uses
 returns-in-Some-clause-plan_uses c =
