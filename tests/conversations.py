@@ -17,7 +17,8 @@ import tempfile
 import time
 
 program, top = (os.path.abspath(path) for path in sys.argv[1:3])
-sys.path.insert(0, os.path.join(top, 'tests', 'reference'))
+sys.path[:0] = [os.path.join(top, 'tests'), os.path.join(top, 'tests', 'reference')]
+from checks import check, folder_with, run_all
 from files import Roles, add
 from scripts import Script
 from sessions import Session
@@ -28,23 +29,11 @@ LIST_BYTES = 10 ** 9    # what all held edits of a script fit into
 WEB = b'@ A.\n@c\nint x;\n'
 ROLES = Roles(b'a.w', None, b'a.c')
 
-counts = {True: 0, False: 0}
-
-
-def check(holds, name, problem):
-    counts[bool(holds)] += 1
-    if not holds:
-        print('FAIL %s: %s' % (name, problem))
-
-
 class Room:
     """A folder with these files, in which retangle runs."""
 
     def __init__(self, files):
-        self.folder = tempfile.TemporaryDirectory()
-        for name, text in files.items():
-            with open(os.path.join(self.folder.name, name), 'wb') as file:
-                file.write(text)
+        self.folder = folder_with(files)
 
     def start(self, arguments, **streams):
         running = subprocess.Popen([program] + arguments, cwd=self.folder.name, bufsize=0,
@@ -371,13 +360,10 @@ def test_arguments():
 
 
 def main():
-    for test in (test_document, test_stored_conversations, test_malformed, test_ends, test_change_file,
-                 test_arguments, test_failing_reader, test_failing_writer, test_many_edits,
-                 test_long_lists, test_most_lines, test_long_texts, test_longest_script,
-                 test_longest_lists):
-        test()
-    print('%d passed, %d failed' % (counts[True], counts[False]))
-    return 1 if counts[False] else 0
+    return run_all((test_document, test_stored_conversations, test_malformed, test_ends,
+                    test_change_file, test_arguments, test_failing_reader, test_failing_writer,
+                    test_many_edits, test_long_lists, test_most_lines, test_long_texts,
+                    test_longest_script, test_longest_lists))
 
 
 if __name__ == '__main__':

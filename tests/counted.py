@@ -11,7 +11,8 @@ expansions, and some lists, whose room doubles. The last line is 'N passed, M fa
 import os
 import subprocess
 import sys
-import tempfile
+
+from checks import check, finish, folder_with
 
 retangle, refuse = (os.path.abspath(path) for path in sys.argv[1:3])
 
@@ -25,20 +26,9 @@ ONE_NODE, ANOTHER = 3, 1
 DOUBLINGS = 60
 CIRCULAR = '@<z@>'
 
-counts = {True: 0, False: 0}
-
-
-def check(holds, name, problem):
-    counts[bool(holds)] += 1
-    if not holds:
-        print('FAIL %s: %s' % (name, problem))
-
-
 def allocations(web, script, answers):
     """How many allocations a conversation takes."""
-    with tempfile.TemporaryDirectory() as folder:
-        with open(os.path.join(folder, 'a.w'), 'w') as out:
-            out.write(web)
+    with folder_with({'a.w': web.encode()}) as folder:
         counted = os.path.join(folder, 'counted')
         environment = dict(os.environ, LD_PRELOAD=refuse, COUNT_TO=counted)
         done = subprocess.run([retangle, 'a'], cwd=folder, env=environment, input=script.encode(),
@@ -131,8 +121,7 @@ def check_size(count):
 def main():
     for count in SIZES:
         check_size(count)
-    print('%d passed, %d failed' % (counts[True], counts[False]))
-    return 1 if counts[False] else 0
+    return finish()
 
 
 if __name__ == '__main__':

@@ -20,6 +20,7 @@ import re
 import sys
 
 sys.path.insert(0, os.path.join(os.path.dirname(os.path.abspath(__file__)), 'reference'))
+from checks import check, finish
 from files import Roles, add
 from scripts import Script
 from sessions import Session
@@ -96,15 +97,6 @@ PLANTED = {
         '        write_text(&expansion, &ground.numbers, &mut sink)?;\n        let mut work = Work::new(alloc);\n'),
 }
 
-counts = {True: 0, False: 0}
-
-
-def check(holds, name, problem):
-    counts[bool(holds)] += 1
-    if not holds:
-        print('FAIL %s: %s' % (name, problem))
-
-
 def texts_in(folder, ending):
     found = {}
     if os.path.isdir(folder):
@@ -177,7 +169,7 @@ class Map:
             with open(os.path.join(self.top, 'docs', page), encoding='utf-8') as source:
                 leads = '`%s` leads from each rule' % self.name in source.read()
             check(not leads or '`docs/%s`' % page in heads, self.name, 'nothing of docs/%s' % page)
-        behind = dict(re.findall(r'^- \*\*`(\w+)`\*\*: (.*)$', self.text, re.M))
+        behind = dict(re.findall(r'^- \*\*`(\w+)`\*\*: (.*(?:\n  .*)*)$', self.text, re.M))
         for crate, here in self.crates.items():
             for file in here.specs:
                 where = '`%s/specs/%s`' % (crate, file) in self.text or '`%s`' % file in behind.get(crate, '')
@@ -405,8 +397,7 @@ def main():
         check_edits(crate, here, {name for row in rows if row[0] == crate for name in CODED.findall(row[1])})
         check_edits_apply(crate, here)
     check_calls(crates)
-    print('%d passed, %d failed' % (counts[True], counts[False]))
-    return 1 if counts[False] else 0
+    return finish()
 
 
 if __name__ == '__main__':

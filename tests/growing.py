@@ -10,7 +10,8 @@ instructions, or where nothing counts them its time. The last line is 'N passed,
 import os
 import subprocess
 import sys
-import tempfile
+
+from checks import check, finish, folder_with
 
 ctangle, retangle, measure, refuse, top = (os.path.abspath(path) for path in sys.argv[1:6])
 sys.path.insert(0, os.path.join(top, 'bench'))
@@ -20,15 +21,6 @@ FEW, MANY = 10000, 40000
 MOST = 4.5                  # times as much, where four times is meant
 MOST_TIME = 7               # the same of times, which vary
 NOTHING = os.devnull
-
-counts = {True: 0, False: 0}
-
-
-def check(holds, name, problem):
-    counts[bool(holds)] += 1
-    if not holds:
-        print('FAIL %s: %s' % (name, problem))
-
 
 def star(count):
     """The program uses all names, and each of them the last one."""
@@ -66,12 +58,9 @@ class Taken:
     """What a run over a web takes."""
 
     def __init__(self, lines, words, script, counter):
-        with tempfile.TemporaryDirectory() as folder:
-            with open(os.path.join(folder, 'a.w'), 'w') as web:
-                web.write('\n'.join(lines) + '\n')
+        web = '\n'.join(lines) + '\n'
+        with folder_with({'a.w': web.encode(), 'script': script.encode()}) as folder:
             given, used = os.path.join(folder, 'script'), os.path.join(folder, 'used')
-            with open(given, 'w') as out:
-                out.write(script)
             self.run([measure, used] + words, folder, given)
             with open(used) as reported:
                 self.time, self.held = map(int, reported.read().split())
@@ -106,8 +95,7 @@ def main():
                                  (chain, retangle, SCRIPT)):
         few, many = (Taken(web(count), [program, 'a'], script, counter) for count in (FEW, MANY))
         compare('a %s of names' % web.__name__ if web != files else 'named files', few, many)
-    print('%d passed, %d failed' % (counts[True], counts[False]))
-    return 1 if counts[False] else 0
+    return finish()
 
 
 if __name__ == '__main__':

@@ -14,7 +14,8 @@ import sys
 import tempfile
 
 program, refuse, top = (os.path.abspath(path) for path in sys.argv[1:4])
-sys.path.insert(0, os.path.join(top, 'tests', 'reference'))
+sys.path[:0] = [os.path.join(top, 'tests'), os.path.join(top, 'tests', 'reference')]
+from checks import check, finish
 from files import Roles, add
 from scripts import Script
 from sessions import Session
@@ -64,15 +65,6 @@ CONVERSATIONS = {
     'chain': (chain(40), b'work\nreplace 83 a.w\n2\nwork\nreplace 83 a.w\n2\nwork\n'),
 }
 FEWER = 41              # the first edit of the chain expands so many nodes, and the second one none
-
-
-counts = {True: 0, False: 0}
-
-
-def check(holds, name, problem):
-    counts[bool(holds)] += 1
-    if not holds:
-        print('FAIL %s: %s' % (name, problem))
 
 
 class Refused(Script):
@@ -201,8 +193,7 @@ def main():
         for name, (web, script) in CONVERSATIONS.items():
             met = refuse_each(name, web, script, room)
     check(met.get('edit 1', 0) >= met.get('edit 2', 0) + FEWER, 'chain', 'an edit that affects nothing makes no fewer allocations: %r' % met)
-    print('%d passed, %d failed' % (counts[True], counts[False]))
-    return 1 if counts[False] else 0
+    return finish()
 
 
 if __name__ == '__main__':

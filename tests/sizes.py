@@ -12,10 +12,10 @@ The last line is 'N passed, M failed'.
 import os
 import subprocess
 import sys
-import tempfile
 
 ctangle, retangle, top = (os.path.abspath(path) for path in sys.argv[1:4])
 sys.path[:0] = [os.path.join(top, 'tests'), os.path.join(top, 'tests', 'reference')]
+from checks import check, difference, folder_with, run_all, written_in
 from files import Roles, add
 from hostile import mark, piece
 from scripts import Script
@@ -28,45 +28,19 @@ PROGRAM_TOO_LARGE = 'error: too large: the unnamed program'
 MOST_FILES = 256
 SECONDS = 300
 
-counts = {True: 0, False: 0}
-
-
-def check(holds, name, problem):
-    counts[bool(holds)] += 1
-    if not holds:
-        print('FAIL %s: %s' % (name, problem))
-
-
 def around(before, behind):
     """Each power, from so much before it to so much behind it."""
     return [turn + step for turn in TURNS for step in range(-before, behind + 1)]
 
 
-def lay(folder, files):
-    for name, text in files.items():
-        with open(os.path.join(folder, name), 'w', encoding='latin-1') as out:
-            out.write(text)
-
-
 def run(program, words, files, script=''):
-    """The status, what is written on both streams, and the files that were not there before."""
-    with tempfile.TemporaryDirectory() as folder:
-        lay(folder, files)
+    """The status, what is written on both streams, and the files that were created or written."""
+    files = {name: text.encode('latin-1') for name, text in files.items()}
+    with folder_with(files) as folder:
         done = subprocess.run([program] + words, cwd=folder, input=script.encode('latin-1'),
                               capture_output=True, timeout=SECONDS)
-        made = {}
-        for name in os.listdir(folder):
-            if name not in files:
-                with open(os.path.join(folder, name), encoding='latin-1') as source:
-                    made[name] = source.read()
+        made = {name: text.decode('latin-1') for name, text in written_in(folder, files).items()}
     return done.returncode, done.stdout.decode('latin-1'), done.stderr.decode('latin-1'), made
-
-
-def differs(wanted, found):
-    """Where the text that was found goes another way."""
-    shorter = min(len(wanted), len(found))
-    at = next((at for at in range(shorter) if wanted[at] != found[at]), shorter)
-    return 'at byte %d of %d: %r, not %r' % (at, len(wanted), found[at:at + 60], wanted[at:at + 60])
 
 
 def converse(name, files, turns, status=0, words=('a',)):
@@ -74,7 +48,7 @@ def converse(name, files, turns, status=0, words=('a',)):
     script, wanted = (''.join(parts) for parts in zip(*turns))
     ended, written, errors, _ = run(retangle, list(words), files, script)
     check((ended, errors) == (status, ''), name, 'status %d, %r' % (ended, errors[:200]))
-    check(written == wanted, name, differs(wanted, written))
+    check(written == wanted, name, difference(wanted, written))
 
 
 def in_list(edits, count):
@@ -90,7 +64,7 @@ def tangle(name, files, wanted, faults='', status=0, words=('a',)):
     """A run of ctangle, with the files that it creates."""
     ended, written, errors, made = run(ctangle, list(words), files)
     check((ended, written) == (status, ''), name, 'status %d' % ended)
-    check(errors == faults, name, differs(faults, errors))
+    check(errors == faults, name, difference(faults, errors))
     check(set(made) == set(wanted), name, '%d files, not %d' % (len(made), len(wanted)))
     other = [file for file in wanted if made.get(file) != wanted[file]]
     check(not other, name, 'other bytes in %s' % other[:3])
@@ -366,12 +340,9 @@ def test_depths():
 
 
 def main():
-    for test in (test_names, test_outputs, test_changes, test_files, test_sections, test_uses,
-                 test_macros, test_lists, test_inclusions, test_lines_taken, test_weights,
-                 test_depths):
-        test()
-    print('%d passed, %d failed' % (counts[True], counts[False]))
-    return 1 if counts[False] else 0
+    return run_all((test_names, test_outputs, test_changes, test_files, test_sections, test_uses,
+                    test_macros, test_lists, test_inclusions, test_lines_taken, test_weights,
+                    test_depths))
 
 
 if __name__ == '__main__':

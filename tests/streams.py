@@ -9,11 +9,11 @@ The last line is 'N passed, M failed'.
 import os
 import subprocess
 import sys
-import tempfile
 from concurrent.futures import ThreadPoolExecutor
 
 ctangle, retangle, fail, top = (os.path.abspath(path) for path in sys.argv[1:5])
-sys.path.insert(0, os.path.join(top, 'tests', 'reference'))
+sys.path[:0] = [os.path.join(top, 'tests'), os.path.join(top, 'tests', 'reference')]
+from checks import check, folder_with, run_all, written_in
 from faults import fault_line
 from files import Roles, add
 from scripts import Script
@@ -24,35 +24,14 @@ SECONDS = 60
 SCRIPT_BYTES = 67108864
 WEB = b'@ A.\n@c\nint x;\n'
 
-counts = {True: 0, False: 0}
-
-
-def check(holds, name, problem):
-    counts[bool(holds)] += 1
-    if not holds:
-        print('FAIL %s: %s' % (name, problem))
-
-
-def lay(folder, files):
-    for name, text in files.items():
-        with open(os.path.join(folder, name), 'wb') as out:
-            out.write(text)
-
-
 def run(program, words, files, script=b'', **fails):
     """The status, what is on both streams, and the files that were created or written."""
     limits = {name.upper(): str(count) for name, count in fails.items()}
     environment = dict(os.environ, LD_PRELOAD=fail, **limits)
-    with tempfile.TemporaryDirectory() as folder:
-        lay(folder, files)
+    with folder_with(files) as folder:
         done = subprocess.run([program] + words, cwd=folder, env=environment, input=script,
                               capture_output=True, timeout=SECONDS)
-        made = {}
-        for name in os.listdir(folder):
-            with open(os.path.join(folder, name), 'rb') as source:
-                text = source.read()
-            if files.get(name) != text:
-                made[name] = text
+        made = written_in(folder, files)
     return done.returncode, done.stdout, done.stderr, made
 
 
@@ -220,8 +199,7 @@ def test_closed_pipes():
     for program, words, stream in ((retangle, ['a'], 'stdout'), (retangle, ['--help'], 'stderr'),
                                    (ctangle, [], 'stderr'), (ctangle, ['a', 'a'], 'stderr')):
         pipe, streams = closed_pipe(), {'stdout': subprocess.DEVNULL, 'stderr': subprocess.DEVNULL}
-        with tempfile.TemporaryDirectory() as folder:
-            lay(folder, PROJECT)
+        with folder_with(PROJECT) as folder:
             streams[stream] = pipe
             done = subprocess.run([program] + words, cwd=folder, input=b'work\n', timeout=SECONDS,
                                   **streams)
@@ -232,11 +210,9 @@ def test_closed_pipes():
 
 
 def main():
-    for test in (test_failing_readers, test_failing_writers, test_longest_scripts,
-                 test_failing_files, test_failing_outputs, test_failing_errors, test_closed_pipes):
-        test()
-    print('%d passed, %d failed' % (counts[True], counts[False]))
-    return 1 if counts[False] else 0
+    return run_all((test_failing_readers, test_failing_writers, test_longest_scripts,
+                    test_failing_files, test_failing_outputs, test_failing_errors,
+                    test_closed_pipes))
 
 
 if __name__ == '__main__':

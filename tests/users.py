@@ -18,25 +18,13 @@ import sys
 import tempfile
 
 ctangle, retangle, top = (os.path.abspath(path) for path in sys.argv[1:4])
-sys.path[:0] = [os.path.join(top, 'examples'), os.path.join(top, 'tests', 'reference')]
+sys.path[:0] = [os.path.join(top, below) for below in ('examples', 'tests', 'tests/reference')]
 import editor
+from checks import check, finish, lay, read, same, write
 from sessions import edited_lines
 
 PATIENCE = 60           # seconds for a run
 LINE_BYTES = 65535
-
-counts = {True: 0, False: 0}
-
-
-def check(holds, name, problem):
-    counts[bool(holds)] += 1
-    if not holds:
-        print('FAIL %s: %s' % (name, problem))
-
-
-def same(got, wanted, name):
-    check(got == wanted, name, '%r, not %r' % (got, wanted))
-
 
 def run(arguments, folder, text=b'', **changed):
     """Standard output, standard error and the status. A make that runs the tests is hidden."""
@@ -44,16 +32,6 @@ def run(arguments, folder, text=b'', **changed):
     done = subprocess.run(arguments, cwd=folder, input=text, capture_output=True, timeout=PATIENCE,
                           env=dict(environment, **changed))
     return done.stdout, done.stderr, done.returncode
-
-
-def read(*path):
-    with open(os.path.join(*path), 'rb') as file:
-        return file.read()
-
-
-def write(text, *path):
-    with open(os.path.join(*path), 'wb') as file:
-        file.write(text)
 
 
 def is_there(*path):
@@ -64,8 +42,7 @@ def new_folder(room, name, **files):
     """A folder with these files, whose names have _ in place of a dot."""
     folder = os.path.join(room, name)
     os.mkdir(folder)
-    for file, text in files.items():
-        write(text, folder, file.replace('_', '.'))
+    lay(folder, {file.replace('_', '.'): text for file, text in files.items()})
     return folder
 
 
@@ -444,8 +421,7 @@ def main():
         test_saves(room)
         test_several(room)
         test_unchanged(room)
-    print('%d passed, %d failed' % (counts[True], counts[False]))
-    return 1 if counts[False] else 0
+    return finish()
 
 
 if __name__ == '__main__':
