@@ -136,8 +136,8 @@ impl Planning {
         Ok(())
     }
 
-    /// Passes the items whose texts come next behind a range that is still to be copied, as far as there is room for their codes: where the
-    /// range ends then, and how many items these are.
+    /// Passes the items whose texts come next behind a range that is still to be copied, as far as
+    /// there is room for their codes: where the range ends then, and how many items these are.
     fn pass(&mut self, web: &Web, run: Run, items: &[Item]) -> (usize, usize)
         requires run { IsKept web.now.texts run }
         requires spans { All (IsInRange web.now.texts) items.now }

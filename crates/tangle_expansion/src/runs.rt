@@ -114,7 +114,8 @@ fn with_space(run: Run, item: &Item) -> Option<usize>
     }
 }
 
-/// Where a range ends with an item behind it, if the text of the item is what comes next in the source, and the code of the item.
+/// Where a range ends with an item behind it, if the text of the item is what comes next in the
+/// source, and the code of the item.
 fn with_item(web: &Web, run: Run, item: &Item) -> Option<(usize, ItemCode)>
     requires { IsInRange web.now.texts item.now }
     ensures { IfSome result (λ more. IsRunWith run.entry item.now more.1 (record run.entry { end = more.0 })) }
@@ -131,8 +132,9 @@ fn with_item(web: &Web, run: Run, item: &Item) -> Option<(usize, ItemCode)>
     }
 }
 
-/// Where a range ends with the items behind it whose texts come next in the source, one after the other, and how many these are. Their codes
-/// are added, and no more are passed than there is room for codes.
+/// Where a range ends with the items behind it whose texts come next in the source, one after the
+/// other, and how many these are. Their codes are added, and no more items are passed than there is
+/// room for codes.
 pub(crate) fn pass_items(
     codes: &mut Vec<ItemCode>,
     web: &Web,
