@@ -1,16 +1,16 @@
 -- Texts of items that stand side by side in the source.
-use Rattle.std.specs.Prelude.{◌≡◌, ◌≤◌, ℕ, ◌-◌, Bool, List, [], ◌∷◌, ◌++◌, length, take, drop, get_or}
+use Rattle.std.specs.Prelude.{◌≡◌, ◌≤◌, ℕ, ◌-◌, Bool, List, [], ◌∷◌, ◌++◌, length, take, drop, flat_map, get_or}
 use Rattle.tangle_scan.specs.declared.items.Item.{Item}
 use Rattle.tangle_lexer.specs.declared.spans.Span.{Span}
 use Rattle.tangle_scan.specs.Rules.{span_text}
 use Rattle.tangle_scan.specs.SourceOrder.{IsInRange, IsSpan}
 use Rattle.tangle_names.specs.NameTable.{TableRead}
 use Rattle.tangle_expansion.specs.Shapes.{Title}
-use Rattle.tangle_expansion.specs.Codes.{blank_code}
 use Rattle.tangle_expansion.specs.ItemCodes.{bytes_in, code_in, names_in}
-use Rattle.tangle_expansion.specs.ItemSlots.{marks_behind_item, item_slots}
+use Rattle.tangle_expansion.specs.ItemSlots.{marks_behind_item, item_slots, items_slots}
 use Rattle.tangle_expansion.specs.Slots.{byte_slots}
 use Rattle.tangle_expansion.specs.Planned.{Making}
+use Rattle.tangle_expansion.specs.declared.codes.ItemCode.{ItemCode}
 use Rattle.tangle_expansion.specs.declared.codes.ItemKind.{ItemKind}
 use Rattle.tangle_expansion.specs.declared.runs.Run.{Run}
 
@@ -39,15 +39,24 @@ pub record IsJoined (run : Run) (span : Span) (more : Run) : Type 0 where
   pub range : (texts : List (List ℕ)) → IsKept texts run → IsSpan texts span → IsKept texts more
   pub text : (texts : List (List ℕ)) → IsKept texts run → IsSpan texts span → run_bytes run ++ span_text texts span ≡ run_bytes more
 
--- a range with white space behind it is a longer one
-pub record IsRunWith (run : Run) (item : Item) (more : Run) : Type 0 where
-  pub range : (texts : List (List ℕ)) → IsKept texts run → IsKept texts more
-  pub bytes : (texts : List (List ℕ)) → IsKept texts run → run_bytes run ++ bytes_in texts item ≡ run_bytes more
+-- a range with an item behind it, which has this code, is a longer one
+pub record IsRunWith (run : Run) (item : Item) (code : ItemCode) (more : Run) : Type 0 where
+  pub range : (texts : List (List ℕ)) → IsKept texts run → IsInRange texts item → IsKept texts more
+  pub bytes : (texts : List (List ℕ)) → IsKept texts run → IsInRange texts item → run_bytes run ++ bytes_in texts item ≡ run_bytes more
   pub slots : (texts : List (List ℕ)) (table : TableRead) (has_piece : ℕ → Bool) (node : Title) (piece marks : ℕ)
       → item_slots texts table has_piece node piece marks item ≡ byte_slots (bytes_in texts item)
   pub marks : (marks : ℕ) → marks_behind_item marks item ≡ marks
-  pub code : (table : TableRead) → code_in table item ≡ blank_code
+  pub item_code : (table : TableRead) → code_in table item ≡ code
   pub no_use : (table : TableRead) → names_in table item ≡ []
+
+-- a range with all these items behind it is a longer one
+pub record IsRunOver (texts : List (List ℕ)) (run : Run) (items : List Item) (more : Run) : Type 0 where
+  pub range : IsKept texts more
+  pub bytes : run_bytes run ++ flat_map (bytes_in texts) items ≡ run_bytes more
+  pub slots : (table : TableRead) (has_piece : ℕ → Bool) (node : Title) (piece marks : ℕ) (rest : List Item)
+      → items_slots texts table has_piece node piece marks (items ++ rest)
+      ≡ byte_slots (flat_map (bytes_in texts) items) ++ items_slots texts table has_piece node piece marks rest
+  pub no_uses : (table : TableRead) → flat_map (names_in table) items ≡ []
 
 -- an item was added behind what is being made and a range that was still to be copied
 pub record AddsItem (texts : List (List ℕ)) (table : TableRead) (has_piece : ℕ → Bool) (item : Item) (run next : Run) (old new : Making) : Type 0 where

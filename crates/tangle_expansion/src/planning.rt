@@ -1,5 +1,6 @@
 //! Making the text and the plan of a node, item by item.
-ghost use Rattle.std.specs.Prelude.{◌≡◌, false, length, slice_index_or, ◌++◌, flat_map, filter, [], IfOk, OnOk, OnErr, ◌+◌, ◌^◌, ◌<◌, ◌≤◌, ◌∷◌};
+ghost use Rattle.tangle_names.specs.NameTable.{TableRead};
+ghost use Rattle.std.specs.Prelude.{◌≡◌, false, length, map, take, slice_index_or, ◌++◌, flat_map, filter, [], IfOk, OnOk, OnErr, ◌+◌, ◌^◌, ◌<◌, ◌≤◌, ◌∷◌};
 ghost use Rattle.tangle_expansion.specs.Meaning.{title_of, pieces_passed, marks_passed};
 ghost use Rattle.tangle_expansion.specs.Slots.{slots, byte_slots, step_slots, is_run, last_run};
 ghost use Rattle.std.specs.List.{All};
@@ -10,14 +11,12 @@ ghost use Rattle.tangle_expansion.specs.Codes.{piece_end, shape_codes};
 ghost use Rattle.tangle_expansion.specs.Planned.{nothing_made};
 ghost use Rattle.tangle_expansion.specs.Shapes.{Program};
 ghost use Rattle.tangle_expansion.specs.NodeTexts.{node_title, node_bytes, node_codes, node_uses, plan_slots, plan_uses, HoldsShape};
-ghost use Rattle.tangle_expansion.specs.Runs.{AddsItem, AddsText, IsKept, run_bytes};
+ghost use Rattle.tangle_expansion.specs.Runs.{AddsItem, AddsText, IsKept, IsRunOver, run_bytes};
 ghost use Rattle.tangle_expansion.specs.ItemSlots.{marks_behind_item, name_slots, item_slots, piece_slots, pieces_slots, pieces_at};
 
-use crate::codes::{
-    ItemCode, ItemKind, add_name, code_count, code_of, code_of_blank, code_of_span, end_of_piece,
-};
+use crate::codes::{ItemCode, ItemKind, add_name, code_count, code_of, code_of_span, end_of_piece};
 use crate::expansion::{NodeText, Step};
-use crate::runs::{Run, end_of, joined, no_run, run_of, text_of, with_space};
+use crate::runs::{Run, end_of, no_run, pass_items, run_of, text_of};
 use crate::steps::{marks_behind, pieces_behind};
 use itoa::Buffer;
 use std::alloc::Global;
@@ -135,6 +134,18 @@ impl Planning {
     {
         self.codes.push(code)?;
         Ok(())
+    }
+
+    /// Passes the items whose texts come next behind a range that is still to be copied, as far as
+    /// there is room for their codes: where the range ends then, and how many items these are.
+    fn pass(&mut self, web: &Web, run: Run, items: &[Item]) -> (usize, usize)
+        requires run { IsKept web.now.texts run }
+        requires spans { All (IsInRange web.now.texts) items.now }
+        ensures few { result.1 ≤ length items.now }
+        ensures range { IsRunOver web.now.texts run.entry (take result.1 items.now) (record run.entry { end = result.0 }) }
+        ensures codes { (table : TableRead) → self.new ≡ record self.old { codes = self.old.codes ++ map (code_in table) (take result.1 items.now) } }
+    {
+        pass_items(&mut self.codes, web, run, items)
     }
 
     /// Adds the number of the name that an item uses, if it uses one.
@@ -265,9 +276,6 @@ fn add_text<'w>(
     ensures added { IfOk result (λ next. AddsText web.now.texts kind span run.entry next planning.old planning.new) }
 {
     planning.add_code(code_of_span(kind, span))?;
-    if let Some(more) = joined(run, span) {
-        return Ok(more);
-    }
     add_run(planning, run)?;
     Ok(run_of(web, span))
 }
@@ -287,36 +295,11 @@ fn add_other<'w>(
     ensures range { IfOk result (IsKept web.now.texts) }
     ensures added { IfOk result (λ next. AddsItem web.now.texts table.now (λ id. slice_index_or has_piece.now id false) item.now run.entry next planning.old planning.new) }
 {
-    if let Some(more) = with_space(run, item) {
-        planning.add_code(code_of_blank())?;
-        return Ok(more);
-    }
     planning.add_code(code_of(item, table))?;
     planning.add_name(table, item)?;
     add_run(planning, run)?;
     add_item(planning, web, table, has_piece, *item)?;
     Ok(end_of(run))
-}
-
-/// Adds an item behind a range that is still to be copied: the range that is to be copied then.
-fn add_behind<'w>(
-    planning: &mut Planning,
-    web: &'w Web,
-    table: &NameTable,
-    has_piece: &[bool],
-    run: Run<'w>,
-    item: &Item,
-) -> Result<Run<'w>, NoMemory>
-    requires span { IsInRange web.now.texts item.now }
-    requires name { IsUseBelow (length table.now.resolved) item.now }
-    requires run { IsKept web.now.texts run }
-    ensures range { IfOk result (IsKept web.now.texts) }
-    ensures added { IfOk result (λ next. AddsItem web.now.texts table.now (λ id. slice_index_or has_piece.now id false) item.now run.entry next planning.old planning.new) }
-{
-    match text_of(item) {
-        Some((kind, span)) => add_text(planning, web, run, kind, span),
-        None => add_other(planning, web, table, has_piece, run, item),
-    }
 }
 
 /// Adds a piece. Texts of items that stand side by side in the source are copied at once.
@@ -341,8 +324,18 @@ fn add_piece(
 {
     planning.add_step(Step::Open)?;
     let mut run = no_run(web);
-    for item in items {
-        run = add_behind(planning, web, table, has_piece, run, item)?;
+    let mut i = 0;
+    while i < items.len() {
+        let item = &items[i];
+        i += 1;
+        if let Some((kind, span)) = text_of(item) {
+            let behind = add_text(planning, web, run, kind, span)?;
+            let (end, passed) = planning.pass(web, behind, &items[i..]);
+            run = Run { end, ..behind };
+            i += passed;
+        } else {
+            run = add_other(planning, web, table, has_piece, run, item)?;
+        }
     }
     planning.add_code(end_of_piece())?;
     add_run(planning, run)?;

@@ -1,11 +1,15 @@
 //! Texts of items that stand side by side in the source, so that they are copied at once.
-ghost use Rattle.std.specs.Prelude.{◌≡◌, true, [], ℕ, List, IfSome};
+ghost use Rattle.std.specs.Prelude.{◌≡◌, ◌≤◌, ◌++◌, true, [], ℕ, List, IfSome, length, map, take};
+ghost use Rattle.std.specs.List.{All};
+ghost use Rattle.tangle_names.specs.NameTable.{TableRead};
 ghost use Rattle.tangle_scan.specs.Rules.{span_text};
-ghost use Rattle.tangle_scan.specs.SourceOrder.{IsSpan};
+ghost use Rattle.tangle_scan.specs.SourceOrder.{IsInRange, IsSpan};
 ghost use Rattle.tangle_scan.specs.declared.items.Item.TheVariants as item_kind;
-ghost use Rattle.tangle_expansion.specs.Runs.{IsJoined, IsKept, IsRunWith, IsTextOf, run_bytes};
+ghost use Rattle.tangle_expansion.specs.ItemCodes.{code_in};
+ghost use Rattle.tangle_expansion.specs.Codes.{blank_code};
+ghost use Rattle.tangle_expansion.specs.Runs.{IsJoined, IsKept, IsRunOver, IsRunWith, IsTextOf, run_bytes};
 
-use crate::codes::ItemKind;
+use crate::codes::{ItemCode, ItemKind, code_of_blank, code_of_span};
 use tangle_scan::{Item, Span, Web};
 
 /// The kind and the range of an item with a text.
@@ -75,15 +79,12 @@ pub(crate) fn run_of<'w>(web: &'w Web, span: Span) -> Run<'w>
     }
 }
 
-/// A range with the one that begins where it ends.
-pub(crate) fn joined<'w>(run: Run<'w>, span: Span) -> Option<Run<'w>>
-    ensures { IfSome result (IsJoined run.entry span) }
+/// Where a range ends with the one behind it, if that begins where it ends.
+fn joined(run: Run, span: Span) -> Option<usize>
+    ensures { IfSome result (λ end. IsJoined run.entry span (record run.entry { end = end })) }
 {
     if run.number == span.line && run.end == span.start as usize {
-        Some(Run {
-            end: span.end as usize,
-            ..run
-        })
+        Some(span.end as usize)
     } else {
         None
     }
@@ -99,19 +100,66 @@ fn is_blank(item: &Item) -> bool
     }
 }
 
-/// A range with an item behind it, if that is white space, and a space in the source.
-pub(crate) fn with_space<'w>(run: Run<'w>, item: &Item) -> Option<Run<'w>>
-    ensures { IfSome result (IsRunWith run.entry item.now) }
+/// Where a range ends with an item behind it, if that is white space, and a space in the source.
+fn with_space(run: Run, item: &Item) -> Option<usize>
+    ensures { IfSome result (λ end. IsRunWith run.entry item.now blank_code (record run.entry { end = end })) }
 {
     if !is_blank(item) {
         return None;
     }
     if run.line.get(run.end) == Some(&b' ') {
-        Some(Run {
-            end: run.end + 1,
-            ..run
-        })
+        Some(run.end + 1)
     } else {
         None
     }
+}
+
+/// Where a range ends with an item behind it, if the text of the item is what comes next in the
+/// source, and the code of the item.
+fn with_item(web: &Web, run: Run, item: &Item) -> Option<(usize, ItemCode)>
+    requires { IsInRange web.now.texts item.now }
+    ensures { IfSome result (λ more. IsRunWith run.entry item.now more.1 (record run.entry { end = more.0 })) }
+{
+    match text_of(item) {
+        Some((kind, span)) => match joined(run, span) {
+            Some(end) => Some((end, code_of_span(kind, span))),
+            None => None,
+        },
+        None => match with_space(run, item) {
+            Some(end) => Some((end, code_of_blank())),
+            None => None,
+        },
+    }
+}
+
+/// Where a range ends with the items behind it whose texts come next in the source, one after the
+/// other, and how many these are. Their codes are added, and no more items are passed than there is
+/// room for codes.
+pub(crate) fn pass_items(
+    codes: &mut Vec<ItemCode>,
+    web: &Web,
+    run: Run,
+    items: &[Item],
+) -> (usize, usize)
+    requires run { IsKept web.now.texts run }
+    requires spans { All (IsInRange web.now.texts) items.now }
+    ensures few { result.1 ≤ length items.now }
+    ensures range { IsRunOver web.now.texts run.entry (take result.1 items.now) (record run.entry { end = result.0 }) }
+    ensures codes { (table : TableRead) → codes.new.items ≡ codes.old.items ++ map (code_in table) (take result.1 items.now) }
+{
+    let room = codes.capacity().saturating_sub(codes.len());
+    let most = items.len().min(room);
+    let mut end = run.end;
+    let mut passed = 0;
+    while passed < most {
+        match with_item(web, Run { end, ..run }, &items[passed]) {
+            Some((more, code)) => {
+                codes.push_reserved(code);
+                end = more;
+                passed += 1;
+            }
+            None => return (end, passed),
+        }
+    }
+    (end, passed)
 }
