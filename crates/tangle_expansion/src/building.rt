@@ -50,6 +50,9 @@ fn mark_places(alloc: Global, piece: &Piece) -> Result<Vec<Origin>, NoMemory>
 {
     let mut places = Vec::new(alloc);
     places.push(low_place(piece.place()))?;
+    if !piece.may_have_mark() {
+        return Ok(places);
+    }
     for item in piece.items() {
         add_place(&mut places, *item)?;
     }
