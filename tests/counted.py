@@ -4,9 +4,10 @@ in vain shows here: twice, or in a second work.
 usage: counted.py RETANGLE REFUSE      REFUSE is tests/refuse.c as a library
 
 A conversation is counted with and without its last edit: the difference is what this edit took.
-Files are read and scanned, and names and texts are taken, anew for each edit and at a start, with
-allocations for each name. They are the same in both of what is compared here. What is left is the
-expansions, and some lists, whose room doubles. The last line is 'N passed, M failed'.
+Files are read and scanned, and texts are taken, anew for each edit and at a start, with allocations
+for each name; what names resolve to is kept by an edit that leaves them written as they were. These
+allocations are the same in both of what is compared here. What is left is the expansions, and some
+lists, whose room doubles. The last line is 'N passed, M failed'.
 """
 import os
 import subprocess

@@ -7,14 +7,14 @@ use Rattle.tangle_files.specs.Roles.{RolesRead}
 use Rattle.tangle_files.specs.declared.marks.MarkMode.{MarkMode}
 use Rattle.tangle_scan.specs.LineTruth.{PiecesStandAtTheirLines}
 use Rattle.tangle_scan.specs.Web.{WebRead, web_of}
-use Rattle.tangle_names.specs.NameTable.{table_of}
+use Rattle.tangle_names.specs.NameTable.{TableRead, table_of, table_over}
 use Rattle.tangle_expansion.specs.Numbers.{numbers_of}
 use Rattle.tangle_expansion.specs.Shapes.{Project}
 use Rattle.tangle_graph.specs.Faults.{AreGraphFaults}
 use Rattle.tangle_graph.specs.Outputs.{outputs}
 use Rattle.tangle_graph.specs.Stores.{StoreRead, IsStoreOf}
 use Rattle.tangle_session.specs.Files.{project_of, source_at, web_at}
-use Rattle.tangle_session.specs.Sessions.{IsGroundOf, IsGroundAt}
+use Rattle.tangle_session.specs.Sessions.{IsGround, IsGroundOf, IsGroundAt}
 use Rattle.tangle_session.specs.declared.ground.Ground.{Ground}
 
 -- what a store says of its nodes stays, where its faults are taken
@@ -51,14 +51,15 @@ at_web files roles source web e is = is ∙ ap web_of (at_source files roles sou
 
 module _ (files : FileTable) (roles : RolesRead) (source : SourceRead) (web : WebRead) (out : List ℕ) (marks : MarkMode) (before after : Ground)
     (source_is : source ≡ source_of files roles) (web_is : web ≡ web_of source) (out_is : out ≡ roles.out)
-    (names : before.table.names ≡ (table_of web).names) (store : IsStoreOf (project_of web) before.store) (store_names : before.store.names ≡ (table_of web).names)
+    (occurrences : before.occurrences.items ≡ web.occurrences) (table : before.table ≡ table_over web.occurrences []) (store : IsStoreOf (project_of web) before.store) (store_names : before.store.names ≡ (table_of web).names)
     (files_are : before.store.outputs ≡ outputs web (table_of web) out) (numbers : before.numbers ≡ numbers_of web (table_of web) marks)
     (of_names : before.faults.items ≡ (table_of web).faults) (of_graph : AreGraphFaults web (table_of web) out before.store.faults)
     (truth : PiecesStandAtTheirLines source web) (others : after ≡ record before { faults = after.faults; store = record before.store { faults = [] } })
     (list : after.faults.items ≡ source.faults ++ (web.faults ++ (before.faults.items ++ before.store.faults))) where
   made : IsGroundOf source web out marks (record before { faults = after.faults; store = record before.store { faults = [] } })
   made = record {
-    names = names;
+    occurrences = occurrences;
+    table = table;
     store = faults_apart (project_of web) before.store [] store;
     store_names = store_names;
     outputs_are = files_are;
@@ -84,3 +85,9 @@ module _ (files : FileTable) (roles : RolesRead) (source : SourceRead) (web : We
 pub ground_of : (files : FileTable) (roles : RolesRead) (marks : MarkMode) (ground : Ground) → marks ≡ roles.marks
     → IsGroundAt files (record roles { marks = marks }) ground → IsGroundAt files roles ground
 ground_of files roles marks ground same is = subst (λ m. IsGroundAt files (record roles { marks = m }) ground) same is
+
+-- the table of a ground is that of its occurrences
+pub table_before : (ground : Ground) → IsGround ground → ground.table ≡ table_over ground.occurrences.items ground.table.faults
+table_before ground is =
+    let made = is.made in
+    made.table ∙ (λ i. table_over (sym made.occurrences i) (sym (ap (λ (t : TableRead). t.faults) made.table) i))

@@ -1,5 +1,5 @@
 -- What a session shows, and what it holds besides.
-use Rattle.std.specs.Prelude.{◌≡◌, ◌≢◌, ◌↔◌, ℕ, true, List, None, Some, Option, AllPairs, Contains, if◌then◌else◌}
+use Rattle.std.specs.Prelude.{◌≡◌, ◌≢◌, ◌↔◌, ℕ, true, List, [], None, Some, Option, AllPairs, Contains, if◌then◌else◌}
 use Rattle.tangle_files.specs.Edited.{edited_all, roles_after}
 use Rattle.tangle_files.specs.Lines.{FileTable}
 use Rattle.tangle_files.specs.Roles.{RolesRead, fits, is_there, is_there_if_any}
@@ -10,7 +10,7 @@ use Rattle.tangle_files.specs.declared.refusal.Refusal.{Refusal}
 use Rattle.tangle_files.specs.declared.refusal.Refusal.TheVariants.{NoWeb, NoChange}
 use Rattle.tangle_scan.specs.LineTruth.{PiecesStandAtTheirLines}
 use Rattle.tangle_scan.specs.Web.{WebRead}
-use Rattle.tangle_names.specs.NameTable.{table_of}
+use Rattle.tangle_names.specs.NameTable.{table_of, table_over}
 use Rattle.tangle_expansion.specs.Affected.{IsAffected}
 use Rattle.tangle_expansion.specs.Limits.{levels, heaviest, IsExpandableNode}
 use Rattle.tangle_expansion.specs.Numbers.{numbers_of}
@@ -55,10 +55,11 @@ pub record AreMade (before : SessionRead) (edits : List Edit) (after : SessionRe
   pub work : ListsAffected (web_at before.files before.roles) (web_at after.files after.roles) after.work
 
 -- The ground is what the web of a source makes, for a main file of this name and line marks that
--- are written so: its names, its store and its numbers, and the faults.
+-- are written so: its occurrences, its names, its store and its numbers, and the faults.
 pub record IsGroundOf (source : SourceRead) (web : WebRead) (out : List ℕ) (marks : MarkMode)
     (ground : Ground) : Type 0 where
-  pub names : ground.table.names ≡ (table_of web).names
+  pub occurrences : ground.occurrences.items ≡ web.occurrences
+  pub table : ground.table ≡ table_over web.occurrences []
   pub store : IsStoreOf (project_of web) ground.store
   pub store_names : ground.store.names ≡ (table_of web).names
   pub outputs_are : ground.store.outputs ≡ outputs web (table_of web) out
@@ -70,6 +71,12 @@ pub record IsGroundOf (source : SourceRead) (web : WebRead) (out : List ℕ) (ma
 abbrev pub IsGroundAt : FileTable → RolesRead → Ground → Type 0
 IsGroundAt files roles ground =
     IsGroundOf (source_at files roles) (web_at files roles) roles.out roles.marks ground
+
+-- the ground of some files and roles
+pub record IsGround (ground : Ground) : Type 0 where
+  pub files : FileTable
+  pub roles : RolesRead
+  pub made : IsGroundAt files roles ground
 
 -- What is held is what the files make, with what each expandable node expands to; and the web and the change file are there.
 pub record Holds (files : FileTable) (roles : RolesRead) (tangled : Tangled) : Type 0 where

@@ -1,35 +1,57 @@
 //! The ground of tangling: what is known of a web before a node of it is expanded.
-ghost use Rattle.std.specs.Prelude.{◌≡◌, ◌++◌, [], true, IfOk, OnOk};
+ghost use Rattle.std.specs.Prelude.{◌≡◌, ◌++◌, [], true, IfOk, IfSome, OnOk};
 ghost use Rattle.tangle_files.specs.Roles.{fits};
-ghost use Rattle.tangle_names.specs.NameTable.{table_of};
+ghost use Rattle.tangle_names.specs.NameTable.{table_of, table_over};
 ghost use Rattle.tangle_expansion.specs.Numbers.{numbers_of};
 ghost use Rattle.tangle_graph.specs.Faults.{AreGraphFaults};
 ghost use Rattle.tangle_graph.specs.Outputs.{outputs};
 ghost use Rattle.tangle_graph.specs.Stores.{IsStoreOf};
 ghost use Rattle.tangle_session.specs.Files.{project_of};
-ghost use Rattle.tangle_session.specs.Sessions.{IsGroundAt};
+ghost use Rattle.tangle_session.specs.Sessions.{IsGround, IsGroundAt};
 
 use std::alloc::Global;
 use tangle_expansion::Numbers;
 use tangle_graph::Store;
 use tangle_lines::{Fault, Files, MarkMode, NoMemory, Roles, read_source};
 use tangle_names::NameTable;
-use tangle_scan::{Web, scan};
+use tangle_scan::{Occurrence, Web, scan};
 
-/// The names, the store and the numbers of a web, and the faults of its files.
+/// The occurrences, the names, the store and the numbers of a web, and the faults of its files. The
+/// occurrences are kept for the next edit, which keeps what the names resolve to if they are written
+/// as they were.
 #[derive(Drop)]
 pub(crate) struct Ground {
+    pub(crate) occurrences: Vec<Occurrence>,
     pub(crate) table: NameTable,
     pub(crate) store: Store,
     pub(crate) numbers: Numbers,
     pub(crate) faults: Vec<Fault>,
 }
 
+/// The table of a web's names, built over those of the old ground, if there is one.
+fn name_table(alloc: Global, web: &Web, old: Option<&Ground>) -> Result<NameTable, NoMemory>
+    requires { IfSome old (λ before. IsGround before.now) }
+    ensures { IfOk result (λ table. table ≡ table_of web.now) }
+{
+    match old {
+        Some(old) => NameTable::rebuild(alloc, web, &old.table, &old.occurrences),
+        None => NameTable::build(alloc, web),
+    }
+}
+
 impl Ground {
     /// What a web is made into, for a main file of this name and line marks that are written so. The
-    /// faults are those of names as yet; the store has those of the graph.
-    fn of_web(alloc: Global, web: &Web, out: &[u8], marks: MarkMode) -> Result<Ground, NoMemory>
-        ensures names { IfOk result (λ made. made.table.names ≡ (table_of web.now).names) }
+    /// web has its occurrences as yet. The faults are those of names; the store has those of the
+    /// graph.
+    fn of_web(
+        alloc: Global,
+        web: &Web,
+        out: &[u8],
+        marks: MarkMode,
+        old: Option<&Ground>,
+    ) -> Result<Ground, NoMemory>
+        requires { IfSome old (λ before. IsGround before.now) }
+        ensures table { IfOk result (λ made. made.table ≡ table_over web.now.occurrences []) }
         ensures store { IfOk result (λ made. IsStoreOf (project_of web.now) made.store) }
         ensures store_names { IfOk result (λ made. made.store.names ≡ (table_of web.now).names) }
         ensures outputs { IfOk result (λ made. made.store.outputs ≡ outputs web.now (table_of web.now) out.now) }
@@ -37,11 +59,12 @@ impl Ground {
         ensures of_names { IfOk result (λ made. made.faults.items ≡ (table_of web.now).faults) }
         ensures of_graph { IfOk result (λ made. AreGraphFaults web.now (table_of web.now) out.now made.store.faults) }
     {
-        let mut table = NameTable::build(alloc, web)?;
+        let mut table = name_table(alloc, web, old)?;
         let store = Store::build(alloc, web, &table, out)?;
         let numbers = Numbers::build(alloc, web, &store, marks)?;
         let faults = table.take_faults();
         Ok(Ground {
+            occurrences: Vec::new(alloc),
             table,
             store,
             numbers,
@@ -67,21 +90,25 @@ impl Ground {
     }
 
     /// Reads and scans the files, which have the web and the change file that is named. Line marks
-    /// are to be written so, whatever the roles say.
+    /// are to be written so, whatever the roles say. The names are built over those of the old
+    /// ground, if there is one.
     pub(crate) fn build(
         alloc: Global,
         files: &Files,
         roles: &Roles,
         marks: MarkMode,
+        old: Option<&Ground>,
     ) -> Result<Ground, NoMemory>
-        requires { fits files.now roles.now ≡ true }
+        requires fits { fits files.now roles.now ≡ true }
+        requires old { IfSome old (λ before. IsGround before.now) }
         ensures { IfOk result (λ made.
             IsGroundAt files.now (record roles.now { marks = marks }) made) }
     {
         let source = read_source(alloc, files, roles)?;
         let web = scan(alloc, &source)?;
-        let mut ground = Ground::of_web(alloc, &web, roles.out(), marks)?;
-        let of_web = web.into_faults();
+        let mut ground = Ground::of_web(alloc, &web, roles.out(), marks, old)?;
+        let (occurrences, of_web) = web.into_occurrences_and_faults();
+        ground.occurrences = occurrences;
         let of_source = source.into_faults();
         ground.join_faults(of_source, of_web)?;
         Ok(ground)

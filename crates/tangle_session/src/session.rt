@@ -79,7 +79,7 @@ impl Session {
         if let Some(refusal) = refusal_to_start(&files, &roles) {
             return Err((files, roles, refusal));
         }
-        let ground = match Ground::build(alloc, &files, &roles, roles.marks()) {
+        let ground = match Ground::build(alloc, &files, &roles, roles.marks(), None) {
             Ok(ground) => ground,
             Err(_) => return Err((files, roles, Refusal::NoMemory)),
         };

@@ -145,7 +145,7 @@ pub(crate) fn tangle_again(
         ⊎ (refused ≡ list_memory)) }
 {
     let files = edited_copy(&old.files, roles, edits)?;
-    let ground = Ground::build(alloc, &files, roles, marks)?;
+    let ground = Ground::build(alloc, &files, roles, marks, Some(&old.ground))?;
     let next = expand_over(alloc, old, files, ground, work)?;
     Ok(next)
 }

@@ -3,10 +3,13 @@ use Rattle.tangle_files.specs.Roles.{RolesRead, fits}
 use Rattle.tangle_session.proofs.EditLemmas.{fits_all}
 use Rattle.tangle_session.proofs.tangling.tangle_again.Goals as goal
 
-pub build-requires : goal.build-requires
-build-requires c =
+pub build-requires-clause-fits : goal.build-requires-clause-fits
+build-requires-clause-fits c =
     subst (λ fs. fits fs c.args.roles.now ≡ true) (sym c.in_ok-files.ensures.made)
     (fits_all c.args.old.now.files c.args.roles.now c.args.edits.now c.requires.held.are_there c.in_ok-files.ensures.taken)
+
+pub build-requires-clause-old : goal.build-requires-clause-old
+build-requires-clause-old c = record { files = c.args.old.now.files; roles = c.args.roles.now; made = c.requires.held.ground }
 
 pub expand_over-requires-clause-held : goal.expand_over-requires-clause-held
 expand_over-requires-clause-held c =

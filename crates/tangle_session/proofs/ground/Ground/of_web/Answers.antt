@@ -1,4 +1,4 @@
-use Rattle.std.proofs.Common.{◌∙◌, ap, subst}
+use Rattle.std.proofs.Common.{◌∙◌, [], ap, subst}
 use Rattle.tangle_names.specs.NameTable.{TableRead}
 use Rattle.tangle_expansion.specs.Projects.{project}
 use Rattle.tangle_graph.specs.Faults.{AreGraphFaults}
@@ -6,8 +6,8 @@ use Rattle.tangle_graph.specs.Outputs.{outputs}
 use Rattle.tangle_graph.specs.Stores.{IsStoreOf}
 use Rattle.tangle_session.proofs.ground.Ground.of_web.Goals as goal
 
-pub returns-clause-names : goal.returns-clause-names
-returns-clause-names c = ap (λ (t : TableRead). t.names) c.take_faults-faults.ensures.others ∙ ap (λ (t : TableRead). t.names) c.in_ok-table.ensures
+pub returns-clause-table : goal.returns-clause-table
+returns-clause-table c = c.take_faults-faults.ensures.others ∙ ap (λ (t : TableRead). record t { faults = [] }) c.in_ok-table.ensures
 
 pub returns-clause-store : goal.returns-clause-store
 returns-clause-store c = subst (λ t. IsStoreOf (project c.args.web.now t) c.in_ok-store.store) c.in_ok-table.ensures c.in_ok-store.ensures.store
