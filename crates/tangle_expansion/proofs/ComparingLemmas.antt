@@ -1,5 +1,5 @@
 -- Comparing lists from their fronts.
-use Rattle.std.proofs.Common.{◌≡◌, ◌≢◌, ◌∙◌, ℕ, ◌+◌, ◌<◌, ◌≤◌, ◌-◌, suc, List, [], ◌∷◌, ◌++◌, length, drop, refl, ap, sym, append_assoc, append-nil, arith, get_or, drop-cons, add-one, All}
+use Rattle.std.proofs.Common.{◌≡◌, ◌≢◌, ◌∙◌, ℕ, ◌+◌, ◌<◌, ◌≤◌, ◌-◌, suc, List, [], ◌∷◌, ◌++◌, length, drop, refl, ap, sym, append_assoc, append-nil, get_or, drop-cons, add-one, All}
 use Rattle.std.specs.Prelude.{flat_map, Option, Some, None, MatchOption}
 use Rattle.std.proofs.lemmas.List.{append_cancel_left, get_or_default}
 use Rattle.tangle_lexer.specs.declared.spans.Span.{Span}
@@ -14,7 +14,7 @@ use Rattle.tangle_expansion.specs.ItemSlots.{pieces_at, no_piece}
 use Rattle.tangle_expansion.specs.NodeTexts.{HoldsShape, texts_at}
 use Rattle.tangle_expansion.specs.Runs.{IsTextOf, run_bytes}
 use Rattle.tangle_expansion.specs.Comparing.{HasItemsOf}
-use Rattle.tangle_expansion.specs.Fronts.{Lists, GoOnAs, IsBehind, IsNotBehind, with_code, with_bytes, with_uses, with_text, with_item, with_items, with_pieces, with_shape, with_range, lists_at, no_lists, lists_of, IsBehindPlace, IsNotBehindPlace}
+use Rattle.tangle_expansion.specs.Fronts.{Lists, GoOnAs, IsBehind, IsNotBehind, with_code, with_byte, with_bytes, with_text, with_item, with_items, with_pieces, with_shape, with_range, lists_at, no_lists, lists_of, IsBehindPlace, IsNotBehindPlace}
 use Rattle.tangle_expansion.specs.declared.codes.ItemCode.{ItemCode}
 use Rattle.tangle_expansion.specs.declared.codes.ItemKind.{ItemKind}
 use Rattle.tangle_expansion.specs.declared.comparing.Place.{Place}
@@ -88,6 +88,13 @@ code_behind code first codes bytes uses same = all_behind code first [] [] (reco
 
 pub cut_not : (run bytes text rest : List ℕ) → text ≡ run ++ rest → ((more : List ℕ) → rest ≢ bytes ++ more) → (more : List ℕ) → text ≢ run ++ (bytes ++ more)
 cut_not run bytes text rest is differ more e = differ more (append_cancel_left run rest (bytes ++ more) (sym is ∙ e))
+
+-- an item of one byte, behind which no range is left
+pub byte_cut : (code : ItemCode) (byte : ℕ) (run next : List ℕ) → next ≡ []
+    → (more : Lists) → with_bytes run (with_byte code byte more) ≡ with_all code (run ++ byte ∷ []) [] (with_bytes next more)
+byte_cut code byte run next none more =
+    ap (λ b. record { codes = code ∷ more.codes; bytes = b; uses = more.uses })
+    (sym (append_assoc run (byte ∷ []) more.bytes) ∙ ap (λ n. (run ++ byte ∷ []) ++ (n ++ more.bytes)) (sym none))
 
 -- texts and items behind the bytes of a range
 

@@ -17,9 +17,8 @@ use Rattle.tangle_expansion.specs.Projects.{use_of, resolved_at, shape_item}
 use Rattle.tangle_expansion.specs.Slots.{Slot, Own, Used, byte_slots}
 use Rattle.tangle_expansion.specs.Codes.{item_code, piece_end, item_bytes, item_names, shape_codes, shape_bytes, shape_names}
 use Rattle.tangle_expansion.specs.ItemCodes.{names_resolved, names_in, pieces_names, shape_of}
-use Rattle.tangle_expansion.specs.ItemSlots.{marks_behind_item, name_slots, item_slots, items_slots, piece_slots, pieces_slots}
+use Rattle.tangle_expansion.specs.ItemSlots.{marks_behind_item, name_slots, item_slots, items_slots, pieces_slots}
 use Rattle.tangle_expansion.specs.Comparing.{HasItemsOf}
-use Rattle.tangle_expansion.specs.declared.codes.ItemCode.{ItemCode}
 use Rattle.tangle_expansion.specs.declared.expansion.NodeText.{NodeText}
 use Rattle.tangle_expansion.proofs.CodeLemmas.{same_by_codes}
 

@@ -42,6 +42,10 @@ with_bytes bytes more = record { codes = more.codes; bytes = bytes ++ more.bytes
 abbrev pub with_uses : List ℕ → Lists → Lists
 with_uses uses more = record { codes = more.codes; bytes = more.bytes; uses = uses ++ more.uses }
 
+-- an item of one byte
+abbrev pub with_byte : ItemCode → ℕ → Lists → Lists
+with_byte code byte more = record { codes = code ∷ more.codes; bytes = byte ∷ more.bytes; uses = more.uses }
+
 abbrev pub with_text : List (List ℕ) → ItemKind → Span → Lists → Lists
 with_text texts kind s more = record { codes = record { kind = kind; size = s.end - s.start } ∷ more.codes; bytes = span_text texts s ++ more.bytes; uses = more.uses }
 

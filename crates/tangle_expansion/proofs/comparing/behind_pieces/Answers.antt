@@ -1,4 +1,4 @@
-use Rattle.std.proofs.Common.{◌≡◌, ◌+◌, ◌∙◌, ap, sym, refl, drop, arith, All}
+use Rattle.std.proofs.Common.{◌+◌, ◌∙◌, ap, refl, drop, arith, All}
 use Rattle.std.specs.Prelude.{slice_index_or}
 use Rattle.tangle_scan.specs.SourceOrder.{IsInRange}
 use Rattle.tangle_scan.specs.Web.{PieceRead}

@@ -1,4 +1,4 @@
-use Rattle.std.proofs.Common.{◌≡◌, ◌∙◌, ap, sym, true, false, true≢false}
+use Rattle.std.proofs.Common.{◌≡◌, ◌∙◌, ap, sym, true, true≢false}
 use Rattle.std.specs.Prelude.{filter}
 use Rattle.tangle_expansion.specs.ItemSlots.{pieces_at}
 use Rattle.tangle_expansion.specs.NodeTexts.{node_title}
