@@ -141,7 +141,8 @@ fn behind_text<'w, 'o>(
     if !same_code(code, code_of_span(kind, span)) {
         return None;
     }
-    if let Some(run) = joined(place.run, span) {
+    if let Some(end) = joined(place.run, span) {
+        let run = Run { end, ..place.run };
         return Some(Place { run, ..place });
     }
     let text = behind_run(place.text, place.run)?;
@@ -222,10 +223,11 @@ fn behind_other<'w, 'o>(
 {
     match *item {
         Item::Blank => {
-            if let Some(run) = with_space(place.run, item) {
+            if let Some(end) = with_space(place.run, item) {
                 if !same_code(code, code_of_blank()) {
                     return None;
                 }
+                let run = Run { end, ..place.run };
                 return Some(Place { run, ..place });
             }
             behind_one_byte(place, code, code_of_blank(), b' ')

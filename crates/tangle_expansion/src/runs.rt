@@ -80,7 +80,7 @@ pub(crate) fn run_of<'w>(web: &'w Web, span: Span) -> Run<'w>
 }
 
 /// Where a range ends with the one behind it, if that begins where it ends.
-fn joined(run: Run, span: Span) -> Option<usize>
+pub(crate) fn joined(run: Run, span: Span) -> Option<usize>
     ensures { IfSome result (λ end. IsJoined run.entry span (record run.entry { end = end })) }
 {
     if run.number == span.line && run.end == span.start as usize {
@@ -101,7 +101,7 @@ fn is_blank(item: &Item) -> bool
 }
 
 /// Where a range ends with an item behind it, if that is white space, and a space in the source.
-fn with_space(run: Run, item: &Item) -> Option<usize>
+pub(crate) fn with_space(run: Run, item: &Item) -> Option<usize>
     ensures { IfSome result (λ end. IsRunWith run.entry item.now blank_code (record run.entry { end = end })) }
 {
     if !is_blank(item) {
