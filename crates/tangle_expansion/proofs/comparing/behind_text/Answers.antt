@@ -12,7 +12,7 @@ returns-in-Some-clause-place c =
     let place = c.args.place in
     let expected : ItemCode = record { kind = c.args.kind; size = s.end - s.start } in
     let same = c.same_code.ensures.0 c.if-not-same_code.false ∙ c.code_of_span.ensures in
-    let next = run_bytes c.in-Some.run' in
+    let next = run_bytes (record place.run { end = c.in-Some.end }) in
     λ codes. front_same _ _ (λ more. with_code expected (with_bytes next more)) (λ more. with_bytes (run_bytes place.run) (with_text texts c.args.kind s more)) (with_bytes next)
     (text_joined texts (run_bytes place.run) next c.args.kind s (c.in-Some.ensures.text texts c.requires.run c.requires.span))
     (λ more. code_behind expected c.args.code codes place.text.now place.uses.now same (with_bytes next more))
