@@ -19,3 +19,4 @@ mod OrderingLemmas
 mod FaultLemmas
 pub mod WeightLemmas
 pub mod UsesLemmas
+mod SkeletonLemmas

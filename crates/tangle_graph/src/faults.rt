@@ -18,8 +18,6 @@ ghost use Rattle.tangle_graph.specs.Plans.{AreFilled};
 ghost use Rattle.tangle_graph.specs.FaultFlags.{AreNodeFlags, flag_at, first_use_by_number};
 ghost use Rattle.tangle_graph.specs.Faults.{AreGraphFaults, fault_of, fault_place, faults_of_names, first_use, is_too_large, is_use};
 
-use crate::graph::Graph;
-use digraph::reaching_cycles;
 use std::alloc::{AllocError, Global};
 use tangle_lines::{Fault, FaultKind, NoMemory};
 use tangle_names::{NameTable, Resolved};
@@ -235,35 +233,4 @@ pub(crate) fn faults(
     add_faults(alloc, &mut faults, clash, web, table, out, flags, &uses)?;
     add_unplaced(alloc, &mut faults, FaultKind::NoProgram, !has_text)?;
     Ok(faults)
-}
-
-/// The faults of this graph of names, for a main file of this name, given flags of the nodes that have a piece, of those that contain
-/// themselves and of those that are expandable.
-pub(crate) fn graph_faults(
-    alloc: Global,
-    web: &Web,
-    table: &NameTable,
-    out: &[u8],
-    graph: &Graph,
-    defined: &[bool],
-    self_containing: &[bool],
-    expandable: &[bool],
-) -> Result<Vec<Fault>, NoMemory>
-    requires table { table.now ≡ record (table_of web.now) { faults = table.now.faults } }
-    requires graph { IsGraphOf web.now table.now graph.now.pieces.items graph.now.uses.items }
-    requires defined { AreFilled (rows_of graph.now.pieces.items) defined.now }
-    requires containing_size { length self_containing.now ≡ length graph.now.uses.items }
-    requires containing { FlagsJust graph.now.uses.items self_containing.now (ContainsItself (HasUse graph.now.uses.items)) }
-    requires expandable_size { length expandable.now ≡ length table.now.names + 1 }
-    requires expandable { (n : ℕ) → n < length expandable.now → flag_at expandable.now n ≡ is_expandable (project web.now table.now) (title_at table.now.names n) }
-    ensures { IfOk result (λ faults. AreGraphFaults web.now table.now out.now faults.items) }
-{
-    let reaching = reaching_cycles(alloc, &graph.uses, &graph.users, self_containing)?;
-    let flags = NodeFlags {
-        defined,
-        self_containing,
-        reaching: &reaching,
-        expandable,
-    };
-    faults(alloc, web, table, out, &flags)
 }
