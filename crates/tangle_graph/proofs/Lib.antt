@@ -20,3 +20,4 @@ mod FaultLemmas
 pub mod WeightLemmas
 pub mod UsesLemmas
 mod SkeletonLemmas
+mod SuspectLemmas
