@@ -1,12 +1,14 @@
 -- What the skeleton of a web's texts says of the web.
-use Rattle.std.proofs.Common.{◌≡◌, ◌∙◌, ◌<◌, ◌≤◌, ◌+◌, ℕ, List, [], length, map, get_or, refl, ap, sym, subst, arith, Vec}
+use Rattle.std.proofs.Common.{◌≡◌, ◌∙◌, ◌<◌, ◌≤◌, ◌+◌, ◌++◌, ◌∷◌, ℕ, Bool, true, false, not, List, [], length, take, map, get_or, refl, ap, sym, subst, arith, Vec}
 use Rattle.std.specs.Global.{Global}
+use Rattle.std.specs.declared.rc.Rc.{Rc}
 use Rattle.std.specs.Prelude.{All}
 use Rattle.std.specs.List.{IsDistinct}
 use Rattle.std.specs.List.Sorted.{IsStrictlyIncreasing}
 use Rattle.std.specs.Str.{bytes_eq}
 use Rattle.std.proofs.Math.Decide.{dec_lt}
-use Rattle.std.proofs.lemmas.List.{get_or_past, get_or-map, length-map}
+use Rattle.std.proofs.lemmas.List.{get_or_past, get_or-map, length-map, map-append, take_more}
+use Rattle.std.proofs.lemmas.Slice.Eq.{bytes_eq-Decides}
 use Rattle.std.proofs.lemmas.List.Elements.{All-map}
 use Rattle.tangle_scan.specs.Web.{WebRead}
 use Rattle.tangle_names.specs.NameTable.{TableRead}
@@ -18,7 +20,8 @@ use Rattle.digraph.specs.Rows.{IsOnceEach, IsRowsOf}
 use Rattle.digraph.proofs.GraphLemmas.{rows_size}
 use Rattle.tangle_graph.specs.Grouping.{places_of}
 use Rattle.tangle_graph.specs.Groups.{IsGraphOf}
-use Rattle.tangle_graph.specs.Plans.{AreTexts}
+use Rattle.tangle_graph.specs.Plans.{AreTexts, node_texts}
+use Rattle.tangle_graph.specs.Rows.{texts_of}
 use Rattle.tangle_graph.specs.Skeletons.{IsSkeletonOf}
 use Rattle.tangle_graph.specs.declared.skeleton.Skeleton.{Skeleton}
 use Rattle.tangle_graph.proofs.GraphLemmas.{graph_of}
@@ -60,3 +63,23 @@ pub once_in_range : (texts : List NodeText) (count : ℕ) (rows once uses : Grap
 once_in_range texts count rows once uses same size all kept is =
     let room : count ≤ length (map node_uses texts) = omega (arith, size, length-map texts node_uses) in
     subst InRange (sym is) (kept (rows_in_range rows (map node_uses texts) count same room all))
+
+-- lists of numbers of which a test says that they are not two
+pub same_by_test : (xs ys : List ℕ) → not (bytes_eq xs ys) ≡ false → xs ≡ ys
+same_by_test xs ys e = (bytes_eq-Decides xs ys).0 (is_true (bytes_eq xs ys) e)
+  where
+    is_true : (b : Bool) → not b ≡ false → b ≡ true
+    is_true true e = refl
+    is_true false e = absurd (let no : true ≡ false = e in cc)
+
+-- one text more
+pub uses_more : (texts : List (Rc NodeText Global)) (i : ℕ) (text : Rc NodeText Global) → i < length texts → text ≡ get_or texts i text
+    → map node_uses (node_texts (take (i + 1) texts)) ≡ map node_uses (node_texts (take i texts)) ++ node_uses text.value ∷ []
+uses_more texts i text low read =
+    ap (λ l. map node_uses (node_texts l)) (take_more texts i text low ∙ (λ j. take i texts ++ sym read j ∷ []))
+    ∙ ap (map node_uses) (map-append (λ (t : Rc NodeText Global). t.value) (take i texts) (text ∷ []))
+    ∙ map-append node_uses (node_texts (take i texts)) (text.value ∷ [])
+
+pub texts_more : (texts : Graph) (i : ℕ) (text : Vec ℕ Global) → i < length texts → text ≡ get_or texts i text → texts_of (take (i + 1) texts) ≡ texts_of (take i texts) ++ text.items ∷ []
+texts_more texts i text low read =
+    ap texts_of (take_more texts i text low ∙ (λ j. take i texts ++ sym read j ∷ [])) ∙ map-append (λ (t : Vec ℕ Global). t.items) (take i texts) (text ∷ [])

@@ -53,19 +53,19 @@ returns-clause-skeleton c =
     let size : length uses ≡ length (map node_uses texts) = c.all_once.ensures.size ∙ sym (rows_size before) ∙ ap length c.in_ok-rows.ensures in
     let once : (n : ℕ) → n < length (map node_uses texts) → IsOnceEach (row_at (map node_uses texts) n) (row_at (rows_of uses) n) =
     (λ n low. subst (λ (rows : List (List ℕ)). IsOnceEach (row_at rows n) (row_at (rows_of uses) n)) c.in_ok-rows.ensures (c.all_once.ensures.rows n (omega (arith, low, size, c.all_once.ensures.size)))) in
-    let count_is : c.count.result ≡ length names = c.count.ensures ∙ ap length (sym c.in_ok-texts_of_names.ensures) ∙ length-map names (λ (t : Vec ℕ Global). t.items) in
+    let count_is : c.count-count.result ≡ length names = c.count-count.ensures ∙ ap length (sym c.in_ok-texts_of_names.ensures) ∙ length-map names (λ (t : Vec ℕ Global). t.items) in
     record {
       size = size;
       once = once;
       increasing = each_increasing (map node_uses texts) (rows_of uses) (rows_size uses ∙ size) once;
       range = once_in_range texts count before uses uses c.in_ok-rows.ensures (texts_size c.args.texts.now count c.requires.size) c.requires.inside c.all_once.ensures.range refl;
       order = subst (λ (g : Graph). IsOrder g c.in_ok-order.order.items) c.deref-uses.ensures.value c.in_ok-order.ensures;
-      containing_size = c.in_ok-self_containing.ensures.size ∙ ap length c.deref-uses.ensures.value;
+      containing_size = omega (arith, c.in_ok-self_containing.self_containing.ok, c.in_ok-self_containing.ensures.size, ap length c.deref-uses.ensures.value);
       containing = subst (λ (g : Graph). FlagsJust g c.in_ok-self_containing.self_containing.items (ContainsItself (HasUse g))) c.deref-uses.ensures.value c.in_ok-self_containing.ensures.flags;
-      reaching_size = c.in_ok-reaching_cycles.ensures.size ∙ ap length c.deref-uses.ensures.value;
+      reaching_size = omega (arith, c.in_ok-reaching_cycles.reaching_cycles.ok, c.in_ok-reaching_cycles.ensures.size, ap length c.deref-uses.ensures.value);
       reaching = subst (λ (g : Graph). FlagsJust g c.in_ok-reaching_cycles.reaching_cycles.items (ReachesCycle (HasUse g))) c.deref-uses.ensures.value c.in_ok-reaching_cycles.ensures.flags;
       users = users;
-      users_size = c.in_ok-user_rows.ensures.size ∙ ap length c.deref-uses.ensures.value;
+      users_size = omega (arith, c.in_ok-user_rows.user_rows.ok, c.in_ok-user_rows.ensures.size, ap length c.deref-uses.ensures.value);
       converse = subst (λ (g : Graph). IsConverse g users) c.deref-uses.ensures.value c.in_ok-user_rows.ensures.converse;
       used_nodes = c.in_ok-used_nodes.ensures ∙ (λ i. map (map (node_at (count_is i))) (rows_of (c.deref-uses.ensures.value i)));
       user_nodes = c.in_ok-user_nodes.ensures ∙ (λ i. map (map (node_at (count_is i))) (rows_of (c.deref-users.ensures.value i)));
