@@ -1,5 +1,5 @@
 -- A name that is expandable and used, does not contain itself and has no file, has no fault.
-use Rattle.std.proofs.Common.{◌≡◌, ◌∙◌, ◌<◌, ◌&&◌, ℕ, Bool, true, false, cond, not, List, length, refl, ap, sym, arith}
+use Rattle.std.proofs.Common.{◌≡◌, ◌∙◌, ◌<◌, ◌&&◌, ℕ, Bool, true, false, not, List, length, refl, ap, sym, arith}
 use Rattle.std.specs.Prelude.{None, Option, Some, is_some, nat_le, nat_lt, if◌then◌else◌}
 use Rattle.tangle_lines.specs.declared.faults.FaultKind.{FaultKind}
 use Rattle.tangle_lines.specs.declared.faults.FaultKind.TheVariants as kind

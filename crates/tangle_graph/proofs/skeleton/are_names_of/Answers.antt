@@ -1,4 +1,4 @@
-use Rattle.std.proofs.Common.{◌≡◌, ◌∙◌, ◌<◌, ◌++◌, ◌∷◌, [], ap, arith, get_or, length, sym}
+use Rattle.std.proofs.Common.{◌≡◌, ◌∙◌, ◌<◌, ◌++◌, ◌∷◌, [], arith, get_or, length, sym}
 use Rattle.std.proofs.lemmas.List.{take_more}
 use Rattle.tangle_graph.proofs.SkeletonLemmas.{same_by_test, texts_more}
 use Rattle.tangle_graph.proofs.skeleton.are_names_of.Goals as goal

@@ -1,4 +1,4 @@
-use Rattle.std.proofs.Common.{List, Bool, ℕ, subst}
+use Rattle.std.proofs.Common.{subst}
 use Rattle.digraph.specs.Graph.{rows_of}
 use Rattle.tangle_graph.specs.Stores.{AreWithin}
 use Rattle.tangle_graph.proofs.LimitLemmas.{limited}

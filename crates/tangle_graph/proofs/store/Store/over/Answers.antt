@@ -1,4 +1,4 @@
-use Rattle.std.proofs.Common.{◌≡◌, ◌∙◌, ◌<◌, ℕ, Bool, List, length, map, get_or, ap, refl, sym, subst, arith, false, Vec}
+use Rattle.std.proofs.Common.{◌≡◌, ◌∙◌, ◌<◌, ◌+◌, ℕ, Bool, length, map, get_or, ap, refl, sym, subst, arith, false, Vec}
 use Rattle.std.specs.Global.{Global}
 use Rattle.std.specs.declared.rc.Rc.{Rc}
 use Rattle.std.proofs.lemmas.List.{length-map}
@@ -8,17 +8,17 @@ use Rattle.tangle_names.specs.NameTable.{TableRead}
 use Rattle.tangle_expansion.specs.Projects.{project, ResolvesInside}
 use Rattle.tangle_expansion.specs.Limits.{levels, weight_of, depth_of}
 use Rattle.tangle_expansion.specs.declared.expansion.NodeText.{NodeText}
-use Rattle.digraph.specs.Graph.{Graph, rows_of, row_at}
+use Rattle.digraph.specs.Flags.{FlagsJust}
+use Rattle.digraph.specs.Graph.{Graph, HasUse, rows_of, row_at}
+use Rattle.digraph.specs.Reach.{ContainsItself, ReachesCycle}
 use Rattle.digraph.specs.Order.{IsOrder}
 use Rattle.digraph.proofs.GraphLemmas.{rows_size}
-use Rattle.tangle_graph.specs.FaultFlags.{flag_at}
 use Rattle.tangle_graph.specs.Groups.{IsGraphOf}
 use Rattle.tangle_graph.specs.Nodes.{title_at, node_at}
 use Rattle.tangle_graph.specs.Ordering.{IsOrderIn}
 use Rattle.tangle_graph.specs.Outputs.{is_expandable}
-use Rattle.tangle_graph.specs.Plans.{AreTexts, node_texts, slots_of, uses_of_plans}
+use Rattle.tangle_graph.specs.Plans.{node_texts, slots_of, uses_of_plans}
 use Rattle.tangle_graph.specs.Rows.{node_rows, texts_of}
-use Rattle.tangle_graph.specs.Skeletons.{IsSkeletonOf}
 use Rattle.tangle_graph.specs.Stores.{AreWithin, is_filled}
 use Rattle.tangle_graph.specs.declared.skeleton.Skeleton.{Skeleton}
 use Rattle.tangle_graph.proofs.FaultLemmas.{containing_flag, defined_flag, defined_size, reaching_flag}
@@ -113,4 +113,46 @@ invariant_of-result c =
       order = subst (IsOrderIn _) (sym nodes)
           (order_is web table pieces uses skeleton.order.items measures.weights.items measures.depths.items measures.expandable.items _ graph c.requires.skeleton.order within measured c.requires.names used refl);
       uses = names_below web table (rows_of pieces) (node_texts texts) (length skeleton.names.items) inside c.requires.texts (sym count);
+    }
+
+pub outputs-requires-clause-program : goal.outputs-requires-clause-program
+outputs-requires-clause-program c =
+    let web = c.args.web.now in
+    let table = c.args.table.now in
+    let pieces = c.args.pieces.items in
+    let skeleton = c.args.skeleton.value in
+    let uses = skeleton.uses.items in
+    let distinct = subst (λ (t : TableRead). IsDistinct bytes_eq t.names) (sym c.requires.table) (c.names_are_the_full_names.ensures.once web.occurrences) in
+    let inside = subst ResolvesInside (sym c.requires.table) (c.names_resolve_inside.ensures web) in
+    let graph = graph_over web table pieces (node_texts c.args.texts.items) skeleton distinct inside c.requires.grouped c.requires.texts c.requires.skeleton in
+    ap (λ n. get_or c.args.filled.now n false) c.count.ensures
+    ∙ c.requires.filled.flag (length table.names) (omega (arith, graph.rows_size, rows_size pieces))
+    ∙ program_filled web table pieces uses graph
+
+pub faults-requires-clause-flags : goal.faults-requires-clause-flags
+faults-requires-clause-flags c =
+    let web = c.args.web.now in
+    let table = c.args.table.now in
+    let pieces = c.args.pieces.items in
+    let skeleton = c.args.skeleton.value in
+    let uses = skeleton.uses.items in
+    let distinct = subst (λ (t : TableRead). IsDistinct bytes_eq t.names) (sym c.requires.table) (c.names_are_the_full_names.ensures.once web.occurrences) in
+    let inside = subst ResolvesInside (sym c.requires.table) (c.names_resolve_inside.ensures web) in
+    let graph = graph_over web table pieces (node_texts c.args.texts.items) skeleton distinct inside c.requires.grouped c.requires.texts c.requires.skeleton in
+    let is = c.requires.skeleton in
+    let same : length c.deref-uses.result.now ≡ length uses = ap length (c.deref-uses.ensures.value ∙ ap (λ (s : Skeleton). s.uses.items) c.deref-shared.ensures) in
+    let containing : c.deref-2.result.now ≡ skeleton.self_containing.items = c.deref-2.ensures.value ∙ ap (λ (s : Skeleton). s.self_containing.items) c.deref-shared.ensures in
+    let reaching : c.deref-3.result.now ≡ skeleton.reaching_cycles.items = c.deref-3.ensures.value ∙ ap (λ (s : Skeleton). s.reaching_cycles.items) c.deref-shared.ensures in
+    let rows_count : length (rows_of c.deref-rows.result.now) ≡ length table.names + 1 = ap (λ (g : Graph). length (rows_of g)) c.deref-rows.ensures.value ∙ rows_size pieces ∙ graph.rows_size in
+    record {
+      defined_size = defined_size web table pieces uses graph c.args.filled.now c.requires.filled;
+      containing_size = ap length containing ∙ is.containing_size ∙ graph.uses_size;
+      reaching_size = ap length reaching ∙ is.reaching_size ∙ graph.uses_size;
+      expandable_size = ap length c.deref-4.ensures.value ∙ c.in_ok-measures.ensures.within.size ∙ rows_count;
+      defined = defined_flag web table pieces uses graph c.args.filled.now c.requires.filled;
+      containing = containing_flag web table pieces uses graph c.deref-2.result.now
+          (subst (λ flags. FlagsJust uses flags (ContainsItself (HasUse uses))) (sym containing) is.containing);
+      reaching = reaching_flag web table pieces uses graph c.deref-3.result.now
+          (subst (λ flags. FlagsJust uses flags (ReachesCycle (HasUse uses))) (sym reaching) is.reaching);
+      expandable = λ n low. ap (λ l. get_or l n false) c.deref-4.ensures.value ∙ c.in_ok-measures.ensures.expandable n (omega (arith, low, same, graph.uses_size));
     }
