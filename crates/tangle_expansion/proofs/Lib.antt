@@ -25,3 +25,5 @@ pub mod FilledLemmas
 pub mod CodeLemmas
 pub mod CountLemmas
 pub mod HeldLemmas
+pub mod NumberedShapes
+pub mod ComparingLemmas

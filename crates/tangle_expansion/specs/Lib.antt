@@ -21,3 +21,5 @@ pub mod ItemCodes
 pub mod Runs
 pub mod MacroTexts
 pub mod NodeTexts
+pub mod Comparing
+pub mod Fronts

@@ -127,7 +127,7 @@ pub(crate) fn code_count(pieces: &[Piece], numbers: &[usize]) -> usize
 }
 
 /// Whether two codes are the same.
-fn same_code(code: ItemCode, other: ItemCode) -> bool
+pub(crate) fn same_code(code: ItemCode, other: ItemCode) -> bool
     ensures { (result ≡ true) ↔ (code ≡ other) }
 {
     code == other

@@ -6,6 +6,7 @@
 
 mod building;
 mod codes;
+mod comparing;
 mod counting;
 mod expanding;
 mod expansion;
@@ -22,6 +23,7 @@ mod steps;
 mod work;
 mod writing;
 
+pub use comparing::is_same_node;
 pub use expanding::expand;
 pub use expansion::{Expansion, NodeText};
 pub use files::{Output, file_size, write_file};

@@ -17,7 +17,7 @@ ghost use Rattle.tangle_graph.specs.Grouping.{places_of};
 ghost use Rattle.tangle_graph.specs.Nodes.{number_in};
 ghost use Rattle.tangle_graph.specs.Ordering.{IsOrderIn};
 ghost use Rattle.tangle_graph.specs.Outputs.{outputs};
-ghost use Rattle.tangle_graph.specs.Plans.{AreFilled, ArePlans, AreTexts, node_texts, slots_of, uses_of_plans};
+ghost use Rattle.tangle_graph.specs.Plans.{AreFilled, ArePlanned, ArePlans, AreTexts, node_texts, slots_of, uses_of_plans};
 ghost use Rattle.tangle_graph.specs.Rows.{texts_of};
 ghost use Rattle.tangle_graph.specs.Skeletons.{IsSkeletonOf};
 ghost use Rattle.tangle_graph.specs.Stores.{IsStoreOf, KeepsUsed, plan_uses_at, slots_at, title_in_store, contains_itself_at, is_expandable_at, weight_at, depth_at, uses_at, users_at, has_piece_at, pieces_of_node, text_at};
@@ -50,6 +50,7 @@ use tangle_scan::Web;
 pub struct Store {
     skeleton: Rc<Skeleton>,
     pieces: Vec<Vec<usize>>,
+    filled: Vec<bool>,
     weights: Vec<u32>,
     depths: Vec<u16>,
     expandable: Vec<bool>,
@@ -86,10 +87,12 @@ impl Store {
     {
         names_resolve_inside();
         let pieces = pieces_by_node(alloc, web.pieces(), table)?;
-        let filled = filled_rows(alloc, &pieces)?;
-        let texts = texts_by_node(alloc, web, table, &filled, &pieces)?;
+        let rows: &[Vec<usize>] = &pieces;
+        let filled = filled_rows(alloc, rows)?;
+        let flags: &[bool] = &filled;
+        let texts = texts_by_node(alloc, web, table, flags, rows, &[])?;
         let skeleton = Skeleton::shared(alloc, table, &texts)?;
-        Store::over(alloc, web, table, out, pieces, &filled, texts, skeleton)
+        Store::over(alloc, web, table, out, pieces, filled, texts, skeleton)
     }
 
     /// The same store, for a web that comes after another one: what the edit did not change is shared with the store of the web before.
@@ -113,26 +116,55 @@ impl Store {
     {
         names_resolve_inside();
         let pieces = pieces_by_node(alloc, web.pieces(), table)?;
-        let filled = filled_rows(alloc, &pieces)?;
-        let texts = texts_by_node(alloc, web, table, &filled, &pieces)?;
-        let skeleton = old.skeleton_for(alloc, table, &texts)?;
-        Store::over(alloc, web, table, out, pieces, &filled, texts, skeleton)
+        let rows: &[Vec<usize>] = &pieces;
+        let filled = filled_rows(alloc, rows)?;
+        let flags: &[bool] = &filled;
+        let same_names = old.has_names_of(table);
+        let before = old.texts_under(table, same_names, flags);
+        let texts = texts_by_node(alloc, web, table, flags, rows, before)?;
+        let skeleton = old.skeleton_for(alloc, table, same_names, &texts)?;
+        Store::over(alloc, web, table, out, pieces, filled, texts, skeleton)
     }
 
-    /// The skeleton of these names and texts: the store's own, where it is the same.
+    /// Whether the names are those of the table, each under its number.
+    fn has_names_of(&self, table: &NameTable) -> bool
+        ensures { result ≡ true → self.now.names ≡ table.now.names }
+    {
+        are_names_of(&self.skeleton.names, table)
+    }
+
+    /// The texts of the nodes, where the names are the same and just those have a piece that the flags say; else none.
+    fn texts_under(
+        &self,
+        table: &NameTable,
+        same_names: bool,
+        filled: &[bool],
+    ) -> &[Rc<NodeText>]
+        requires { same_names ≡ true → self.now.names ≡ table.now.names }
+        ensures { ArePlanned table.now.names (λ id. slice_index_or filled.now id false) (node_texts result.now) }
+    {
+        if same_names && self.filled.as_slice() == filled {
+            self.texts.as_slice()
+        } else {
+            &[]
+        }
+    }
+
+    /// The skeleton of the table's names and these texts: the store's own, where it is the same.
     fn skeleton_for(
         &self,
         alloc: Global,
         table: &NameTable,
+        same_names: bool,
         texts: &[Rc<NodeText>],
     ) -> Result<Rc<Skeleton>, NoMemory>
+        requires same_names { same_names ≡ true → self.now.names ≡ table.now.names }
         requires size { length texts.now ≡ length table.now.names + 1 }
         requires inside { All (λ row. All (λ id. id < length table.now.names) row) (map node_uses (node_texts texts.now)) }
         ensures names { IfOk result (λ skeleton. texts_of skeleton.value.names.items ≡ table.now.names) }
         ensures skeleton { IfOk result (λ skeleton. IsSkeletonOf (map node_uses (node_texts texts.now)) skeleton.value) }
     {
-        let kept: &Skeleton = &self.skeleton;
-        if are_names_of(&kept.names, table) && have_same_uses(&self.texts, texts) {
+        if same_names && have_same_uses(&self.texts, texts) {
             match self.skeleton.clone() {
                 Ok(skeleton) => Ok(skeleton),
                 Err(_) => Err(NoMemory),
@@ -149,15 +181,16 @@ impl Store {
         table: &NameTable,
         out: &[u8],
         pieces: Vec<Vec<usize>>,
-        filled: &[bool],
+        filled: Vec<bool>,
         texts: Vec<Rc<NodeText>>,
         skeleton: Rc<Skeleton>,
     ) -> Result<Store, NoMemory>
         requires table { table.now ≡ record (table_of web.now) { faults = table.now.faults } }
         requires grouped { IsRowsOf (length table.now.names + 1) (places_of table.now web.now.pieces) (rows_of pieces.items) }
-        requires filled { AreFilled (rows_of pieces.items) filled.now }
+        requires filled { AreFilled (rows_of pieces.items) filled.items }
         requires texts { AreTexts web.now table.now (rows_of pieces.items) (node_texts texts.items) }
-        requires plans { ArePlans web.now table.now (λ id. slice_index_or filled.now id false) (rows_of pieces.items) (slots_of texts.items) (uses_of_plans texts.items) }
+        requires plans { ArePlans web.now table.now (λ id. slice_index_or filled.items id false) (rows_of pieces.items) (slots_of texts.items) (uses_of_plans texts.items) }
+        requires planned { ArePlanned table.now.names (λ id. slice_index_or filled.items id false) (node_texts texts.items) }
         requires names { texts_of skeleton.value.names.items ≡ table.now.names }
         requires skeleton { IsSkeletonOf (map node_uses (node_texts texts.items)) skeleton.value }
         ensures store { IfOk result (λ store. IsStoreOf (project web.now table.now) store) }
@@ -170,22 +203,24 @@ impl Store {
         names_are_the_full_names();
         filled_plans_are_right();
         let shared: &Skeleton = &skeleton;
+        let defined: &[bool] = &filled;
         let rows: &[Vec<usize>] = &pieces;
         let uses: &[Vec<usize>] = &shared.uses;
         let order: &[usize] = &shared.order;
         let measures = Measures::take(alloc, web, table, rows, uses, order, &texts)?;
         let flags = NodeFlags {
-            defined: filled,
+            defined,
             self_containing: &shared.self_containing,
             reaching: &shared.reaching_cycles,
             expandable: &measures.expandable,
         };
-        let has_piece = filled[table.count()];
+        let has_piece = defined[table.count()];
         let outputs = outputs(alloc, web, table, out, has_piece, flags.expandable)?;
         let faults = faults(alloc, web, table, out, &flags)?;
         Ok(Store {
             skeleton,
             pieces,
+            filled,
             weights: measures.weights,
             depths: measures.depths,
             expandable: measures.expandable,

@@ -17,7 +17,7 @@ use Rattle.tangle_graph.specs.Groups.{IsGraphOf}
 use Rattle.tangle_graph.specs.Nodes.{title_at, node_at}
 use Rattle.tangle_graph.specs.Ordering.{IsOrderIn}
 use Rattle.tangle_graph.specs.Outputs.{is_expandable}
-use Rattle.tangle_graph.specs.Plans.{node_texts, slots_of, uses_of_plans}
+use Rattle.tangle_graph.specs.Plans.{AreFilled, ArePlanned, node_texts, slots_of, uses_of_plans}
 use Rattle.tangle_graph.specs.Rows.{node_rows, texts_of}
 use Rattle.tangle_graph.specs.Stores.{AreWithin, is_filled}
 use Rattle.tangle_graph.specs.declared.skeleton.Skeleton.{Skeleton}
@@ -63,7 +63,7 @@ returns-clause-store c =
     (λ n room. c.in_ok-measures.ensures.depths n (omega (arith, room, same))) in
     let limited : (n : ℕ) → n < length uses → get_or measures.expandable.items n false ≡ is_expandable (project web table) (title_at table.names n) =
     (λ n room. c.in_ok-measures.ensures.expandable n (omega (arith, room, same))) in
-    let has : ℕ → Bool = (λ id. get_or c.args.filled.now id false) in
+    let has : ℕ → Bool = (λ id. get_or c.args.filled.items id false) in
     let has_is : (id : ℕ) → id < length table.names → has id ≡ is_filled (row_at (rows_of pieces) id) =
     (λ id low. c.requires.filled.flag id (omega (arith, low, graph.rows_size, rows_size pieces))) in
     let count : length skeleton.names.items ≡ length table.names = sym (length-map skeleton.names.items (λ (text : Vec ℕ Global). text.items)) ∙ ap length c.requires.names in
@@ -113,6 +113,7 @@ invariant_of-result c =
       order = subst (IsOrderIn _) (sym nodes)
           (order_is web table pieces uses skeleton.order.items measures.weights.items measures.depths.items measures.expandable.items _ graph c.requires.skeleton.order within measured c.requires.names used refl);
       uses = names_below web table (rows_of pieces) (node_texts texts) (length skeleton.names.items) inside c.requires.texts (sym count);
+      planned = subst (λ (ns : List (List ℕ)). ArePlanned ns (λ id. get_or c.args.filled.items id false) (node_texts texts)) (sym c.requires.names) c.requires.planned;
     }
 
 pub outputs-requires-clause-program : goal.outputs-requires-clause-program
@@ -125,7 +126,8 @@ outputs-requires-clause-program c =
     let distinct = subst (λ (t : TableRead). IsDistinct bytes_eq t.names) (sym c.requires.table) (c.names_are_the_full_names.ensures.once web.occurrences) in
     let inside = subst ResolvesInside (sym c.requires.table) (c.names_resolve_inside.ensures web) in
     let graph = graph_over web table pieces (node_texts c.args.texts.items) skeleton distinct inside c.requires.grouped c.requires.texts c.requires.skeleton in
-    ap (λ n. get_or c.args.filled.now n false) c.count.ensures
+    ap (λ l. get_or l c.count.result false) c.deref-defined.ensures.value
+    ∙ ap (λ n. get_or c.args.filled.items n false) c.count.ensures
     ∙ c.requires.filled.flag (length table.names) (omega (arith, graph.rows_size, rows_size pieces))
     ∙ program_filled web table pieces uses graph
 
@@ -140,16 +142,17 @@ faults-requires-clause-flags c =
     let inside = subst ResolvesInside (sym c.requires.table) (c.names_resolve_inside.ensures web) in
     let graph = graph_over web table pieces (node_texts c.args.texts.items) skeleton distinct inside c.requires.grouped c.requires.texts c.requires.skeleton in
     let is = c.requires.skeleton in
+    let filled : AreFilled (rows_of pieces) c.deref-defined.result.now = subst (AreFilled (rows_of pieces)) (sym c.deref-defined.ensures.value) c.requires.filled in
     let same : length c.deref-uses.result.now ≡ length uses = ap length (c.deref-uses.ensures.value ∙ ap (λ (s : Skeleton). s.uses.items) c.deref-shared.ensures) in
     let containing : c.deref-2.result.now ≡ skeleton.self_containing.items = c.deref-2.ensures.value ∙ ap (λ (s : Skeleton). s.self_containing.items) c.deref-shared.ensures in
     let reaching : c.deref-3.result.now ≡ skeleton.reaching_cycles.items = c.deref-3.ensures.value ∙ ap (λ (s : Skeleton). s.reaching_cycles.items) c.deref-shared.ensures in
     let rows_count : length (rows_of c.deref-rows.result.now) ≡ length table.names + 1 = ap (λ (g : Graph). length (rows_of g)) c.deref-rows.ensures.value ∙ rows_size pieces ∙ graph.rows_size in
     record {
-      defined_size = defined_size web table pieces uses graph c.args.filled.now c.requires.filled;
+      defined_size = defined_size web table pieces uses graph c.deref-defined.result.now filled;
       containing_size = ap length containing ∙ is.containing_size ∙ graph.uses_size;
       reaching_size = ap length reaching ∙ is.reaching_size ∙ graph.uses_size;
       expandable_size = ap length c.deref-4.ensures.value ∙ c.in_ok-measures.ensures.within.size ∙ rows_count;
-      defined = defined_flag web table pieces uses graph c.args.filled.now c.requires.filled;
+      defined = defined_flag web table pieces uses graph c.deref-defined.result.now filled;
       containing = containing_flag web table pieces uses graph c.deref-2.result.now
           (subst (λ flags. FlagsJust uses flags (ContainsItself (HasUse uses))) (sym containing) is.containing);
       reaching = reaching_flag web table pieces uses graph c.deref-3.result.now

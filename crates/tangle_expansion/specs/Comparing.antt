@@ -1,0 +1,24 @@
+-- What is kept of a node, beside the pieces of a web that it may have.
+use Rattle.std.specs.Prelude.{◌≡◌, ℕ, Bool, List, filter}
+use Rattle.tangle_scan.specs.Web.{PieceRead}
+use Rattle.tangle_names.specs.NameTable.{TableRead}
+use Rattle.tangle_expansion.specs.Codes.{shape_codes, shape_bytes}
+use Rattle.tangle_expansion.specs.ItemCodes.{pieces_names, shape_of}
+use Rattle.tangle_expansion.specs.ItemSlots.{pieces_slots}
+use Rattle.tangle_expansion.specs.NodeTexts.{node_title, node_bytes, node_codes, node_uses, plan_slots, plan_uses}
+use Rattle.tangle_expansion.specs.declared.expansion.NodeText.{NodeText}
+
+-- the codes, bytes and uses that are kept of a node are those of the items of these pieces
+pub record HasItemsOf (texts : List (List ℕ)) (table : TableRead) (pieces : List PieceRead) (node : NodeText) : Type 0 where
+  pub codes : node_codes node ≡ shape_codes (shape_of texts table pieces)
+  pub bytes : node_bytes node ≡ shape_bytes (shape_of texts table pieces)
+  pub uses : node_uses node ≡ pieces_names table pieces
+
+-- what is kept of a node is that of some pieces, of some web, where these names have a piece
+pub record IsPlanned (has_piece : ℕ → Bool) (node : NodeText) : Type 0 where
+  pub texts : List (List ℕ)
+  pub table : TableRead
+  pub pieces : List PieceRead
+  pub items : HasItemsOf texts table pieces node
+  pub plan : plan_slots node ≡ pieces_slots texts table has_piece (node_title node) 0 pieces
+  pub plan_uses : plan_uses node ≡ filter has_piece (pieces_names table pieces)

@@ -1,0 +1,284 @@
+//! Comparing what is kept of a node with the pieces of a web that it has now, item by item. Nothing is made for it.
+ghost use Rattle.std.specs.Prelude.{◌≡◌, ◌≢◌, ◌↔◌, ◌∷◌, ◌++◌, ◌<◌, ◌≤◌, true, ℕ, Bool, List, [], length, drop, filter, MatchOption, IfSome};
+ghost use Rattle.std.specs.List.{All};
+ghost use Rattle.tangle_scan.specs.SourceOrder.{IsInRange, IsSpan};
+ghost use Rattle.tangle_scan.specs.WellFormed.{IsUseBelow};
+ghost use Rattle.tangle_expansion.specs.Comparing.{HasItemsOf, IsPlanned};
+ghost use Rattle.tangle_expansion.specs.Fronts.{GoOnAs, IsBehind, IsNotBehind, IsBehindPlace, IsNotBehindPlace, lists_left, lists_at, no_lists, with_range, with_code, with_text, with_item, with_items, with_shape};
+ghost use Rattle.tangle_expansion.specs.ItemCodes.{bytes_in, names_in, names_resolved, pieces_names, shape_of};
+ghost use Rattle.tangle_expansion.specs.Codes.{piece_end};
+ghost use Rattle.tangle_expansion.specs.ItemSlots.{pieces_at, pieces_slots};
+ghost use Rattle.tangle_expansion.specs.NodeTexts.{node_title, plan_slots, plan_uses, HoldsShape};
+ghost use Rattle.tangle_expansion.specs.Runs.{IsKept, run_bytes};
+
+use crate::codes::{
+    ItemCode, ItemKind, code_of, code_of_blank, code_of_span, end_of_piece, same_code,
+};
+use crate::expansion::NodeText;
+use crate::runs::{Run, end_of, joined, no_run, run_of, text_of, with_space};
+use itoa::Buffer;
+use tangle_names::{NameTable, Resolved};
+use tangle_scan::{Item, Span, Web};
+
+/// The codes, bytes and uses of a node that are still to be compared.
+#[derive(Clone, Copy)]
+pub(crate) struct Left<'o> {
+    pub(crate) codes: &'o [ItemCode],
+    pub(crate) text: &'o [u8],
+    pub(crate) uses: &'o [usize],
+}
+
+/// A place within a piece: the bytes and uses that are still to be compared, and a range of the source that the bytes begin with.
+#[derive(Clone, Copy)]
+pub(crate) struct Place<'w, 'o> {
+    pub(crate) run: Run<'w>,
+    pub(crate) text: &'o [u8],
+    pub(crate) uses: &'o [usize],
+}
+
+/// The bytes behind these, if a text begins with them.
+fn behind_bytes<'o>(text: &'o [u8], bytes: &[u8]) -> Option<&'o [u8]>
+    ensures { MatchOption result ((rest : List ℕ) → text.now ≢ bytes.now ++ rest) (λ rest. text.now ≡ bytes.now ++ rest.now) }
+{
+    text.strip_prefix(bytes)
+}
+
+/// The bytes behind this one, if a text begins with it.
+fn behind_byte<'o>(text: &'o [u8], byte: u8) -> Option<&'o [u8]>
+    ensures { MatchOption result ((rest : List ℕ) → text.now ≢ byte ∷ rest) (λ rest. text.now ≡ byte ∷ rest.now) }
+{
+    let (first, rest) = text.split_first()?;
+    if *first == byte { Some(rest) } else { None }
+}
+
+/// The bytes behind a range of a line, if a text begins with it.
+fn behind_run<'o>(text: &'o [u8], run: Run) -> Option<&'o [u8]>
+    requires start { run.start ≤ run.end }
+    requires end { run.end ≤ length run.line.now }
+    ensures { MatchOption result ((rest : List ℕ) → text.now ≢ run_bytes run.entry ++ rest) (λ rest. text.now ≡ run_bytes run.entry ++ rest.now) }
+{
+    if run.start == run.end {
+        return Some(text);
+    }
+    behind_bytes(text, &run.line[run.start..run.end])
+}
+
+/// The bytes behind those of an item, if a text begins with them.
+fn behind_bytes_of<'o>(text: &'o [u8], web: &Web, item: &Item) -> Option<&'o [u8]>
+    requires { IsInRange web.now.texts item.now }
+    ensures { MatchOption result ((rest : List ℕ) → text.now ≢ bytes_in web.now.texts item.now ++ rest) (λ rest. text.now ≡ bytes_in web.now.texts item.now ++ rest.now) }
+{
+    match *item {
+        Item::LineEnd | Item::QuoteBreak => behind_byte(text, b'\n'),
+        Item::Blank => behind_byte(text, b' '),
+        Item::Word(span) | Item::Sign(span) | Item::Quoted(span) | Item::Verbatim(span) => {
+            behind_bytes(text, web.text(span))
+        }
+        Item::Code(value) => {
+            let mut digits = Buffer::new();
+            behind_bytes(text, digits.format(value).as_bytes())
+        }
+        Item::LineMark(_) | Item::UseOf(_) | Item::Defs => Some(text),
+    }
+}
+
+/// The uses behind that of the name which is resolved to, if they begin with it. If there is no name, they are all there still.
+fn behind_name<'o>(uses: &'o [usize], resolved: Resolved) -> Option<&'o [usize]>
+    ensures { MatchOption result ((rest : List ℕ) → uses.now ≢ names_resolved resolved ++ rest) (λ rest. uses.now ≡ names_resolved resolved ++ rest.now) }
+{
+    match resolved {
+        Resolved::Name(id) => {
+            let (first, rest) = uses.split_first()?;
+            if *first == id { Some(rest) } else { None }
+        }
+        Resolved::NoFullName | Resolved::Ambiguous => Some(uses),
+    }
+}
+
+/// The uses behind that of an item, if they begin with it.
+fn behind_use<'o>(uses: &'o [usize], table: &NameTable, item: &Item) -> Option<&'o [usize]>
+    requires { IsUseBelow (length table.now.resolved) item.now }
+    ensures { MatchOption result ((rest : List ℕ) → uses.now ≢ names_in table.now item.now ++ rest) (λ rest. uses.now ≡ names_in table.now item.now ++ rest.now) }
+{
+    match *item {
+        Item::UseOf(occurrence) => behind_name(uses, table.resolve(occurrence.number())),
+        _ => Some(uses),
+    }
+}
+
+/// The place behind a text of this kind, if it comes next, with this code. One that begins where the range ends makes that longer.
+#[inline(always)]
+fn behind_text<'w, 'o>(
+    place: Place<'w, 'o>,
+    code: ItemCode,
+    web: &'w Web,
+    kind: ItemKind,
+    span: Span,
+) -> Option<Place<'w, 'o>>
+    requires run { IsKept web.now.texts place.run }
+    requires span { IsSpan web.now.texts span }
+    ensures run { IfSome result (λ next. IsKept web.now.texts next.run) }
+    ensures place { MatchOption result (IsNotBehindPlace (with_text web.now.texts kind span) code place.entry) (λ next. IsBehindPlace (with_text web.now.texts kind span) code place.entry next) }
+{
+    if !same_code(code, code_of_span(kind, span)) {
+        return None;
+    }
+    if let Some(run) = joined(place.run, span) {
+        return Some(Place { run, ..place });
+    }
+    let text = behind_run(place.text, place.run)?;
+    let run = run_of(web, span);
+    Some(Place { run, text, ..place })
+}
+
+/// The place behind an item without a text, if it comes next, with this code.
+#[inline(always)]
+fn behind_other<'w, 'o>(
+    place: Place<'w, 'o>,
+    code: ItemCode,
+    web: &'w Web,
+    table: &NameTable,
+    item: &Item,
+) -> Option<Place<'w, 'o>>
+    requires span { IsInRange web.now.texts item.now }
+    requires name { IsUseBelow (length table.now.resolved) item.now }
+    requires run { IsKept web.now.texts place.run }
+    ensures run { IfSome result (λ next. IsKept web.now.texts next.run) }
+    ensures place { MatchOption result (IsNotBehindPlace (with_item web.now.texts table.now item.now) code place.entry) (λ next. IsBehindPlace (with_item web.now.texts table.now item.now) code place.entry next) }
+{
+    if !same_code(code, code_of(item, table)) {
+        return None;
+    }
+    if let Some(run) = with_space(place.run, item) {
+        return Some(Place { run, ..place });
+    }
+    let text = behind_run(place.text, place.run)?;
+    let text = behind_bytes_of(text, web, item)?;
+    let uses = behind_use(place.uses, table, item)?;
+    let run = end_of(place.run);
+    Some(Place { run, text, uses })
+}
+
+/// The place behind an item, if it comes next, with this code.
+#[inline(always)]
+fn behind_item<'w, 'o>(
+    place: Place<'w, 'o>,
+    code: ItemCode,
+    web: &'w Web,
+    table: &NameTable,
+    item: &Item,
+) -> Option<Place<'w, 'o>>
+    requires span { IsInRange web.now.texts item.now }
+    requires name { IsUseBelow (length table.now.resolved) item.now }
+    requires run { IsKept web.now.texts place.run }
+    ensures run { IfSome result (λ next. IsKept web.now.texts next.run) }
+    ensures place { MatchOption result (IsNotBehindPlace (with_item web.now.texts table.now item.now) code place.entry) (λ next. IsBehindPlace (with_item web.now.texts table.now item.now) code place.entry next) }
+{
+    match text_of(item) {
+        Some((kind, span)) => behind_text(place, code, web, kind, span),
+        None => behind_other(place, code, web, table, item),
+    }
+}
+
+/// The place behind these items, if they come next, with these codes. Texts of items that stand side by side in the source are compared
+/// at once.
+fn behind_items<'w, 'o>(
+    left: Left<'o>,
+    web: &'w Web,
+    table: &NameTable,
+    items: &[Item],
+) -> Option<Place<'w, 'o>>
+    requires spans { All (IsInRange web.now.texts) items.now }
+    requires names { All (IsUseBelow (length table.now.resolved)) items.now }
+    requires room { length items.now < length left.codes.now }
+    ensures run { IfSome result (λ next. IsKept web.now.texts next.run) }
+    ensures place { MatchOption result (IsNotBehind (with_items web.now.texts table.now items.now) (lists_left left.entry))
+        (λ next. GoOnAs (lists_left left.entry) (with_items web.now.texts table.now items.now) (lists_at (drop (length items.now) left.entry.codes.now) next) (λ more. with_range next (with_code piece_end more))) }
+{
+    let codes = left.codes;
+    let mut place = Place {
+        run: no_run(web),
+        text: left.text,
+        uses: left.uses,
+    };
+    for (i, item) in items.iter().enumerate() {
+        place = behind_item(place, codes[i], web, table, item)?;
+    }
+    Some(place)
+}
+
+/// What is left behind a piece with these items, if it comes next.
+fn behind_piece<'o>(
+    left: Left<'o>,
+    web: &Web,
+    table: &NameTable,
+    items: &[Item],
+) -> Option<Left<'o>>
+    requires spans { All (IsInRange web.now.texts) items.now }
+    requires names { All (IsUseBelow (length table.now.resolved)) items.now }
+    ensures { MatchOption result (IsNotBehind (with_items web.now.texts table.now items.now) (lists_left left.entry)) (λ next. IsBehind (with_items web.now.texts table.now items.now) (lists_left left.entry) (lists_left next)) }
+{
+    let count = items.len();
+    if left.codes.len() <= count {
+        return None;
+    }
+    let place = behind_items(left, web, table, items)?;
+    if !same_code(left.codes[count], end_of_piece()) {
+        return None;
+    }
+    let text = behind_run(place.text, place.run)?;
+    Some(Left {
+        codes: &left.codes[count + 1..],
+        text,
+        uses: place.uses,
+    })
+}
+
+/// What is left behind the pieces with these numbers, if they come next.
+fn behind_pieces<'o>(
+    left: Left<'o>,
+    web: &Web,
+    table: &NameTable,
+    numbers: &[usize],
+) -> Option<Left<'o>>
+    requires numbers { All (λ n. n < length web.now.pieces) numbers.now }
+    requires ours { length table.now.resolved ≡ length web.now.occurrences }
+    ensures { MatchOption result (IsNotBehind (with_shape web.now.texts table.now (pieces_at web.now.pieces numbers.now)) (lists_left left.entry)) (λ next. IsBehind (with_shape web.now.texts table.now (pieces_at web.now.pieces numbers.now)) (lists_left left.entry) (lists_left next)) }
+{
+    let pieces = web.pieces();
+    let mut left = left;
+    for number in numbers {
+        left = behind_piece(left, web, table, pieces[*number].items())?;
+    }
+    Some(left)
+}
+
+/// Whether nothing is left.
+fn is_nothing(left: Left) -> bool
+    ensures { (result ≡ true) ↔ (lists_left left.entry ≡ no_lists) }
+{
+    left.codes.is_empty() && left.text.is_empty() && left.uses.is_empty()
+}
+
+/// Whether the codes, bytes and uses that are kept of a node are those of the pieces with these numbers: then what is kept of it is what
+/// would be made of these pieces, under the same name and where the same names have a piece.
+pub fn is_same_node(old: &NodeText, web: &Web, table: &NameTable, numbers: &[usize]) -> bool
+    requires numbers { All (λ n. n < length web.now.pieces) numbers.now }
+    requires ours { length table.now.resolved ≡ length web.now.occurrences }
+    ensures same { (result ≡ true) ↔ HasItemsOf web.now.texts table.now (pieces_at web.now.pieces numbers.now) old.now }
+    ensures shape { result ≡ true → HoldsShape table.now.names (shape_of web.now.texts table.now (pieces_at web.now.pieces numbers.now)) old.now }
+    ensures plan { result ≡ true → (has_piece : ℕ → Bool) → IsPlanned has_piece old.now
+        → plan_slots old.now ≡ pieces_slots web.now.texts table.now has_piece (node_title old.now) 0 (pieces_at web.now.pieces numbers.now) }
+    ensures plan_uses { result ≡ true → (has_piece : ℕ → Bool) → IsPlanned has_piece old.now
+        → plan_uses old.now ≡ filter has_piece (pieces_names table.now (pieces_at web.now.pieces numbers.now)) }
+{
+    let left = Left {
+        codes: &old.codes,
+        text: &old.text,
+        uses: &old.uses,
+    };
+    match behind_pieces(left, web, table, numbers) {
+        Some(left) => is_nothing(left),
+        None => false,
+    }
+}
