@@ -61,10 +61,19 @@ range_more g a (suc n) =
     ap (λ k. flat_map g (range_with_len a k)) one_more ∙ ap (λ l. g a ++ l) (range_more g (a + 1) n) ∙ sym (append_assoc (g a) (flat_map g (range_with_len (a + 1) n)) (g (a + 1 + n)))
     ∙ ap (λ k. (g a ++ flat_map g (range_with_len (a + 1) n)) ++ g k) place
 
-pub faults_step : (g : ℕ → List Finding) (n : ℕ) (before now next : List Finding) → now ≡ before ++ flat_map g (range_with_len 0 n) → next ≡ now ++ g n
-    → next ≡ before ++ flat_map g (range_with_len 0 (n + 1))
-faults_step g n before now next sofar is =
-    is ∙ ap (λ l. l ++ g n) sofar ∙ append_assoc before (flat_map g (range_with_len 0 n)) (g n) ∙ ap (λ l. before ++ l) (ap (λ k. flat_map g (range_with_len 0 n) ++ g k) (sym (zero-add n)) ∙ sym (range_more g 0 n))
+pub listed_step : (g : ℕ → List Finding) (names : List ℕ) (i : ℕ) (before now next : List Finding) → i < length names → now ≡ before ++ flat_map g (take i names) → next ≡ now ++ g (get_or names i 0)
+    → next ≡ before ++ flat_map g (take (i + 1) names)
+listed_step g names i before now next h sofar is =
+    is ∙ ap (λ l. l ++ g (get_or names i 0)) sofar ∙ append_assoc before (flat_map g (take i names)) (g (get_or names i 0))
+    ∙ ap (λ l. before ++ l) (flat_map_more g [] (take i names) (get_or names i 0) ∙ ap (flat_map g) (sym (take_more names i 0 h)))
+
+-- one number more of a list that may leave out what has no fault
+pub suspects_step : (g : ℕ → List Finding) (n : ℕ) (names : List ℕ) (wanted : Bool) → (wanted ≡ false → g n ≡ []) → flat_map g names ≡ flat_map g (range_with_len 0 n)
+    → flat_map g (names ++ cond wanted (n ∷ []) []) ≡ flat_map g (range_with_len 0 (n + 1))
+suspects_step g n names true none sofar =
+    sym (flat_map_more g [] names n) ∙ ap (λ l. l ++ g n) sofar ∙ ap (λ k. flat_map g (range_with_len 0 n) ++ g k) (sym (zero-add n)) ∙ sym (range_more g 0 n)
+suspects_step g n names false none sofar =
+    ap (flat_map g) (append-nil names) ∙ sofar ∙ sym (append-nil (flat_map g (range_with_len 0 n))) ∙ ap (λ l. flat_map g (range_with_len 0 n) ++ l) (sym (ap g (zero-add n) ∙ none refl)) ∙ sym (range_more g 0 n)
 
 -- the faults of one kind more
 pub kinds_step : (f : FaultKind → List Finding) (ks : List FaultKind) (i : ℕ) (d : FaultKind) (before now : List Finding) → i < length ks

@@ -58,12 +58,12 @@ module _ (table : TableRead) (inside : ResolvesInside table) where
   pub used_below : (pieces : List PieceRead) (n m : ℕ) → Contains (used_numbers table pieces n) m → m < length table.names
   used_below pieces n m c = All-contains (λ k. k < length table.names) (used_numbers table pieces n) m (pieces_below (filter (is_piece_of_number table n) pieces)) c
 
-module _ (web : WebRead) (table : TableRead) (rows used uses : Graph) (distinct : IsDistinct bytes_eq table.names) (inside : ResolvesInside table)
+module _ (web : WebRead) (table : TableRead) (rows : Graph) (used : List (List ℕ)) (uses : Graph) (distinct : IsDistinct bytes_eq table.names) (inside : ResolvesInside table)
     (grouped : IsRowsOf (length table.names + 1) (places_of table web.pieces) (rows_of rows))
-    (collected : IsRowsOf (length table.names + 1) (used_numbers table web.pieces) (rows_of used))
-    (same_size : length uses ≡ length used) (once : (n : ℕ) → n < length used → IsOnceEach (row_at (rows_of used) n) (row_at (rows_of uses) n)) where
+    (collected : IsRowsOf (length table.names + 1) (used_numbers table web.pieces) used)
+    (same_size : length uses ≡ length used) (once : (n : ℕ) → n < length used → IsOnceEach (row_at used n) (row_at (rows_of uses) n)) where
   uses_count : length uses ≡ length table.names + 1
-  uses_count = omega (arith, same_size, rows_size used, collected.size)
+  uses_count = omega (arith, same_size, collected.size)
 
   -- what stands in a row is used by the node
   use_down : (n m : ℕ) → HasUse uses n m → (n ≤ length table.names) × Contains (used_numbers table web.pieces n) m

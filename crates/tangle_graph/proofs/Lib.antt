@@ -19,3 +19,5 @@ mod OrderingLemmas
 mod FaultLemmas
 pub mod WeightLemmas
 pub mod UsesLemmas
+mod SkeletonLemmas
+mod SuspectLemmas

@@ -5,17 +5,19 @@ use Rattle.std.specs.declared.rc.Rc.{Rc}
 use Rattle.std.proofs.Math.Decide.{dec_lt}
 use Rattle.std.specs.Prelude.{slice_get, Some}
 use Rattle.std.proofs.lemmas.Option.{slice_get-get_or, get_or_from_slice_get}
+use Rattle.std.proofs.lemmas.List.Elements.{All-append, All-cons, All-nil}
 use Rattle.std.proofs.lemmas.List.{take_more, map-append, get_or_append_left, get_or_push, length-take-le, length-map}
 use Rattle.tangle_scan.specs.Web.{WebRead}
 use Rattle.tangle_names.specs.NameTable.{TableRead}
+use Rattle.tangle_expansion.specs.Comparing.{IsPlanned}
 use Rattle.tangle_expansion.specs.ItemCodes.{pieces_names}
 use Rattle.tangle_expansion.specs.ItemSlots.{pieces_at, pieces_slots}
-use Rattle.tangle_expansion.specs.NodeTexts.{plan_slots, plan_uses}
+use Rattle.tangle_expansion.specs.NodeTexts.{node_title, plan_slots, plan_uses}
 use Rattle.tangle_expansion.specs.Slots.{Slot}
 use Rattle.tangle_expansion.specs.declared.expansion.NodeText.{NodeText}
 use Rattle.digraph.specs.Graph.{Graph, rows_of}
 use Rattle.tangle_graph.specs.Nodes.{title_at}
-use Rattle.tangle_graph.specs.Plans.{AreFilled, ArePlans, AreTexts, IsTextOf, node_texts, slots_of, uses_of_plans}
+use Rattle.tangle_graph.specs.Plans.{AreFilled, ArePlanned, ArePlans, AreTexts, IsTextOf, node_texts, slots_of, uses_of_plans}
 use Rattle.tangle_graph.specs.Stores.{is_filled}
 
 -- what is so at each place of two lists is so with one more
@@ -98,3 +100,23 @@ module _ (web : WebRead) (table : TableRead) where
       subst (λ xs. AreTexts web table xs (node_texts (texts ++ text ∷ []))) (sym (row_taken rows i row h read))
       (subst (λ ts. AreTexts web table (rows_of (take i rows) ++ row.items ∷ []) ts) (sym (map-append (λ (t : Rc NodeText Global). t.value) texts (text ∷ [])))
       (texts_push (rows_of (take i rows)) (node_texts texts) row.items text.value is one))
+
+module _ (names : List (List ℕ)) (has : ℕ → Bool) where
+  planned_push : (ts : List NodeText) (t : NodeText) (n : ℕ) → length ts ≡ n → ArePlanned names has ts → node_title t ≡ title_at names n → IsPlanned has t → ArePlanned names has (ts ++ t ∷ [])
+  planned_push ts t n count is e p = record {
+    titles = λ k text h. elim (dec_lt k (length ts)) as (λ _. node_title (get_or (ts ++ t ∷ []) k text) ≡ title_at names k) [
+      | yes low ↦ ap node_title (get_or_append_left ts (t ∷ []) text k low) ∙ is.titles k text low
+      | no past ↦ (let end : length ts ≡ k = omega (arith, past, h, length-append ts (t ∷ [])) in
+          ap node_title (get_or_push ts t text k end) ∙ e ∙ ap (title_at names) (sym count ∙ end))
+    ];
+    planned = All-append (IsPlanned has) ts (t ∷ []) is.planned (All-cons (IsPlanned has) t [] p (All-nil (IsPlanned has)));
+  }
+
+  pub none_planned : ArePlanned names has []
+  none_planned = record { titles = λ k text h. absurd (omega (arith, h)); planned = All-nil (IsPlanned has) }
+
+  pub planned_more : (rows : Graph) (texts : List (Rc NodeText Global)) (i : ℕ) (text : Rc NodeText Global) → i < length rows → length (node_texts texts) ≡ length (rows_of (take i rows))
+      → ArePlanned names has (node_texts texts) → node_title text.value ≡ title_at names i → IsPlanned has text.value → ArePlanned names has (node_texts (texts ++ text ∷ []))
+  planned_more rows texts i text h size is e p =
+      let count : length (node_texts texts) ≡ i = size ∙ length-map (take i rows) (λ (v : Vec ℕ Global). v.items) ∙ length-take-le i rows (omega (arith, h)) in
+      subst (ArePlanned names has) (sym (map-append (λ (t : Rc NodeText Global). t.value) texts (text ∷ []))) (planned_push (node_texts texts) text.value i count is e p)

@@ -1,21 +1,28 @@
 -- The items of a web use names of its table.
-use Rattle.std.proofs.Common.{◌≡◌, ◌∙◌, ◌<◌, ◌≤◌, ℕ, true, false, List, [], length, flat_map, get_or, ap, sym, subst, arith}
-use Rattle.std.specs.Prelude.{All, nat_lt, slice_get, None}
+use Rattle.std.proofs.Common.{◌≡◌, ◌∙◌, ◌<◌, ◌≤◌, ◌+◌, ℕ, Bool, true, false, List, [], length, flat_map, get_or, ap, sym, subst, arith}
+use Rattle.std.specs.Prelude.{All, sum_by, nat_lt, slice_get, None, Some, Option, IfSome}
+use Rattle.std.specs.Borrow.{Bor}
 use Rattle.std.specs.Global.{Global}
 use Rattle.std.specs.declared.rc.Rc.{Rc}
+use Rattle.std.specs.Slice.{IsItemAt}
 use Rattle.std.proofs.lemmas.Bool.Decides.{nat_tests}
 use Rattle.std.proofs.lemmas.List.{get_or-map, length-map}
 use Rattle.std.proofs.lemmas.Option.{get_or_from_slice_get, slice_get_past}
 use Rattle.tangle_scan.specs.Web.{WebRead}
 use Rattle.tangle_names.specs.NameTable.{TableRead}
-use Rattle.tangle_expansion.specs.ItemSlots.{pieces_at}
-use Rattle.tangle_expansion.specs.NodeTexts.{node_uses}
+use Rattle.tangle_expansion.specs.ItemCodes.{pieces_names, shape_of}
+use Rattle.tangle_expansion.specs.ItemSlots.{pieces_at, pieces_slots}
+use Rattle.tangle_expansion.specs.Shapes.{Title}
+use Rattle.tangle_expansion.specs.NodeTexts.{HoldsShape, node_title, node_uses, plan_slots}
 use Rattle.tangle_expansion.specs.Projects.{ResolvesInside}
 use Rattle.tangle_expansion.specs.declared.expansion.NodeText.{NodeText}
 use Rattle.tangle_graph.specs.Grouping.{used_in}
-use Rattle.tangle_graph.specs.Plans.{AreTexts, IsTextOf, node_texts}
+use Rattle.tangle_graph.specs.Plans.{ArePlanned, AreTexts, IsTextOf, node_texts}
+use Rattle.tangle_graph.specs.Nodes.{title_at}
+use Rattle.tangle_expansion.specs.Comparing.{IsPlanned}
 use Rattle.tangle_graph.proofs.GraphLemmas.{pieces_below}
 use Rattle.tangle_graph.proofs.PlanLemmas.{names_same}
+use Rattle.tangle_graph.proofs.WeightLemmas.{weight_counted}
 
 pub names_below : (web : WebRead) (table : TableRead) (rows : List (List ℕ)) (texts : List NodeText) (count : ℕ) → ResolvesInside table → AreTexts web table rows texts → length table.names ≡ count
     → All (λ (text : NodeText). All (λ id. id < count) (node_uses text)) texts
@@ -58,3 +65,41 @@ module _ (texts : List (Rc NodeText Global)) (n : ℕ) where
   none_read test =
       let past : length texts ≤ n = (let t = sym test in grind (arith, nat_tests)) in
       slice_get_past (node_texts texts) n (omega (arith, past, length-map texts (λ (t : Rc NodeText Global). t.value)))
+
+-- what has the shape, the uses and the plan of pieces tells their weight besides
+pub is_text_of : (web : WebRead) (table : TableRead) (has : ℕ → Bool) (node : Title) (numbers : List ℕ) (text : NodeText)
+    → HoldsShape table.names (shape_of web.texts table (pieces_at web.pieces numbers)) text → node_uses text ≡ pieces_names table (pieces_at web.pieces numbers)
+    → plan_slots text ≡ pieces_slots web.texts table has node 0 (pieces_at web.pieces numbers) → IsTextOf web table numbers text
+is_text_of web table has node numbers text shape uses plan =
+    let pieces = pieces_at web.pieces numbers in
+    record {
+      shape = shape;
+      names = uses;
+      weight = λ used.
+          ap (λ l. length l + sum_by used (node_uses text)) plan
+          ∙ ap (λ l. length (pieces_slots web.texts table has node 0 pieces) + sum_by used l) uses
+          ∙ sym (weight_counted web.texts table has used node 0 pieces);
+    }
+
+-- the text of before that comes at a number has the title of the node with this number, and was planned
+module _ (names : List (List ℕ)) (has : ℕ → Bool) (before : List (Rc NodeText Global)) (n : ℕ) (is : ArePlanned names has (node_texts before)) where
+  same_read : (text : Rc NodeText Global) → n < length before → text ≡ get_or before n text → get_or (node_texts before) n text.value ≡ text.value
+  same_read text low read = get_or-map (λ (t : Rc NodeText Global). t.value) before n text text.value low ∙ ap (λ (t : Rc NodeText Global). t.value) (sym read)
+
+  below : (test : true ≡ nat_lt n (length before)) → n < length before
+  below test = (let t = sym test in grind (arith, nat_tests))
+
+  mapped : n < length before → n < length (node_texts before)
+  mapped low = omega (arith, low, length-map before (λ (t : Rc NodeText Global). t.value))
+
+  pub title_read : (o : Option (Bor (Rc NodeText Global))) → IsItemAt before n o → IfSome o (λ text. node_title text.now.value ≡ title_at names n)
+  title_read None h = tt
+  title_read (Some x) h =
+      let low = below h.0 in
+      ap node_title (sym (same_read x.now low h.1)) ∙ is.titles n x.now.value (mapped low)
+
+  pub planned_read : (o : Option (Bor (Rc NodeText Global))) → IsItemAt before n o → IfSome o (λ text. IsPlanned has text.now.value)
+  planned_read None h = tt
+  planned_read (Some x) h =
+      let low = below h.0 in
+      subst (IsPlanned has) (same_read x.now low h.1) (is.planned n x.now.value (mapped low))

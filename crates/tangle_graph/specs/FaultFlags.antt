@@ -1,5 +1,5 @@
 -- What is told of each node by its number, for the faults. These words are cited by private contracts alone.
-use Rattle.std.specs.Prelude.{◌≡◌, ◌≤◌, ◌↔◌, ℕ, ◌+◌, Bool, true, false, ◌&&◌, List, length, slice_index_or}
+use Rattle.std.specs.Prelude.{◌≡◌, ◌≤◌, ◌↔◌, ℕ, ◌+◌, Bool, true, false, ◌&&◌, List, flat_map, length, slice_index_or}
 use Rattle.std.specs.List.{position_or_len}
 use Rattle.tangle_lexer.specs.Occurrences.{OccurrenceRead}
 use Rattle.tangle_scan.specs.Web.{WebRead}
@@ -8,7 +8,8 @@ use Rattle.tangle_names.specs.Numbers.{is_number}
 use Rattle.tangle_names.specs.NameTable.{TableRead}
 use Rattle.tangle_expansion.specs.Shapes.{ContainsItself}
 use Rattle.tangle_expansion.specs.Projects.{project}
-use Rattle.tangle_graph.specs.Faults.{is_use, is_defined, ReachesCycle}
+use Rattle.tangle_lines.specs.declared.faults.FaultKind.{FaultKind}
+use Rattle.tangle_graph.specs.Faults.{is_use, is_defined, fault_of, fault_place, faults_of_names, ReachesCycle}
 use Rattle.tangle_graph.specs.Nodes.{title_at}
 use Rattle.tangle_graph.specs.Outputs.{is_expandable}
 use Rattle.tangle_graph.specs.declared.faults.NodeFlags.{NodeFlags}
@@ -30,3 +31,9 @@ pub record AreNodeFlags (web : WebRead) (table : TableRead) (flags : NodeFlags) 
   pub containing : (n : ℕ) → n ≤ length table.names → (flag_at flags.self_containing.now n ≡ true) ↔ ContainsItself (project web table) (title_at table.names n)
   pub reaching : (n : ℕ) → n ≤ length table.names → (flag_at flags.reaching.now n ≡ true) ↔ ReachesCycle (project web table) (title_at table.names n)
   pub expandable : (n : ℕ) → n ≤ length table.names → flag_at flags.expandable.now n ≡ is_expandable (project web table) (title_at table.names n)
+
+-- the faults of these names are those of all names, of whatever kind
+abbrev pub HaveTheFaults : WebRead → TableRead → NodeFlags → List ℕ → Type 0
+HaveTheFaults web table flags names = (out : List ℕ) (kind : FaultKind)
+    → flat_map (λ id. fault_of web table kind id (fault_place web table out (flag_at flags.self_containing.now) (flag_at flags.reaching.now) kind id)) names
+    ≡ faults_of_names web table out (flag_at flags.self_containing.now) (flag_at flags.reaching.now) kind

@@ -10,3 +10,4 @@ pub mod StoreKept
 pub mod Plans
 pub mod Faults
 pub mod FaultFlags
+pub mod Skeletons

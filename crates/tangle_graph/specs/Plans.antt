@@ -6,7 +6,8 @@ use Rattle.tangle_scan.specs.Web.{WebRead}
 use Rattle.tangle_names.specs.NameTable.{TableRead}
 use Rattle.tangle_expansion.specs.ItemCodes.{pieces_names, shape_of}
 use Rattle.tangle_expansion.specs.ItemSlots.{pieces_at, pieces_slots}
-use Rattle.tangle_expansion.specs.NodeTexts.{HoldsShape, node_uses, plan_slots, plan_uses}
+use Rattle.tangle_expansion.specs.Comparing.{IsPlanned}
+use Rattle.tangle_expansion.specs.NodeTexts.{HoldsShape, node_title, node_uses, plan_slots, plan_uses}
 use Rattle.tangle_expansion.specs.Slots.{Slot}
 use Rattle.tangle_expansion.specs.declared.expansion.NodeText.{NodeText}
 use Rattle.tangle_graph.specs.Measures.{weight_of_pieces}
@@ -52,3 +53,8 @@ pub record IsTextOf (web : WebRead) (table : TableRead) (numbers : List ℕ) (te
 pub record AreTexts (web : WebRead) (table : TableRead) (rows : List (List ℕ)) (texts : List NodeText) : Type 0 where
   pub size : length texts ≡ length rows
   pub each : (n : ℕ) → n < length rows → (text : NodeText) × (slice_get texts n ≡ Some text) × IsTextOf web table (slice_index_or rows n []) text
+
+-- what is kept of each node was planned under the node's name, where these names have a piece
+pub record ArePlanned (names : List (List ℕ)) (has_piece : ℕ → Bool) (texts : List NodeText) : Type 0 where
+  pub titles : (n : ℕ) (text : NodeText) → n < length texts → node_title (slice_index_or texts n text) ≡ title_at names n
+  pub planned : All (IsPlanned has_piece) texts

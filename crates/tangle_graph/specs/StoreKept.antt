@@ -1,21 +1,22 @@
 -- A store as it lies in memory.
-use Rattle.std.specs.Prelude.{◌≡◌, ◌<◌, All, length}
+use Rattle.std.specs.Prelude.{◌≡◌, ◌<◌, All, false, length, map, slice_index_or}
 use Rattle.digraph.specs.Graph.{rows_of}
 use Rattle.tangle_expansion.specs.NodeTexts.{node_uses}
 use Rattle.tangle_expansion.specs.declared.expansion.NodeText.{NodeText}
-use Rattle.tangle_graph.specs.Plans.{node_texts, slots_of, uses_of_plans}
+use Rattle.tangle_graph.specs.Plans.{ArePlanned, node_texts, slots_of, uses_of_plans}
 use Rattle.tangle_graph.specs.Ordering.{IsOrderIn}
 use Rattle.tangle_graph.specs.Rows.{node_rows, texts_of}
+use Rattle.tangle_graph.specs.Skeletons.{IsSkeletonOf}
 use Rattle.tangle_graph.specs.Stores.{StoreRead}
 use Rattle.tangle_graph.specs.declared.store.Store.TheInside.{Inside}
 
 abbrev pub store_read : Inside → StoreRead
 store_read s = record {
-  names = texts_of s.names.items;
+  names = texts_of s.skeleton.value.names.items;
   pieces = rows_of s.pieces.items;
-  uses = node_rows s.uses.items;
-  users = node_rows s.users.items;
-  self_containing = s.self_containing.items;
+  uses = node_rows s.skeleton.value.used_nodes.items;
+  users = node_rows s.skeleton.value.user_nodes.items;
+  self_containing = s.skeleton.value.self_containing.items;
   weights = s.weights.items;
   depths = s.depths.items;
   expandable = s.expandable.items;
@@ -26,8 +27,11 @@ store_read s = record {
   faults = s.faults.items;
 }
 
--- its order is one, there is a text for each node, and the items of each use names of the store
+-- its skeleton is that of the uses of its texts, the order in it is one of the store, there is a text for each node, the items of each use
+-- names of the store, and each was planned where the flags say which names have a piece
 pub record IsWellKept (s : Inside) : Type 0 where
   pub sizes : length s.texts.items ≡ length s.expandable.items
-  pub order : IsOrderIn (store_read s) s.order.items
-  pub uses : All (λ (text : NodeText). All (λ id. id < length s.names.items) (node_uses text)) (node_texts s.texts.items)
+  pub skeleton : IsSkeletonOf (map node_uses (node_texts s.texts.items)) s.skeleton.value
+  pub order : IsOrderIn (store_read s) s.skeleton.value.node_order.items
+  pub uses : All (λ (text : NodeText). All (λ id. id < length s.skeleton.value.names.items) (node_uses text)) (node_texts s.texts.items)
+  pub planned : ArePlanned (texts_of s.skeleton.value.names.items) (λ id. slice_index_or s.filled.items id false) (node_texts s.texts.items)

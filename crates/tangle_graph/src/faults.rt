@@ -1,5 +1,5 @@
 //! The faults of the graph of names: what is undefined, never used, contains itself, is too large or has the main file's name.
-ghost use Rattle.std.specs.Prelude.{◌≡◌, ◌<◌, ◌≤◌, ◌++◌, ◌+◌, ◌∷◌, [], ℕ, None, IfOk, OnOk, length, map, slice_index_or, if◌then◌else◌};
+ghost use Rattle.std.specs.Prelude.{◌≡◌, ◌<◌, ◌≤◌, ◌++◌, ◌+◌, ◌∷◌, [], ℕ, List, false, None, All, IfOk, OnOk, length, map, slice_index_or, if◌then◌else◌};
 ghost use Rattle.tangle_lines.specs.Faults.{fault_unplaced};
 ghost use Rattle.tangle_lexer.specs.Occurrences.{OccurrenceRead};
 ghost use Rattle.tangle_scan.specs.Web.{WebRead};
@@ -7,19 +7,10 @@ ghost use Rattle.tangle_names.specs.declared.Resolved.{Resolved};
 ghost use Rattle.tangle_names.specs.NameTable.{TableRead, table_of};
 ghost use Rattle.tangle_names.specs.Numbers.{NotesNumber};
 ghost use Rattle.tangle_names.specs.Resolving.{resolve};
-ghost use Rattle.tangle_expansion.specs.Projects.{project};
-ghost use Rattle.digraph.specs.Graph.{HasUse, rows_of};
-ghost use Rattle.digraph.specs.Flags.{FlagsJust};
-ghost use Rattle.digraph.specs.Reach.{ContainsItself};
-ghost use Rattle.tangle_graph.specs.Groups.{IsGraphOf};
-ghost use Rattle.tangle_graph.specs.Nodes.{title_at};
-ghost use Rattle.tangle_graph.specs.Outputs.{is_expandable};
-ghost use Rattle.tangle_graph.specs.Plans.{AreFilled};
-ghost use Rattle.tangle_graph.specs.FaultFlags.{AreNodeFlags, flag_at, first_use_by_number};
+ghost use Rattle.tangle_graph.specs.FaultFlags.{AreNodeFlags, HaveTheFaults, flag_at, first_use_by_number};
 ghost use Rattle.tangle_graph.specs.Faults.{AreGraphFaults, fault_of, fault_place, faults_of_names, first_use, is_too_large, is_use};
 
-use crate::graph::Graph;
-use digraph::reaching_cycles;
+use crate::outputs::push_where;
 use std::alloc::{AllocError, Global};
 use tangle_lines::{Fault, FaultKind, NoMemory};
 use tangle_names::{NameTable, Resolved};
@@ -163,7 +154,49 @@ fn add_fault(
     Ok(())
 }
 
-/// Puts the faults of this kind about names last, in the order of the names.
+/// Whether the name may have a fault. One that is expandable and used, and has no file, has none.
+fn may_have_fault(
+    web: &Web,
+    table: &NameTable,
+    flags: &NodeFlags,
+    use_number: Option<usize>,
+    id: usize,
+) -> bool
+    requires name { id < length table.now.names }
+    requires flags { AreNodeFlags web.now table.now flags.now }
+    requires used { use_number ≡ first_use web.now table.now id }
+    ensures { result ≡ false → (out : List ℕ) (kind : FaultKind)
+        → fault_place web.now table.now out (flag_at flags.now.self_containing.now) (flag_at flags.now.reaching.now) kind id ≡ None }
+{
+    !flags.expandable[id]
+        || (flags.self_containing[id] || (!use_number.is_some() || table.is_file(id)))
+}
+
+/// The names that may have a fault, in their order.
+fn suspects(
+    alloc: Global,
+    web: &Web,
+    table: &NameTable,
+    flags: &NodeFlags,
+    first_uses: &[usize],
+) -> Result<Vec<usize>, AllocError>
+    requires flags { AreNodeFlags web.now table.now flags.now }
+    requires size { length first_uses.now ≡ length table.now.names }
+    requires numbers { (id : ℕ) → id < length table.now.names
+        → slice_index_or first_uses.now id 0 ≡ first_use_by_number (resolve web.now.occurrences) web.now.occurrences id }
+    ensures names { IfOk result (λ names. All (λ id. id < length table.now.names) names.items) }
+    ensures faults { IfOk result (λ names. HaveTheFaults web.now table.now flags.now names.items) }
+{
+    let mut names = Vec::new(alloc);
+    for id in 0..table.count() {
+        let use_number = first_use(web, table, first_uses, id);
+        let wanted = may_have_fault(web, table, flags, use_number, id);
+        push_where(&mut names, wanted, id)?;
+    }
+    Ok(names)
+}
+
+/// Puts the faults of this kind about these names last.
 fn add_faults(
     alloc: Global,
     faults: &mut Vec<Fault>,
@@ -173,18 +206,21 @@ fn add_faults(
     out: &[u8],
     flags: &NodeFlags,
     first_uses: &[usize],
+    names: &[usize],
 ) -> Result<(), NoMemory>
     requires flags { AreNodeFlags web.now table.now flags.now }
     requires size { length first_uses.now ≡ length table.now.names }
     requires numbers { (id : ℕ) → id < length table.now.names
         → slice_index_or first_uses.now id 0 ≡ first_use_by_number (resolve web.now.occurrences) web.now.occurrences id }
+    requires names { All (λ id. id < length table.now.names) names.now }
+    requires faults { HaveTheFaults web.now table.now flags.now names.now }
     ensures { OnOk result (faults.new.items ≡ faults.old.items
         ++ faults_of_names web.now table.now out.now (flag_at flags.now.self_containing.now) (flag_at flags.now.reaching.now) kind) }
 {
-    for id in 0..table.count() {
-        let use_number = first_use(web, table, first_uses, id);
-        let number = fault_place(kind, web, table, out, flags, use_number, id);
-        add_fault(alloc, faults, web, table, kind, id, number)?;
+    for id in names {
+        let use_number = first_use(web, table, first_uses, *id);
+        let number = fault_place(kind, web, table, out, flags, use_number, *id);
+        add_fault(alloc, faults, web, table, kind, *id, number)?;
     }
     Ok(())
 }
@@ -217,6 +253,7 @@ pub(crate) fn faults(
     ensures { IfOk result (λ faults. AreGraphFaults web.now table.now out.now faults.items) }
 {
     let uses = first_uses(alloc, web, table)?;
+    let names = suspects(alloc, web, table, flags, &uses)?;
     let program = table.count();
     let is_large = is_too_large(web, table, flags, program);
     let has_text = flags.defined[program];
@@ -228,42 +265,31 @@ pub(crate) fn faults(
         FaultKind::TooLarge,
     ];
     for kind in &kinds {
-        add_faults(alloc, &mut faults, *kind, web, table, out, flags, &uses)?;
+        add_faults(
+            alloc,
+            &mut faults,
+            *kind,
+            web,
+            table,
+            out,
+            flags,
+            &uses,
+            &names,
+        )?;
     }
     add_unplaced(alloc, &mut faults, FaultKind::TooLarge, is_large)?;
     let clash = FaultKind::FileClash;
-    add_faults(alloc, &mut faults, clash, web, table, out, flags, &uses)?;
+    add_faults(
+        alloc,
+        &mut faults,
+        clash,
+        web,
+        table,
+        out,
+        flags,
+        &uses,
+        &names,
+    )?;
     add_unplaced(alloc, &mut faults, FaultKind::NoProgram, !has_text)?;
     Ok(faults)
-}
-
-/// The faults of this graph of names, for a main file of this name, given flags of the nodes that have a piece, of those that contain
-/// themselves and of those that are expandable.
-pub(crate) fn graph_faults(
-    alloc: Global,
-    web: &Web,
-    table: &NameTable,
-    out: &[u8],
-    graph: &Graph,
-    defined: &[bool],
-    self_containing: &[bool],
-    expandable: &[bool],
-) -> Result<Vec<Fault>, NoMemory>
-    requires table { table.now ≡ record (table_of web.now) { faults = table.now.faults } }
-    requires graph { IsGraphOf web.now table.now graph.now.pieces.items graph.now.uses.items }
-    requires defined { AreFilled (rows_of graph.now.pieces.items) defined.now }
-    requires containing_size { length self_containing.now ≡ length graph.now.uses.items }
-    requires containing { FlagsJust graph.now.uses.items self_containing.now (ContainsItself (HasUse graph.now.uses.items)) }
-    requires expandable_size { length expandable.now ≡ length table.now.names + 1 }
-    requires expandable { (n : ℕ) → n < length expandable.now → flag_at expandable.now n ≡ is_expandable (project web.now table.now) (title_at table.now.names n) }
-    ensures { IfOk result (λ faults. AreGraphFaults web.now table.now out.now faults.items) }
-{
-    let reaching = reaching_cycles(alloc, &graph.uses, &graph.users, self_containing)?;
-    let flags = NodeFlags {
-        defined,
-        self_containing,
-        reaching: &reaching,
-        expandable,
-    };
-    faults(alloc, web, table, out, &flags)
 }

@@ -2,13 +2,13 @@
 #![tactic(auto)]
 
 mod faults;
-mod graph;
 mod laws;
 mod measures;
 mod nodes;
 mod outputs;
 mod pieces;
 mod shapes;
+mod skeleton;
 mod store;
 mod texts;
 

@@ -1,5 +1,5 @@
 //! The weight and the depth of each node.
-ghost use Rattle.std.specs.Prelude.{◌≡◌, ◌<◌, ◌≤◌, ◌+◌, ◌-◌, ◌⊎◌, ℕ, IfOk, length, vec_len, min, sum_by, slice_index, All, Contains, true, ◌&&◌, nat_lt, nat_le};
+ghost use Rattle.std.specs.Prelude.{◌≡◌, ◌<◌, ◌≤◌, ◌+◌, ◌-◌, ◌⊎◌, ℕ, IfOk, length, vec_len, min, sum_by, slice_index, slice_index_or, All, Contains, true, false, ◌&&◌, nat_lt, nat_le};
 ghost use Rattle.digraph.specs.Graph.{rows_of};
 ghost use Rattle.digraph.specs.Order.{IsOrder};
 ghost use Rattle.tangle_expansion.specs.NodeTexts.{node_uses, plan_slots};
@@ -7,6 +7,7 @@ ghost use Rattle.tangle_expansion.specs.Limits.{weight_cap, levels, heaviest, we
 ghost use Rattle.tangle_expansion.specs.Projects.{project, ResolvesInside};
 ghost use Rattle.tangle_graph.specs.Groups.{IsGraphOf};
 ghost use Rattle.tangle_graph.specs.Nodes.{title_at};
+ghost use Rattle.tangle_graph.specs.Outputs.{is_expandable};
 ghost use Rattle.tangle_graph.specs.Plans.{AreTexts, node_texts};
 ghost use Rattle.tangle_graph.specs.Stores.{is_filled, AreWithin};
 
@@ -17,10 +18,10 @@ use tangle_names::NameTable;
 use tangle_scan::Web;
 
 /// One more than the greatest weight of a node that is expanded: what weighs more counts as this.
-pub(crate) const WEIGHT_CAP: u32 = 16_777_217;
+const WEIGHT_CAP: u32 = 16_777_217;
 
 /// One more than the greatest depth of a node that is expanded: what is deeper counts as this.
-pub(crate) const LEVELS: u16 = 1001;
+const LEVELS: u16 = 1001;
 
 /// The weight of the node with this text, by the weights of the names that it uses.
 #[tactic(auto, unfolding(tangle_expansion::specs::Limits::weight_cap))]
@@ -38,7 +39,7 @@ fn weight_of_node(weights: &[u32], text: &NodeText) -> u32
 
 /// The weight of each node: a node comes after those that it uses, and what reaches a cycle is not in the order.
 #[tactic(auto, unfolding(tangle_expansion::specs::Limits::weight_cap))]
-pub(crate) fn weights(
+fn weights(
     alloc: Global,
     web: &Web,
     table: &NameTable,
@@ -94,7 +95,7 @@ fn depth_of_node(depths: &[u16], pieces: &[usize], used: &[usize]) -> u16
 
 /// The depth of each node, in the same way.
 #[tactic(auto, unfolding(tangle_expansion::specs::Limits::levels))]
-pub(crate) fn depths(
+fn depths(
     alloc: Global,
     web: &Web,
     table: &NameTable,
@@ -135,7 +136,7 @@ fn is_within(pieces: &[usize], weight: u32, depth: u16) -> bool
 }
 
 /// Whether each node is expandable.
-pub(crate) fn expandable(
+fn expandable(
     alloc: Global,
     pieces: &[Vec<usize>],
     weights: &[u32],
@@ -150,4 +151,46 @@ pub(crate) fn expandable(
         flags.push(is_within(row, weights[n], depths[n]))?;
     }
     Ok(flags)
+}
+
+/// The weight and the depth of each node, and whether it is expandable.
+#[derive(Drop)]
+pub(crate) struct Measures {
+    pub(crate) weights: Vec<u32>,
+    pub(crate) depths: Vec<u16>,
+    pub(crate) expandable: Vec<bool>,
+}
+
+impl Measures {
+    /// The measures of nodes with these pieces, uses and texts; the order is one of the nodes that reach no cycle.
+    pub(crate) fn take(
+        alloc: Global,
+        web: &Web,
+        table: &NameTable,
+        pieces: &[Vec<usize>],
+        uses: &[Vec<usize>],
+        order: &[usize],
+        texts: &[Rc<NodeText>],
+    ) -> Result<Measures, AllocError>
+        requires graph { IsGraphOf web.now table.now pieces.now uses.now }
+        requires order { IsOrder uses.now order.now }
+        requires texts { AreTexts web.now table.now (rows_of pieces.now) (node_texts texts.now) }
+        requires inside { ResolvesInside table.now }
+        ensures weights { IfOk result (λ measures. (n : ℕ) → n < length uses.now
+            → slice_index measures.weights.items n ≡ weight_of (project web.now table.now) (title_at table.now.names n)) }
+        ensures depths { IfOk result (λ measures. (n : ℕ) → n < length uses.now
+            → slice_index measures.depths.items n ≡ depth_of (project web.now table.now) (title_at table.now.names n)) }
+        ensures within { IfOk result (λ measures. AreWithin (rows_of pieces.now) measures.weights.items measures.depths.items measures.expandable.items) }
+        ensures expandable { IfOk result (λ measures. (n : ℕ) → n < length uses.now
+            → slice_index_or measures.expandable.items n false ≡ is_expandable (project web.now table.now) (title_at table.now.names n)) }
+    {
+        let weights = weights(alloc, web, table, pieces, uses, order, texts)?;
+        let depths = depths(alloc, web, table, pieces, uses, order)?;
+        let expandable = expandable(alloc, pieces, &weights, &depths)?;
+        Ok(Measures {
+            weights,
+            depths,
+            expandable,
+        })
+    }
 }

@@ -16,7 +16,7 @@ use tangle_names::NameTable;
 use tangle_scan::{Occurrence, Web};
 
 /// Puts the number last if the flag says so.
-fn push_where(numbers: &mut Vec<usize>, flag: bool, n: usize) -> Result<(), AllocError>
+pub(crate) fn push_where(numbers: &mut Vec<usize>, flag: bool, n: usize) -> Result<(), AllocError>
     ensures { OnOk result (numbers.new.items ≡ numbers.old.items ++ (if flag then n ∷ [] else [])) }
 {
     if flag {

@@ -1,5 +1,5 @@
 //! The store of a web's graph of names.
-ghost use Rattle.std.specs.Prelude.{◌≡◌, ◌++◌, ◌∷◌, [], ℕ, IfOk, OnOk, OnErr, IfSome, IsSome, Contains, All, true, ◌<◌, length};
+ghost use Rattle.std.specs.Prelude.{◌≡◌, ◌++◌, ◌∷◌, [], ℕ, IfOk, OnOk, OnErr, IfSome, IsSome, Contains, All, true, false, ◌<◌, ◌+◌, length, map, slice_index_or};
 ghost use Rattle.std.specs.Option.{option_copied};
 ghost use Rattle.tangle_names.specs.NameTable.{table_of};
 ghost use Rattle.tangle_expansion.specs.Kept.{kept_at, used_parts};
@@ -10,22 +10,26 @@ ghost use Rattle.tangle_expansion.specs.Projects.{project};
 ghost use Rattle.tangle_expansion.specs.Shapes.{Project};
 ghost use Rattle.tangle_expansion.specs.Slots.{filled};
 ghost use Rattle.tangle_expansion.specs.declared.nodes.Node.TheVariants as node_kind;
+ghost use Rattle.digraph.specs.Graph.{rows_of};
+ghost use Rattle.digraph.specs.Rows.{IsRowsOf};
 ghost use Rattle.tangle_graph.specs.Faults.{AreGraphFaults};
+ghost use Rattle.tangle_graph.specs.Grouping.{places_of};
 ghost use Rattle.tangle_graph.specs.Nodes.{number_in};
 ghost use Rattle.tangle_graph.specs.Ordering.{IsOrderIn};
 ghost use Rattle.tangle_graph.specs.Outputs.{outputs};
+ghost use Rattle.tangle_graph.specs.Plans.{AreFilled, ArePlanned, ArePlans, AreTexts, node_texts, slots_of, uses_of_plans};
 ghost use Rattle.tangle_graph.specs.Rows.{texts_of};
+ghost use Rattle.tangle_graph.specs.Skeletons.{IsSkeletonOf};
 ghost use Rattle.tangle_graph.specs.Stores.{IsStoreOf, KeepsUsed, plan_uses_at, slots_at, title_in_store, contains_itself_at, is_expandable_at, weight_at, depth_at, uses_at, users_at, has_piece_at, pieces_of_node, text_at};
 
-use crate::faults::graph_faults;
-use crate::graph::Graph;
-use crate::measures::{depths, expandable, is_filled, weights};
-use crate::nodes::{nodes_by_node, nodes_of, number_of};
+use crate::faults::{NodeFlags, faults};
+use crate::measures::Measures;
+use crate::nodes::number_of;
 use crate::outputs::outputs;
 use crate::pieces::pieces_by_node;
+use crate::skeleton::{Skeleton, are_names_of, have_same_uses};
 use crate::texts::{filled_rows, texts_by_node};
-use digraph::self_containing;
-use std::alloc::{AllocError, Global};
+use std::alloc::Global;
 use std::marker::Model;
 use std::mem::replace;
 use std::rc::Rc;
@@ -44,18 +48,15 @@ use tangle_scan::Web;
 /// store's names counts there as one without a piece.
 #[derive(Drop)]
 pub struct Store {
-    names: Vec<Vec<u8>>,
+    skeleton: Rc<Skeleton>,
     pieces: Vec<Vec<usize>>,
-    uses: Vec<Vec<Node>>,
-    users: Vec<Vec<Node>>,
-    self_containing: Vec<bool>,
+    filled: Vec<bool>,
     weights: Vec<u32>,
     depths: Vec<u16>,
     expandable: Vec<bool>,
     outputs: Vec<Output>,
     texts: Vec<Rc<NodeText>>,
     faults: Vec<Fault>,
-    order: Vec<Node>,
 }
 
 impl Model for Store {
@@ -67,17 +68,6 @@ impl Model for Store {
     ghost view = { store_read };
 
     ghost invariant = { λ s. IsWellKept s };
-}
-
-/// The texts of the names.
-fn texts(alloc: Global, table: &NameTable) -> Result<Vec<Vec<u8>>, AllocError>
-    ensures { IfOk result (λ names. texts_of names.items ≡ table.now.names) }
-{
-    let mut names = Vec::with_capacity(alloc, table.count())?;
-    for id in 0..table.count() {
-        names.push(Vec::from_slice(alloc, table.text(id))?)?;
-    }
-    Ok(names)
 }
 
 impl Store {
@@ -96,43 +86,147 @@ impl Store {
         ensures grouped { IfOk result (λ store. IsGroupedBy web.now table.now store.names (pieces_of_node store)) }
     {
         names_resolve_inside();
+        let pieces = pieces_by_node(alloc, web.pieces(), table)?;
+        let rows: &[Vec<usize>] = &pieces;
+        let filled = filled_rows(alloc, rows)?;
+        let flags: &[bool] = &filled;
+        let texts = texts_by_node(alloc, web, table, flags, rows, &[])?;
+        let skeleton = Skeleton::shared(alloc, table, &texts)?;
+        Store::over(alloc, web, table, out, pieces, filled, texts, skeleton)
+    }
+
+    /// The same store, for a web that comes after another one: what the edit did not change is shared with the store of the web before.
+    ///
+    /// # Errors
+    ///
+    /// `NoMemory`, where a growth was refused. The old store stays as it is.
+    pub fn rebuild(
+        alloc: Global,
+        web: &Web,
+        table: &NameTable,
+        out: &[u8],
+        old: &Store,
+    ) -> Result<Store, NoMemory>
+        requires { table.now ≡ record (table_of web.now) { faults = table.now.faults } }
+        ensures store { IfOk result (λ store. IsStoreOf (project web.now table.now) store) }
+        ensures names { IfOk result (λ store. store.names ≡ table.now.names) }
+        ensures outputs { IfOk result (λ store. store.outputs ≡ outputs web.now table.now out.now) }
+        ensures faults { IfOk result (λ store. AreGraphFaults web.now table.now out.now store.faults) }
+        ensures grouped { IfOk result (λ store. IsGroupedBy web.now table.now store.names (pieces_of_node store)) }
+    {
+        names_resolve_inside();
+        let pieces = pieces_by_node(alloc, web.pieces(), table)?;
+        let rows: &[Vec<usize>] = &pieces;
+        let filled = filled_rows(alloc, rows)?;
+        let flags: &[bool] = &filled;
+        let same_names = old.has_names_of(table);
+        let before = old.texts_under(table, same_names, flags);
+        let texts = texts_by_node(alloc, web, table, flags, rows, before)?;
+        let skeleton = old.skeleton_for(alloc, table, same_names, &texts)?;
+        Store::over(alloc, web, table, out, pieces, filled, texts, skeleton)
+    }
+
+    /// Whether the names are those of the table, each under its number.
+    fn has_names_of(&self, table: &NameTable) -> bool
+        ensures { result ≡ true → self.now.names ≡ table.now.names }
+    {
+        are_names_of(&self.skeleton.names, table)
+    }
+
+    /// The texts of the nodes, where the names are the same and just those have a piece that the flags say; else none.
+    fn texts_under(
+        &self,
+        table: &NameTable,
+        same_names: bool,
+        filled: &[bool],
+    ) -> &[Rc<NodeText>]
+        requires { same_names ≡ true → self.now.names ≡ table.now.names }
+        ensures { ArePlanned table.now.names (λ id. slice_index_or filled.now id false) (node_texts result.now) }
+    {
+        if same_names && self.filled.as_slice() == filled {
+            self.texts.as_slice()
+        } else {
+            &[]
+        }
+    }
+
+    /// The skeleton of the table's names and these texts: the store's own, where it is the same.
+    fn skeleton_for(
+        &self,
+        alloc: Global,
+        table: &NameTable,
+        same_names: bool,
+        texts: &[Rc<NodeText>],
+    ) -> Result<Rc<Skeleton>, NoMemory>
+        requires same_names { same_names ≡ true → self.now.names ≡ table.now.names }
+        requires size { length texts.now ≡ length table.now.names + 1 }
+        requires inside { All (λ row. All (λ id. id < length table.now.names) row) (map node_uses (node_texts texts.now)) }
+        ensures names { IfOk result (λ skeleton. texts_of skeleton.value.names.items ≡ table.now.names) }
+        ensures skeleton { IfOk result (λ skeleton. IsSkeletonOf (map node_uses (node_texts texts.now)) skeleton.value) }
+    {
+        if same_names && have_same_uses(&self.texts, texts) {
+            match self.skeleton.clone() {
+                Ok(skeleton) => Ok(skeleton),
+                Err(_) => Err(NoMemory),
+            }
+        } else {
+            Skeleton::shared(alloc, table, texts)
+        }
+    }
+
+    /// The store over the pieces, the texts and the skeleton of a web's nodes, where the flags say which nodes have a piece.
+    fn over(
+        alloc: Global,
+        web: &Web,
+        table: &NameTable,
+        out: &[u8],
+        pieces: Vec<Vec<usize>>,
+        filled: Vec<bool>,
+        texts: Vec<Rc<NodeText>>,
+        skeleton: Rc<Skeleton>,
+    ) -> Result<Store, NoMemory>
+        requires table { table.now ≡ record (table_of web.now) { faults = table.now.faults } }
+        requires grouped { IsRowsOf (length table.now.names + 1) (places_of table.now web.now.pieces) (rows_of pieces.items) }
+        requires filled { AreFilled (rows_of pieces.items) filled.items }
+        requires texts { AreTexts web.now table.now (rows_of pieces.items) (node_texts texts.items) }
+        requires plans { ArePlans web.now table.now (λ id. slice_index_or filled.items id false) (rows_of pieces.items) (slots_of texts.items) (uses_of_plans texts.items) }
+        requires planned { ArePlanned table.now.names (λ id. slice_index_or filled.items id false) (node_texts texts.items) }
+        requires names { texts_of skeleton.value.names.items ≡ table.now.names }
+        requires skeleton { IsSkeletonOf (map node_uses (node_texts texts.items)) skeleton.value }
+        ensures store { IfOk result (λ store. IsStoreOf (project web.now table.now) store) }
+        ensures names { IfOk result (λ store. store.names ≡ table.now.names) }
+        ensures outputs { IfOk result (λ store. store.outputs ≡ outputs web.now table.now out.now) }
+        ensures faults { IfOk result (λ store. AreGraphFaults web.now table.now out.now store.faults) }
+        ensures grouped { IfOk result (λ store. IsGroupedBy web.now table.now store.names (pieces_of_node store)) }
+    {
+        names_resolve_inside();
         names_are_the_full_names();
         filled_plans_are_right();
-        let rows = pieces_by_node(alloc, web.pieces(), table)?;
-        let filled = filled_rows(alloc, &rows)?;
-        let node_texts = texts_by_node(alloc, web, table, &filled, &rows)?;
-        let graph = Graph::build(alloc, web, table, rows, &node_texts)?;
-        let pieces: &[Vec<usize>] = &graph.pieces;
-        let uses: &[Vec<usize>] = &graph.uses;
-        let users: &[Vec<usize>] = &graph.users;
-        let order: &[usize] = &graph.order;
-        let weights = weights(alloc, web, table, pieces, uses, order, &node_texts)?;
-        let depths = depths(alloc, web, table, pieces, uses, order)?;
-        let expandable = expandable(alloc, pieces, &weights, &depths)?;
-        let has_piece = is_filled(&pieces[table.count()]);
-        let self_containing = self_containing(alloc, uses, users)?;
+        let shared: &Skeleton = &skeleton;
+        let defined: &[bool] = &filled;
+        let rows: &[Vec<usize>] = &pieces;
+        let uses: &[Vec<usize>] = &shared.uses;
+        let order: &[usize] = &shared.order;
+        let measures = Measures::take(alloc, web, table, rows, uses, order, &texts)?;
+        let flags = NodeFlags {
+            defined,
+            self_containing: &shared.self_containing,
+            reaching: &shared.reaching_cycles,
+            expandable: &measures.expandable,
+        };
+        let has_piece = defined[table.count()];
+        let outputs = outputs(alloc, web, table, out, has_piece, flags.expandable)?;
+        let faults = faults(alloc, web, table, out, &flags)?;
         Ok(Store {
-            names: texts(alloc, table)?,
-            uses: nodes_by_node(alloc, table.count(), uses)?,
-            users: nodes_by_node(alloc, table.count(), users)?,
-            order: nodes_of(alloc, table.count(), order)?,
-            outputs: outputs(alloc, web, table, out, has_piece, &expandable)?,
-            texts: node_texts,
-            faults: graph_faults(
-                alloc,
-                web,
-                table,
-                out,
-                &graph,
-                &filled,
-                &self_containing,
-                &expandable,
-            )?,
-            self_containing,
-            weights,
-            depths,
-            expandable,
-            pieces: graph.pieces,
+            skeleton,
+            pieces,
+            filled,
+            weights: measures.weights,
+            depths: measures.depths,
+            expandable: measures.expandable,
+            outputs,
+            texts,
+            faults,
         })
     }
 
@@ -140,7 +234,7 @@ impl Store {
     fn number(&self, node: Node) -> Option<usize>
         ensures { result ≡ number_in (length self.now.names) node }
     {
-        number_of(self.names.len(), node)
+        number_of(self.skeleton.names.len(), node)
     }
 
     /// What is kept of the node, if the store has it.
@@ -178,7 +272,7 @@ impl Store {
         ensures { result ≡ contains_itself_at self.now node }
     {
         match self.number(node) {
-            Some(n) => self.self_containing.get(n) == Some(&true),
+            Some(n) => self.skeleton.self_containing.get(n) == Some(&true),
             None => false,
         }
     }
@@ -227,7 +321,7 @@ impl Store {
         ensures { result.now ≡ uses_at self.now node }
     {
         match self.number(node) {
-            Some(n) => match self.uses.get(n) {
+            Some(n) => match self.skeleton.used_nodes.get(n) {
                 Some(row) => row.as_slice(),
                 None => &[],
             },
@@ -240,7 +334,7 @@ impl Store {
         ensures { result.now ≡ users_at self.now node }
     {
         match self.number(node) {
-            Some(n) => match self.users.get(n) {
+            Some(n) => match self.skeleton.user_nodes.get(n) {
                 Some(row) => row.as_slice(),
                 None => &[],
             },
@@ -278,7 +372,7 @@ impl Store {
     pub fn order(&self) -> &[Node]
         ensures { IsOrderIn self.now result.now }
     {
-        self.order.as_slice()
+        self.skeleton.node_order.as_slice()
     }
 }
 
@@ -292,11 +386,11 @@ impl PiecesByNode for Store {
     ghost texts = { text_at };
 
     fn name_count(&self) -> usize {
-        self.names.len()
+        self.skeleton.names.len()
     }
 
     fn name_text(&self, id: usize) -> &[u8] {
-        self.names[id].as_slice()
+        self.skeleton.names[id].as_slice()
     }
 
     fn piece_numbers(&self, node: Node) -> &[usize] {

@@ -1,17 +1,18 @@
 //! The text and the plan of each node.
-ghost use Rattle.std.specs.Prelude.{◌≡◌, ◌<◌, IfOk, length, map, filter, All, slice_index_or, false};
+ghost use Rattle.std.specs.Prelude.{◌≡◌, ◌<◌, IfOk, length, map, filter, All, IfSome, slice_index_or, false};
 ghost use Rattle.digraph.specs.Graph.{rows_of};
+ghost use Rattle.tangle_expansion.specs.Comparing.{IsPlanned};
 ghost use Rattle.tangle_expansion.specs.ItemCodes.{pieces_names};
 ghost use Rattle.tangle_expansion.specs.ItemSlots.{pieces_at, pieces_slots};
 ghost use Rattle.tangle_expansion.specs.Meaning.{title_of};
-ghost use Rattle.tangle_expansion.specs.NodeTexts.{node_uses, plan_slots, plan_uses};
+ghost use Rattle.tangle_expansion.specs.NodeTexts.{node_title, node_uses, plan_slots, plan_uses};
 ghost use Rattle.tangle_graph.specs.Nodes.{title_at};
-ghost use Rattle.tangle_graph.specs.Plans.{ArePlans, ArePiecesInside, AreFilled, AreTexts, IsTextOf, node_texts, slots_of, uses_of_plans};
+ghost use Rattle.tangle_graph.specs.Plans.{ArePlanned, ArePlans, ArePiecesInside, AreFilled, AreTexts, IsTextOf, node_texts, slots_of, uses_of_plans};
 
 use crate::measures::is_filled;
 use std::alloc::{AllocError, Global};
 use std::rc::Rc;
-use tangle_expansion::{NodeText, Planning, plan_node};
+use tangle_expansion::{NodeText, Planning, is_same_node, plan_node};
 use tangle_lines::NoMemory;
 use tangle_names::NameTable;
 use tangle_scan::Web;
@@ -57,6 +58,8 @@ fn text_of_node(
     ensures text { IfOk result (λ text. IsTextOf web.now table.now numbers.now text.value) }
     ensures uses { IfOk result (λ text. plan_uses text.value
         ≡ filter (λ id. slice_index_or has_piece.now id false) (pieces_names table.now (pieces_at web.now.pieces numbers.now))) }
+    ensures title { IfOk result (λ text. node_title text.value ≡ title_at table.now.names n) }
+    ensures planned { IfOk result (λ text. IsPlanned (λ id. slice_index_or has_piece.now id false) text.value) }
 {
     let name = name_of_node(alloc, table, n)?;
     let text = plan_node(alloc, planning, web, table, has_piece, name, numbers)?;
@@ -66,23 +69,61 @@ fn text_of_node(
     }
 }
 
-/// The text of each node, by the numbers of its pieces.
+/// The text of the node with this number, which has the pieces with these numbers: that of before, where it is the same.
+fn text_after(
+    alloc: Global,
+    planning: &mut Planning,
+    web: &Web,
+    table: &NameTable,
+    has_piece: &[bool],
+    n: usize,
+    numbers: &[usize],
+    before: Option<&Rc<NodeText>>,
+) -> Result<Rc<NodeText>, NoMemory>
+    requires numbers { All (λ i. i < length web.now.pieces) numbers.now }
+    requires ours { length table.now.resolved ≡ length web.now.occurrences }
+    requires title { IfSome before (λ text. node_title text.now.value ≡ title_at table.now.names n) }
+    requires planned { IfSome before (λ text. IsPlanned (λ id. slice_index_or has_piece.now id false) text.now.value) }
+    ensures slots { IfOk result (λ text. plan_slots text.value
+        ≡ pieces_slots web.now.texts table.now (λ id. slice_index_or has_piece.now id false) (title_at table.now.names n) 0 (pieces_at web.now.pieces numbers.now)) }
+    ensures text { IfOk result (λ text. IsTextOf web.now table.now numbers.now text.value) }
+    ensures uses { IfOk result (λ text. plan_uses text.value
+        ≡ filter (λ id. slice_index_or has_piece.now id false) (pieces_names table.now (pieces_at web.now.pieces numbers.now))) }
+    ensures title { IfOk result (λ text. node_title text.value ≡ title_at table.now.names n) }
+    ensures planned { IfOk result (λ text. IsPlanned (λ id. slice_index_or has_piece.now id false) text.value) }
+{
+    if let Some(text) = before {
+        if is_same_node(text, web, table, numbers) {
+            return match text.clone() {
+                Ok(text) => Ok(text),
+                Err(_) => Err(NoMemory),
+            };
+        }
+    }
+    text_of_node(alloc, planning, web, table, has_piece, n, numbers)
+}
+
+/// The text of each node, by the numbers of its pieces. Where a text of before, which comes at the node's number, is the same, it is shared.
 pub(crate) fn texts_by_node(
     alloc: Global,
     web: &Web,
     table: &NameTable,
     has_piece: &[bool],
     pieces: &[Vec<usize>],
+    before: &[Rc<NodeText>],
 ) -> Result<Vec<Rc<NodeText>>, NoMemory>
     requires inside { ArePiecesInside (length web.now.pieces) pieces.now }
     requires ours { length table.now.resolved ≡ length web.now.occurrences }
+    requires before { ArePlanned table.now.names (λ id. slice_index_or has_piece.now id false) (node_texts before.now) }
     ensures texts { IfOk result (λ texts. AreTexts web.now table.now (rows_of pieces.now) (node_texts texts.items)) }
     ensures plans { IfOk result (λ texts. ArePlans web.now table.now (λ id. slice_index_or has_piece.now id false) (rows_of pieces.now) (slots_of texts.items) (uses_of_plans texts.items)) }
+    ensures planned { IfOk result (λ texts. ArePlanned table.now.names (λ id. slice_index_or has_piece.now id false) (node_texts texts.items)) }
 {
     let mut planning = Planning::new(alloc);
     let mut texts = Vec::with_capacity(alloc, pieces.len())?;
     for (n, row) in pieces.iter().enumerate() {
-        let text = text_of_node(alloc, &mut planning, web, table, has_piece, n, row)?;
+        let old = before.get(n);
+        let text = text_after(alloc, &mut planning, web, table, has_piece, n, row, old)?;
         texts.push(text)?;
     }
     Ok(texts)

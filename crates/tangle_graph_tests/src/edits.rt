@@ -17,15 +17,37 @@ const TWO_BRANCHES: &[u8] =
 const NINTH_LINE_REPLACED: &[u8] =
     b"@ P.\n@c\n@<A@>@<S@>\n@ @<A@>=\n@<B@>\n@ @<B@>=\n@<C@>\n@ @<C@>=\n3\n@ @<S@>=\n2\n";
 
+const USE_OF_S_FOR_B: &[u8] =
+    b"@ P.\n@c\n@<A@>@<S@>\n@ @<A@>=\n@<S@>\n@ @<B@>=\n@<C@>\n@ @<C@>=\n1\n@ @<S@>=\n2\n";
+
+const C_USES_A: &[u8] =
+    b"@ P.\n@c\n@<A@>@<S@>\n@ @<A@>=\n@<B@>\n@ @<B@>=\n@<C@>\n@ @<C@>=\n@<A@>\n@ @<S@>=\n2\n";
+
+const S_WITHOUT_A_PIECE: &[u8] =
+    b"@ P.\n@c\n@<A@>@<S@>\n@ @<A@>=\n@<B@>\n@ @<B@>=\n@<C@>\n@ @<C@>=\n1\n";
+
 // Webs before and after an edit, and the nodes that it affects, each behind those that it uses: a line below one of two branches is
-// replaced, and replaced by itself. The names are A, S, B and C, in the order of their first occurrences.
-const EDITS: [(&[u8], &[u8], &[Node]); 2] = [
+// replaced, and replaced by itself; a use becomes one of another name with as long a text; a name comes to contain itself, and no longer
+// does; and a name loses its only piece. The names are A, S, B and C, in the order of their first occurrences.
+const EDITS: [(&[u8], &[u8], &[Node]); 6] = [
     (
         TWO_BRANCHES,
         NINTH_LINE_REPLACED,
         &[Node::Name(3), Node::Name(2), Node::Name(0), Node::Program],
     ),
     (NINTH_LINE_REPLACED, NINTH_LINE_REPLACED, &[]),
+    (
+        TWO_BRANCHES,
+        USE_OF_S_FOR_B,
+        &[Node::Name(0), Node::Program],
+    ),
+    (TWO_BRANCHES, C_USES_A, &[]),
+    (
+        C_USES_A,
+        TWO_BRANCHES,
+        &[Node::Name(3), Node::Name(2), Node::Name(0), Node::Program],
+    ),
+    (TWO_BRANCHES, S_WITHOUT_A_PIECE, &[Node::Program]),
 ];
 
 // The nodes that the edit from one web to the other affects, told with this growth refused, and
@@ -39,10 +61,28 @@ fn affected_without(
     let old_names = NameTable::build(alloc, old_web)?;
     let new_names = NameTable::build(alloc, new_web)?;
     let old = Store::build(alloc, old_web, &old_names, b"a.c")?;
-    let new = Store::build(alloc, new_web, &new_names, b"a.c")?;
+    let new = Store::rebuild(alloc, new_web, &new_names, b"a.c", &old)?;
     let is_harnessed = refuse_growth(alloc, nth);
     let nodes = affected(alloc, &old, &old_names, &new, &new_names);
     Ok((nodes, end_refusals(alloc, is_harnessed)))
+}
+
+// The store of the web before an edit, and that of the web behind it, made over the one before with this growth refused.
+fn rebuilding_is_spared(
+    rt: &impl Abort,
+    alloc: Global,
+    old_web: &Web,
+    new_web: &Web,
+    nth: u32,
+) -> Result<bool, NoMemory> {
+    let old_names = NameTable::build(alloc, old_web)?;
+    let new_names = NameTable::build(alloc, new_web)?;
+    let old = Store::build(alloc, old_web, &old_names, b"a.c")?;
+    let is_harnessed = refuse_growth(alloc, nth);
+    let new = Store::rebuild(alloc, new_web, &new_names, b"a.c", &old);
+    let was_spared = end_refusals(alloc, is_harnessed);
+    assert_eq!(rt; new.is_ok(), was_spared);
+    Ok(was_spared)
 }
 
 // Whether no growth was refused: then the edit affects these nodes, and else it is not told.
@@ -76,6 +116,21 @@ fn refuse_each(
     Err(Fail::from("never told"))
 }
 
+// The same of the store of the web behind the edit.
+fn refuse_each_of_rebuilding(
+    rt: &impl Abort,
+    alloc: Global,
+    old_web: &Web,
+    new_web: &Web,
+) -> Result<(), Fail> {
+    for nth in 1..1000 {
+        if rebuilding_is_spared(rt, alloc, old_web, new_web, nth)? {
+            return Ok(());
+        }
+    }
+    Err(Fail::from("never rebuilt"))
+}
+
 // The edit from the one text of a web to the other affects these nodes.
 fn check_affected(
     rt: &impl Abort,
@@ -90,6 +145,7 @@ fn check_affected(
     let new_source = read(alloc, &new_files, None)?;
     let old_web = scan(alloc, &old_source)?;
     let new_web = scan(alloc, &new_source)?;
+    refuse_each_of_rebuilding(rt, alloc, &old_web, &new_web)?;
     refuse_each(rt, alloc, (&old_web, &new_web), nodes)
 }
 

@@ -1,5 +1,4 @@
-use Rattle.std.proofs.Common.{◌≡◌, ◌++◌, flat_map}
-use Rattle.std.specs.List.{range_with_len}
+use Rattle.std.proofs.Common.{◌≡◌, ◌++◌, flat_map, take}
 use Rattle.tangle_graph.specs.FaultFlags.{flag_at}
 use Rattle.tangle_graph.specs.Faults.{fault_of, fault_place}
 use Rattle.tangle_graph.proofs.faults.add_faults.Given as goal
@@ -7,4 +6,4 @@ use Rattle.tangle_graph.proofs.faults.add_faults.Given as goal
 abbrev pub invariant-loop-id : goal.invariant-loop-id
 invariant-loop-id l =
     l.faults.items ≡ l.fn.faults.items
-    ++ flat_map (λ id. fault_of l.web l.table l.kind id (fault_place l.web l.table l.out (flag_at l.flags.self_containing.now) (flag_at l.flags.reaching.now) l.kind id)) (range_with_len 0 l.id)
+    ++ flat_map (λ id. fault_of l.web l.table l.kind id (fault_place l.web l.table l.out (flag_at l.flags.self_containing.now) (flag_at l.flags.reaching.now) l.kind id)) (take l.id-index l.names)

@@ -5,8 +5,9 @@ use Rattle.tangle_expansion.specs.ItemCodes.{pieces_names}
 use Rattle.tangle_expansion.specs.ItemSlots.{pieces_at, pieces_slots}
 use Rattle.tangle_expansion.specs.NodeTexts.{plan_slots, plan_uses}
 use Rattle.tangle_graph.specs.Nodes.{title_at}
-use Rattle.tangle_graph.specs.Plans.{ArePlans, AreTexts, IsTextOf, node_texts, slots_of, uses_of_plans}
-use Rattle.tangle_graph.proofs.PushLemmas.{plans_more, texts_more}
+use Rattle.tangle_graph.specs.Plans.{ArePlanned, ArePlans, AreTexts, IsTextOf, node_texts, slots_of, uses_of_plans}
+use Rattle.tangle_graph.proofs.PushLemmas.{planned_more, plans_more, texts_more}
+use Rattle.tangle_graph.proofs.TextLemmas.{planned_read, title_read}
 use Rattle.tangle_graph.proofs.texts.texts_by_node.Goals as goal
 
 pub loop-n-preserved : goal.loop-n-preserved
@@ -26,7 +27,17 @@ loop-n-preserved c =
     record {
       texts = subst (λ ts. AreTexts web table (rows_of (take (i + 1) c.args.pieces.now)) (node_texts ts)) (sym c.in_ok-push.ensures.items) texts_told;
       plans = subst (λ ts. ArePlans web table has (rows_of (take (i + 1) c.args.pieces.now)) (slots_of ts) (uses_of_plans ts)) (sym c.in_ok-push.ensures.items) more;
+      planned = subst (λ ts. ArePlanned table.names has (node_texts ts)) (sym c.in_ok-push.ensures.items)
+          (planned_more table.names has c.args.pieces.now texts i text c.loop-n-test.true c.loop-n.invariant.texts.size c.loop-n.invariant.planned c.in_ok-text.ensures.title c.in_ok-text.ensures.planned);
     }
+
+pub text_after-requires-clause-title : goal.text_after-requires-clause-title
+text_after-requires-clause-title c =
+    title_read c.args.table.now.names (λ id. get_or c.args.has_piece.now id false) c.args.before.now c.loop-n.n c.requires.before c.get-old.result c.get-old.ensures.lookup
+
+pub text_after-requires-clause-planned : goal.text_after-requires-clause-planned
+text_after-requires-clause-planned c =
+    planned_read c.args.table.now.names (λ id. get_or c.args.has_piece.now id false) c.args.before.now c.loop-n.n c.requires.before c.get-old.result c.get-old.ensures.lookup
 
 pub returns-clause-plans : goal.returns-clause-plans
 returns-clause-plans c =

@@ -11,9 +11,9 @@ use Rattle.tangle_graph.proofs.store.Store.text.Goals as goal
 pub returns-in-Some-get-clause-uses : goal.returns-in-Some-get-clause-uses
 returns-in-Some-get-clause-uses c =
     let inside = c.self.inside in
-    let size : length inside.names.items ≡ length c.args.self.now.names =
-    sym (length-map inside.names.items (λ (text : Vec ℕ Global). text.items)) ∙ ap (λ (s : StoreRead). length s.names) c.self.view_is in
-    rw c.deref-text.ensures (names_of_read c.deref.result.now c.in-Some.n (length inside.names.items) (length c.args.self.now.names) c.in-Some-get.text.now
+    let size : length inside.skeleton.value.names.items ≡ length c.args.self.now.names =
+    sym (length-map inside.skeleton.value.names.items (λ (text : Vec ℕ Global). text.items)) ∙ ap (λ (s : StoreRead). length s.names) c.self.view_is in
+    rw c.deref-text.ensures (names_of_read c.deref.result.now c.in-Some.n (length inside.skeleton.value.names.items) (length c.args.self.now.names) c.in-Some-get.text.now
     (rw c.deref.ensures.value c.self.invariant.uses) size c.in-Some-get.ensures.lookup.0 c.in-Some-get.ensures.lookup.1)
 
 pub returns-in-None-get-clause-text : goal.returns-in-None-get-clause-text

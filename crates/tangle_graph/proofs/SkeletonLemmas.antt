@@ -1,0 +1,85 @@
+-- What the skeleton of a web's texts says of the web.
+use Rattle.std.proofs.Common.{◌≡◌, ◌∙◌, ◌<◌, ◌≤◌, ◌+◌, ◌++◌, ◌∷◌, ℕ, Bool, true, false, not, List, [], length, take, map, get_or, refl, ap, sym, subst, arith, Vec}
+use Rattle.std.specs.Global.{Global}
+use Rattle.std.specs.declared.rc.Rc.{Rc}
+use Rattle.std.specs.Prelude.{All}
+use Rattle.std.specs.List.{IsDistinct}
+use Rattle.std.specs.List.Sorted.{IsStrictlyIncreasing}
+use Rattle.std.specs.Str.{bytes_eq}
+use Rattle.std.proofs.Math.Decide.{dec_lt}
+use Rattle.std.proofs.lemmas.List.{get_or_past, get_or-map, length-map, map-append, take_more}
+use Rattle.std.proofs.lemmas.Slice.Eq.{bytes_eq-Decides}
+use Rattle.std.proofs.lemmas.List.Elements.{All-map}
+use Rattle.tangle_scan.specs.Web.{WebRead}
+use Rattle.tangle_names.specs.NameTable.{TableRead}
+use Rattle.tangle_expansion.specs.NodeTexts.{node_uses}
+use Rattle.tangle_expansion.specs.Projects.{ResolvesInside}
+use Rattle.tangle_expansion.specs.declared.expansion.NodeText.{NodeText}
+use Rattle.digraph.specs.Graph.{Graph, InRange, rows_of, row_at}
+use Rattle.digraph.specs.Rows.{IsOnceEach, IsRowsOf}
+use Rattle.digraph.proofs.GraphLemmas.{rows_size}
+use Rattle.tangle_graph.specs.Grouping.{places_of}
+use Rattle.tangle_graph.specs.Groups.{IsGraphOf}
+use Rattle.tangle_graph.specs.Plans.{AreTexts, node_texts}
+use Rattle.tangle_graph.specs.Rows.{texts_of}
+use Rattle.tangle_graph.specs.Skeletons.{IsSkeletonOf}
+use Rattle.tangle_graph.specs.declared.skeleton.Skeleton.{Skeleton}
+use Rattle.tangle_graph.proofs.GraphLemmas.{graph_of}
+use Rattle.tangle_graph.proofs.TextLemmas.{names_below}
+use Rattle.tangle_graph.proofs.UsesLemmas.{uses_collected}
+
+-- its uses are the graph of the web
+pub graph_over : (web : WebRead) (table : TableRead) (pieces : Graph) (texts : List NodeText) (skeleton : Skeleton) → IsDistinct bytes_eq table.names → ResolvesInside table
+    → IsRowsOf (length table.names + 1) (places_of table web.pieces) (rows_of pieces) → AreTexts web table (rows_of pieces) texts → IsSkeletonOf (map node_uses texts) skeleton
+    → IsGraphOf web table pieces skeleton.uses.items
+graph_over web table pieces texts skeleton distinct inside grouped are is =
+    graph_of web table pieces (map node_uses texts) skeleton.uses.items distinct inside grouped
+    (uses_collected web table (rows_of pieces) texts (map node_uses texts) grouped are refl) is.size is.once
+
+-- the texts of a web use names of its table
+pub uses_inside : (web : WebRead) (table : TableRead) (pieces : List (List ℕ)) (texts : List NodeText) → ResolvesInside table → AreTexts web table pieces texts
+    → All (λ row. All (λ id. id < length table.names) row) (map node_uses texts)
+uses_inside web table pieces texts inside are =
+    All-map (λ row. All (λ id. id < length table.names) row) node_uses texts (names_below web table pieces texts (length table.names) inside are refl)
+
+-- rows of numbers below a count are in the range of a graph with more nodes
+pub rows_in_range : (rows : Graph) (used : List (List ℕ)) (count : ℕ) → rows_of rows ≡ used → count ≤ length used → All (λ row. All (λ id. id < count) row) used → InRange rows
+rows_in_range rows used count same room all = λ k d h j e l. (
+    let there : k < length used = omega (arith, h, rows_size rows, ap length same) in
+    let row : get_or used k [] ≡ (get_or rows k d).items = ap (λ us. get_or us k []) (sym same) ∙ get_or-map (λ (v : Vec ℕ Global). v.items) rows k d [] h in
+    let low : get_or (get_or rows k d).items j e < count = subst (λ r. All (λ id. id < count) r) row (all k [] there) j e l in
+    omega (arith, low, room, rows_size rows, ap length same))
+
+pub each_increasing : (before rows : List (List ℕ)) → length rows ≡ length before → ((n : ℕ) → n < length before → IsOnceEach (row_at before n) (row_at rows n)) → (n : ℕ) → IsStrictlyIncreasing (row_at rows n)
+each_increasing before rows same once n =
+    elim (dec_lt n (length before)) as (λ _. IsStrictlyIncreasing (row_at rows n)) [
+      | yes low ↦ (once n low).increasing
+      | no past ↦ (λ k h. (let none : row_at rows n ≡ [] = get_or_past rows n [] (omega (arith, past, same)) in absurd (omega (arith, h, ap length none))))
+    ]
+
+-- rows that hold the uses of texts once each are in range, as the texts' own are
+pub once_in_range : (texts : List NodeText) (count : ℕ) (rows once uses : Graph) → rows_of rows ≡ map node_uses texts → length texts ≡ count + 1
+    → All (λ row. All (λ id. id < count) row) (map node_uses texts) → (InRange rows → InRange once) → uses ≡ once → InRange uses
+once_in_range texts count rows once uses same size all kept is =
+    let room : count ≤ length (map node_uses texts) = omega (arith, size, length-map texts node_uses) in
+    subst InRange (sym is) (kept (rows_in_range rows (map node_uses texts) count same room all))
+
+-- lists of numbers of which a test says that they are not two
+pub same_by_test : (xs ys : List ℕ) → not (bytes_eq xs ys) ≡ false → xs ≡ ys
+same_by_test xs ys e = (bytes_eq-Decides xs ys).0 (is_true (bytes_eq xs ys) e)
+  where
+    is_true : (b : Bool) → not b ≡ false → b ≡ true
+    is_true true e = refl
+    is_true false e = absurd (let no : true ≡ false = e in cc)
+
+-- one text more
+pub uses_more : (texts : List (Rc NodeText Global)) (i : ℕ) (text : Rc NodeText Global) → i < length texts → text ≡ get_or texts i text
+    → map node_uses (node_texts (take (i + 1) texts)) ≡ map node_uses (node_texts (take i texts)) ++ node_uses text.value ∷ []
+uses_more texts i text low read =
+    ap (λ l. map node_uses (node_texts l)) (take_more texts i text low ∙ (λ j. take i texts ++ sym read j ∷ []))
+    ∙ ap (map node_uses) (map-append (λ (t : Rc NodeText Global). t.value) (take i texts) (text ∷ []))
+    ∙ map-append node_uses (node_texts (take i texts)) (text.value ∷ [])
+
+pub texts_more : (texts : Graph) (i : ℕ) (text : Vec ℕ Global) → i < length texts → text ≡ get_or texts i text → texts_of (take (i + 1) texts) ≡ texts_of (take i texts) ++ text.items ∷ []
+texts_more texts i text low read =
+    ap texts_of (take_more texts i text low ∙ (λ j. take i texts ++ sym read j ∷ [])) ∙ map-append (λ (t : Vec ℕ Global). t.items) (take i texts) (text ∷ [])

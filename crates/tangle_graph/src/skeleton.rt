@@ -1,0 +1,130 @@
+//! The skeleton of a store: what the names and the uses of the nodes settle, whatever else the nodes hold.
+ghost use Rattle.std.specs.Prelude.{◌≡◌, ◌<◌, ◌+◌, ℕ, IfOk, All, length, map, true};
+ghost use Rattle.digraph.specs.Graph.{rows_of};
+ghost use Rattle.tangle_expansion.specs.NodeTexts.{node_uses};
+ghost use Rattle.tangle_graph.specs.Plans.{node_texts};
+ghost use Rattle.tangle_graph.specs.Rows.{texts_of};
+ghost use Rattle.tangle_graph.specs.Skeletons.{IsSkeletonOf};
+
+use crate::nodes::{nodes_by_node, nodes_of};
+use crate::texts::uses_of_texts;
+use digraph::{all_once, order, reaching_cycles, self_containing, users};
+use std::alloc::{AllocError, Global};
+use std::rc::Rc;
+use tangle_expansion::{Node, NodeText};
+use tangle_lines::NoMemory;
+use tangle_names::NameTable;
+
+/// The texts of the names; of each node the names that it uses and the nodes that use it, and whether it contains itself or reaches a name
+/// that does; and the nodes that reach no cycle, each after those that it uses.
+///
+/// The stores of a web before and after an edit share it where the names and the uses stay.
+#[derive(Drop)]
+pub(crate) struct Skeleton {
+    pub(crate) names: Vec<Vec<u8>>,
+    /// The used names of each node, by number.
+    pub(crate) uses: Vec<Vec<usize>>,
+    /// The order of the nodes, by number.
+    pub(crate) order: Vec<usize>,
+    pub(crate) used_nodes: Vec<Vec<Node>>,
+    pub(crate) user_nodes: Vec<Vec<Node>>,
+    pub(crate) node_order: Vec<Node>,
+    pub(crate) self_containing: Vec<bool>,
+    pub(crate) reaching_cycles: Vec<bool>,
+}
+
+impl Skeleton {
+    /// The skeleton of a table's names and of the uses in the text of each node.
+    pub(crate) fn build(
+        alloc: Global,
+        table: &NameTable,
+        texts: &[Rc<NodeText>],
+    ) -> Result<Skeleton, AllocError>
+        requires size { length texts.now ≡ length table.now.names + 1 }
+        requires inside { All (λ row. All (λ id. id < length table.now.names) row) (map node_uses (node_texts texts.now)) }
+        ensures names { IfOk result (λ skeleton. texts_of skeleton.names.items ≡ table.now.names) }
+        ensures skeleton { IfOk result (λ skeleton. IsSkeletonOf (map node_uses (node_texts texts.now)) skeleton) }
+    {
+        let mut rows = uses_of_texts(alloc, texts)?;
+        all_once(&mut rows);
+        let uses: &[Vec<usize>] = &rows;
+        let user_rows = users(alloc, uses)?;
+        let users: &[Vec<usize>] = &user_rows;
+        let order = order(alloc, uses, users)?;
+        let self_containing = self_containing(alloc, uses, users)?;
+        let reaching_cycles = reaching_cycles(alloc, uses, users, &self_containing)?;
+        let count = table.count();
+        let used_nodes = nodes_by_node(alloc, count, uses)?;
+        let user_nodes = nodes_by_node(alloc, count, users)?;
+        let node_order = nodes_of(alloc, count, &order)?;
+        Ok(Skeleton {
+            names: texts_of_names(alloc, table)?,
+            uses: rows,
+            order,
+            used_nodes,
+            user_nodes,
+            node_order,
+            self_containing,
+            reaching_cycles,
+        })
+    }
+
+    /// The same, to be shared.
+    pub(crate) fn shared(
+        alloc: Global,
+        table: &NameTable,
+        texts: &[Rc<NodeText>],
+    ) -> Result<Rc<Skeleton>, NoMemory>
+        requires size { length texts.now ≡ length table.now.names + 1 }
+        requires inside { All (λ row. All (λ id. id < length table.now.names) row) (map node_uses (node_texts texts.now)) }
+        ensures names { IfOk result (λ skeleton. texts_of skeleton.value.names.items ≡ table.now.names) }
+        ensures skeleton { IfOk result (λ skeleton. IsSkeletonOf (map node_uses (node_texts texts.now)) skeleton.value) }
+    {
+        let skeleton = Skeleton::build(alloc, table, texts)?;
+        match Rc::new(alloc, skeleton) {
+            Ok(skeleton) => Ok(skeleton),
+            Err(_) => Err(NoMemory),
+        }
+    }
+}
+
+/// The texts of the names.
+fn texts_of_names(alloc: Global, table: &NameTable) -> Result<Vec<Vec<u8>>, AllocError>
+    ensures { IfOk result (λ names. texts_of names.items ≡ table.now.names) }
+{
+    let mut names = Vec::with_capacity(alloc, table.count())?;
+    for id in 0..table.count() {
+        names.push(Vec::from_slice(alloc, table.text(id))?)?;
+    }
+    Ok(names)
+}
+
+/// Whether these are the names of the table, each under its number.
+pub(crate) fn are_names_of(names: &[Vec<u8>], table: &NameTable) -> bool
+    ensures { result ≡ true → texts_of names.now ≡ table.now.names }
+{
+    if names.len() != table.count() {
+        return false;
+    }
+    for (id, name) in names.iter().enumerate() {
+        if name.as_slice() != table.text(id) {
+            return false;
+        }
+    }
+    true
+}
+
+/// Whether each node uses the names that the node with its number used before, in the same order.
+pub(crate) fn have_same_uses(before: &[Rc<NodeText>], texts: &[Rc<NodeText>]) -> bool
+    ensures { result ≡ true → map node_uses (node_texts before.now) ≡ map node_uses (node_texts texts.now) }
+{
+    if before.len() != texts.len() {
+        return false;
+    }
+    for (n, text) in texts.iter().enumerate() {
+        if before[n].uses() != text.uses() {
+            return false;
+        }
+    }
+    true
+}
