@@ -2,10 +2,12 @@
 ghost use Rattle.std.specs.Prelude.{◌≡◌, ◌++◌, [], true, IfOk, IfSome, OnOk};
 ghost use Rattle.tangle_files.specs.Roles.{fits};
 ghost use Rattle.tangle_names.specs.NameTable.{table_of, table_over};
+ghost use Rattle.tangle_expansion.specs.Nodes.{IsGroupedBy};
 ghost use Rattle.tangle_expansion.specs.Numbers.{numbers_of};
+ghost use Rattle.tangle_expansion.specs.Projects.{project};
 ghost use Rattle.tangle_graph.specs.Faults.{AreGraphFaults};
 ghost use Rattle.tangle_graph.specs.Outputs.{outputs};
-ghost use Rattle.tangle_graph.specs.Stores.{IsStoreOf};
+ghost use Rattle.tangle_graph.specs.Stores.{IsStoreOf, pieces_of_node};
 ghost use Rattle.tangle_session.specs.Files.{project_of};
 ghost use Rattle.tangle_session.specs.Sessions.{IsGround, IsGroundAt};
 
@@ -39,6 +41,29 @@ fn name_table(alloc: Global, web: &Web, old: Option<&Ground>) -> Result<NameTabl
     }
 }
 
+/// The store of a web with its table of names, built over that of the old ground, if there is one.
+fn store(
+    alloc: Global,
+    web: &Web,
+    table: &NameTable,
+    out: &[u8],
+    old: Option<&Ground>,
+) -> Result<Store, NoMemory>
+    requires { table.now ≡ record (table_of web.now) { faults = table.now.faults } }
+    ensures store { IfOk result (λ store. IsStoreOf (project web.now table.now) store) }
+    ensures names { IfOk result (λ store. store.names ≡ table.now.names) }
+    ensures outputs { IfOk result (λ store. store.outputs ≡ outputs web.now table.now out.now) }
+    ensures faults { IfOk result (λ store.
+        AreGraphFaults web.now table.now out.now store.faults) }
+    ensures grouped { IfOk result (λ store.
+        IsGroupedBy web.now table.now store.names (pieces_of_node store)) }
+{
+    match old {
+        Some(old) => Store::rebuild(alloc, web, table, out, &old.store),
+        None => Store::build(alloc, web, table, out),
+    }
+}
+
 impl Ground {
     /// What a web is made into, for a main file of this name and line marks that are written so. The
     /// web has its occurrences as yet. The faults are those of names; the store has those of the
@@ -60,7 +85,7 @@ impl Ground {
         ensures of_graph { IfOk result (λ made. AreGraphFaults web.now (table_of web.now) out.now made.store.faults) }
     {
         let mut table = name_table(alloc, web, old)?;
-        let store = Store::build(alloc, web, &table, out)?;
+        let store = store(alloc, web, &table, out, old)?;
         let numbers = Numbers::build(alloc, web, &store, marks)?;
         let faults = table.take_faults();
         Ok(Ground {
@@ -90,8 +115,8 @@ impl Ground {
     }
 
     /// Reads and scans the files, which have the web and the change file that is named. Line marks
-    /// are to be written so, whatever the roles say. The names are built over those of the old
-    /// ground, if there is one.
+    /// are to be written so, whatever the roles say. The names and the store are built over those of
+    /// the old ground, if there is one.
     pub(crate) fn build(
         alloc: Global,
         files: &Files,
