@@ -81,7 +81,8 @@ fn note_faults(
     Ok(())
 }
 
-/// Lays the items of a C part whose head ends on a line, and answers what is known of it. Most parts have none. Where one has, what was laid up to the first one is laid again.
+/// Lays the items of a C part whose head ends on a line, and answers what is known of it. Most
+/// parts have no rare token. Where one has, what was laid up to the first one is laid again.
 fn lay_part(
     source: &Source,
     items: &mut Vec<Item>,
