@@ -134,12 +134,7 @@ impl Store {
     }
 
     /// The texts of the nodes, where the names are the same and just those have a piece that the flags say; else none.
-    fn texts_under(
-        &self,
-        table: &NameTable,
-        same_names: bool,
-        filled: &[bool],
-    ) -> &[Rc<NodeText>]
+    fn texts_under(&self, table: &NameTable, same_names: bool, filled: &[bool]) -> &[Rc<NodeText>]
         requires { same_names ≡ true → self.now.names ≡ table.now.names }
         ensures { ArePlanned table.now.names (λ id. slice_index_or filled.now id false) (node_texts result.now) }
     {

@@ -1,4 +1,4 @@
-use Rattle.std.proofs.Common.{◌≡◌, ◌∙◌, ◌<◌, List, Bool, length, map, get_or, sym, subst, false}
+use Rattle.std.proofs.Common.{◌<◌, List, Bool, length, map, get_or, sym, subst, false}
 use Rattle.std.specs.Global.{Global}
 use Rattle.std.specs.declared.rc.Rc.{Rc}
 use Rattle.std.specs.Prelude.{All}
