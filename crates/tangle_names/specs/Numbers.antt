@@ -57,16 +57,19 @@ is_unresolved Ambiguous = true
 -- the fault of the occurrence with this number, by what it resolves to
 abbrev pub fault_of_number : WebRead → List Resolved → ℕ → List Finding
 fault_of_number web resolved n =
-    flat_map (resolution_fault web.file_names (slice_index_or resolved n NoFullName)) (option_to_list (slice_get web.occurrences n))
+    flat_map (resolution_fault web.file_names (slice_index_or resolved n NoFullName))
+    (option_to_list (slice_get web.occurrences n))
 
 -- the warning for a name that begins another and whose first occurrence has this number
 abbrev pub warning : WebRead → ℕ → Text → List Finding
 warning web first name =
-    map (λ o. fault_about kind.PrefixName (spot_of web.file_names o.place) name) (option_to_list (slice_get web.occurrences first))
+    map (λ o. fault_about kind.PrefixName (spot_of web.file_names o.place) name)
+    (option_to_list (slice_get web.occurrences first))
 
 -- the warning for the name with this number
 abbrev pub warning_of_number : WebRead → List Text → List ℕ → ℕ → List Finding
-warning_of_number web names firsts id = warning web (slice_index_or firsts id 0) (slice_index_or names id [])
+warning_of_number web names firsts id =
+    warning web (slice_index_or firsts id 0) (slice_index_or names id [])
 
 -- the name with this number begins another of the texts
 abbrev pub begins_another_by_number : List Text → List Text → ℕ → Bool

@@ -1,4 +1,5 @@
--- What is kept of a web's names that depends on no place. These words are cited by private contracts alone.
+-- What is kept of a web's names that depends on no place. These words are cited by private contracts
+-- alone.
 use Rattle.std.specs.Prelude.{◌≡◌, List, [], length, map}
 use Rattle.tangle_lines.specs.Faults.{Finding}
 use Rattle.tangle_lexer.specs.Occurrences.{OccurrenceRead}
@@ -17,13 +18,14 @@ table_read r faults = record {
   faults = faults;
 }
 
--- The names and what resolves to them give the numbers that are kept besides: each name has a first occurrence, and the
--- occurrences without a name and the names that begin others are listed.
+-- The names and what resolves to them give the numbers that are kept besides: each name has a first
+-- occurrence, and the occurrences without a name and the names that begin others are listed.
 pub record IsWellKept (r : Resolution) : Type 0 where
   pub firsts : length r.firsts.items ≡ length r.names.keys
   pub first_files : length r.first_files.items ≡ length r.names.keys
   pub unresolved : r.unresolved.items ≡ numbers_from is_unresolved 0 r.resolved.items
-  pub beginnings : r.beginnings.items ≡ numbers_from (begins_another (key_texts r.names.keys)) 0 (key_texts r.names.keys)
+  pub beginnings : r.beginnings.items
+      ≡ numbers_from (begins_another (key_texts r.names.keys)) 0 (key_texts r.names.keys)
 
 -- it is what the occurrences resolve to
 pub record IsResolutionOf (os : List OccurrenceRead) (r : Resolution) : Type 0 where

@@ -3,7 +3,8 @@ ghost use Rattle.std.specs.Prelude.{◌≡◌, ◌<◌, ℕ, [], IfOk, length, s
 ghost use Rattle.tangle_names.specs.declared.Resolved.TheVariants.{Name};
 ghost use Rattle.tangle_names.specs.Faults.{begins_another};
 ghost use Rattle.tangle_names.specs.Names.{One};
-ghost use Rattle.tangle_names.specs.Numbers.{begins_another_by_number, key_texts, numbers_from, Flags};
+ghost use Rattle.tangle_names.specs.Numbers.{begins_another_by_number, key_texts};
+ghost use Rattle.tangle_names.specs.Numbers.{numbers_from, Flags};
 ghost use Rattle.tangle_names.specs.Resolving.{resolution};
 ghost use Rattle.tangle_names.specs.Sorted.{IsInOrder, texts_of};
 

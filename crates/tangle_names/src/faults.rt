@@ -2,7 +2,8 @@
 ghost use Rattle.std.specs.Prelude.{◌≡◌, ◌<◌, ◌++◌, ◌∷◌, [], All, IfOk, OnOk, flat_map, length};
 ghost use Rattle.tangle_lines.specs.Faults.{fault_about};
 ghost use Rattle.tangle_names.specs.Faults.{faults, resolution_fault, spot_of};
-ghost use Rattle.tangle_names.specs.Numbers.{fault_of_number, key_texts, warning, warning_of_number};
+ghost use Rattle.tangle_names.specs.Numbers.{fault_of_number, key_texts};
+ghost use Rattle.tangle_names.specs.Numbers.{warning, warning_of_number};
 ghost use Rattle.tangle_names.specs.Resolution.{IsResolutionOf};
 
 use crate::Resolved;

@@ -1,4 +1,5 @@
-//! What the names of a web resolve to. It depends on how the occurrences are written, and on no place.
+//! What the names of a web resolve to. It depends on how the occurrences are written, and on no
+//! place.
 ghost use Rattle.std.specs.Prelude.{◌≡◌, ◌↔◌, IfOk, IsTrue};
 ghost use Rattle.tangle_names.specs.NameTable.{AreWrittenAlike, written_name};
 ghost use Rattle.tangle_names.specs.Resolution.{IsResolutionOf};
@@ -20,7 +21,8 @@ pub(crate) struct Resolution {
     pub(crate) resolved: Vec<Resolved>,
     // The number of each name's first occurrence.
     pub(crate) firsts: Vec<usize>,
-    // The number of each name's first occurrence as a file; the count of occurrences, where it has none.
+    // The number of each name's first occurrence as a file; the count of occurrences, where it has
+    // none.
     pub(crate) first_files: Vec<usize>,
     // The numbers of the occurrences that resolve to no name.
     pub(crate) unresolved: Vec<usize>,

@@ -1,4 +1,5 @@
-//! Tables that are built beside older ones: faults are placed anew, and each allocation fails in turn.
+//! Tables that are built beside older ones: faults are placed anew, and each allocation fails in
+//! turn.
 ghost use Rattle.std.specs.Prelude.{◌≡◌};
 ghost use Rattle.tangle_names.specs.NameTable.{table_of};
 
