@@ -99,7 +99,7 @@ impl Store {
     ///
     /// # Errors
     ///
-    /// `NoMemory`, where a growth was refused. The old store stays as it is.
+    /// `NoMemory`, where an allocation failed. The old store stays as it is.
     pub fn rebuild(
         alloc: Global,
         web: &Web,

@@ -67,7 +67,7 @@ fn affected_without(
     Ok((nodes, end_refusals(alloc, is_harnessed)))
 }
 
-// The store of the web before an edit, and that of the web behind it, made over the one before with this growth refused.
+// Whether the store of the web behind an edit is made over the one of the web before it, where this allocation fails: then none does.
 fn rebuilding_is_spared(
     rt: &impl Abort,
     alloc: Global,
