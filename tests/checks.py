@@ -1,4 +1,4 @@
-"""What the tests over the built programs share: counting checks, laying out files, comparing texts."""
+"""What the tests over the built programs share: counted checks, files and differences."""
 import os
 import tempfile
 
