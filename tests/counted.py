@@ -4,10 +4,11 @@ in vain shows here: twice, or in a second work.
 usage: counted.py RETANGLE REFUSE      REFUSE is tests/refuse.c as a library
 
 A conversation is counted with and without its last edit: the difference is what this edit took.
-Files are read and scanned, and texts are taken, anew for each edit and at a start, with allocations
-for each name; what names resolve to is kept by an edit that leaves them written as they were. These
-allocations are the same in both of what is compared here. What is left is the expansions, and some
-lists, whose room doubles. The last line is 'N passed, M failed'.
+Files are read and scanned anew for each edit and at a start, with allocations for each name; what
+names resolve to is kept by an edit that leaves them written as they were, and so are the texts of
+nodes whose pieces it leaves. These allocations are the same in both of what is compared here. What
+is left is the expansions, the texts of the nodes that changed, and some lists, whose room doubles.
+The last line is 'N passed, M failed'.
 """
 import os
 import subprocess
@@ -20,9 +21,11 @@ retangle, refuse = (os.path.abspath(path) for path in sys.argv[1:3])
 SECONDS = 60
 SIZES = (10, 1000, 10000)
 
-# What an edit takes for a first affected node that uses none: the list of the affected nodes, the
-# list of the work, and the expansion; and for another such node: its expansion.
-ONE_NODE, ANOTHER = 3, 1
+# What an edit takes for a node that it changed, and that uses none: the expansion; and for its text
+# the name, the bytes, the plan, what tells the shape, and what holds these. For the first one it
+# takes the list of the affected nodes, that of the work, and two buffers for planning besides.
+ANOTHER = 6
+ONE_NODE = ANOTHER + 4
 # Allocations of lists that have a place for each node: each of them doubles the room of one list.
 DOUBLINGS = 60
 CIRCULAR = '@<z@>'
@@ -107,11 +110,12 @@ def check_size(count):
           % (nothing, in_circle))
 
     # The expansion of the last name takes one allocation, and that of each name that uses it two,
-    # since it has a list of its uses. The program's list doubles its room.
+    # since it has a list of its uses. The program's list doubles its room. So do lists of names that
+    # may have a fault, which are longer where nothing can be expanded.
     least = 2 * count + 1
     start = project.start - circular.start
-    check(least <= start <= least + DOUBLINGS, name,
-          'expansions at the start: %d allocations, at least %d' % (start, least))
+    check(abs(start - least) <= DOUBLINGS, name,
+          'expansions at the start: %d allocations, about %d' % (start, least))
     everything = taken(project, [], [(project.line_of_last, '2')], count + 2) - nothing
     check(least <= everything <= least + DOUBLINGS, name,
           'expansions for an edit: %d allocations, at least %d' % (everything, least))
