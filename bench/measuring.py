@@ -109,10 +109,10 @@ class Bench:
 
     def check(self, folder, commands):
         """Ends the benchmark where commands are answered otherwise than they have to be."""
-        wanted = [answer for command in commands for answer in command.answers]
+        required = [answer for command in commands for answer in command.answers]
         answers = self.answers(folder, lines_of(commands))
-        if answers != wanted:
-            pairs = zip(answers + [None], wanted + [None])
+        if answers != required:
+            pairs = zip(answers + [None], required + [None])
             sys.exit('wrong answer: %s' % next(pair for pair in pairs if pair[0] != pair[1])[0])
 
     def cost_of_one(self, folder, commands, few=2):

@@ -32,7 +32,7 @@ import webs
 from measuring import HERE, RUNS, UNREPORTED, Bench, Command, lines_of, own_instructions
 
 DROPPED = '...'             # behind the names of parts: they are abbreviations of none
-WANTED = {'hiformat.w': 0.49, 'mp.w': 0.52, 'hitex.w': 0.57}    # beside CTANGLE 4.11
+REQUIRED = {'hiformat.w': 0.49, 'mp.w': 0.52, 'hitex.w': 0.57}    # beside CTANGLE 4.11
 
 
 def table(title, head, rows):
@@ -81,7 +81,7 @@ def bench_cutting(bench):
         rows.append(['Rust, Vec<Vec<u8>>', theirs.seconds, theirs.kilobytes, quotient])
     else:
         rows.append(['Rust, Vec<Vec<u8>>', 'no rustc', '', ''])
-    table('Cutting 50,000,000 bytes into 1,000,000 lines (wanted: at most as long as Rust)',
+    table('Cutting 50,000,000 bytes into 1,000,000 lines (required: at most as long as Rust)',
           ['', 'seconds', 'KB', 'ctangle to it'], rows)
 
 
@@ -93,7 +93,7 @@ def bench_reading(bench):
     plain = bench.measure(bench.folder(included), ['a']).seconds - cut
     changed = bench.measure(bench.folder(changes), ['a', 'a']).seconds - cut
     table('Reading 1,000,000 included lines, without the cutting',
-          ['', 'seconds', 'ratio', 'wanted'],
+          ['', 'seconds', 'ratio', 'required'],
           [['cutting them', cut, '', ''],
            ['reading them', plain, ratio(plain, cut), 'at most 1.5 times cutting'],
            ['with 10,000 changes', changed, ratio(changed, plain), 'at most 2 times without']])
@@ -127,7 +127,7 @@ def bench_scanning(bench):
         rows.append(['{:,} lines'.format(count), per(until and until - cut, count, 1000),
                      per(whole, count, 1000), run.seconds,
                      (run.kilobytes - bench.least) * 1024 / size_of(lines)])
-    table('Lines of C: reading and scanning (wanted: at most 1,300,000 instructions per 1,000 '
+    table('Lines of C: reading and scanning (required: at most 1,300,000 instructions per 1,000 '
           'lines, flat; at most 5.5 bytes of memory a byte)',
           ['', 'instructions per 1,000', 'a whole run, with loading and writing', 'seconds',
            'memory per byte'], rows)
@@ -158,7 +158,7 @@ class Web:
         self.title, self.folder, self.name = title, folder, name
         self.lines, self.size = lines, size
         self.dropped = None                     # its lines with all parts dropped
-        self.wanted = ''                        # at most so much of the instructions of CTANGLE
+        self.required = ''                        # at most so much of the instructions of CTANGLE
 
 
 def generated(bench, title, lines):
@@ -173,7 +173,7 @@ def whole_webs(bench):
                 text = file.read()
             name = os.path.basename(path)
             web = Web(name, bench.folder_of(path), name, text.count(b'\n'), len(text))
-            web.wanted = WANTED.get(name, '')
+            web.required = REQUIRED.get(name, '')
             yield web
     for count in (10000, 100000, 1000000):
         web = generated(bench, '{:,} lines'.format(count), webs.named_program(count))
@@ -197,8 +197,8 @@ def bench_whole(bench):
         rows.append([web.title] + [per(count, web.lines, 1000) for count in counts] +
                     [ours.seconds * 1000, ours.kilobytes, held, str(ours.status)])
         if other:
-            beside.append([web.title] + compared(*runs) + [web.wanted])
-    table('Whole runs (wanted: at most 1,700,000 instructions per 1,000 lines of generated webs, '
+            beside.append([web.title] + compared(*runs) + [web.required])
+    table('Whole runs (required: at most 1,700,000 instructions per 1,000 lines of generated webs, '
           'flat within a tenth, of them at most 700,000 behind scanning, for store, expansions and '
           'writing; at most 7.5 bytes of memory a byte)',
           ['', 'instructions per 1,000 lines', 'behind scanning, at least', 'at most',
@@ -219,7 +219,7 @@ def compared(ours, theirs):
 
 def compare_table(title, rows):
     table(title, ['', 'instructions', 'of it', 'ratio', 'milliseconds', 'of it', 'ratio', 'KB',
-                  'of it', 'ratio', 'wanted of instructions, at most'], rows)
+                  'of it', 'ratio', 'required of instructions, at most'], rows)
 
 
 def bench_files(bench):
@@ -238,7 +238,7 @@ def bench_files(bench):
                      ratio(each[1], first[1]), ours.kilobytes])
         if other:
             beside.append([web.title] + compared(*runs) + [''])
-    table('Output files, each of one part of one line (wanted: one of 40,000 takes at most 1.3 times '
+    table('Output files, each of one part of one line (required: one of 40,000 takes at most 1.3 times '
           'what one of 10,000 takes)',
           ['', 'instructions a file', 'ratio', 'seconds', 'microseconds a file', 'ratio', 'KB'],
           rows)
@@ -255,7 +255,7 @@ def bench_session(bench):
         folder = bench.folder({'a.w': lines})
         whole, own = own_instructions(bench.program, folder, 'tangle_session::session::')
         rows.append([name, whole, own, ratio(own, whole)])
-    table('What the session itself takes of a run (wanted: at most 0.03)',
+    table('What the session itself takes of a run (required: at most 0.03)',
           ['', 'instructions', 'its own', 'ratio'], rows)
 
 
@@ -281,7 +281,7 @@ def bench_edits(bench):
                  for count in (10, 1000))
     table('Edits by retangle of a web of 35,000 lines with 3,000 names, of which ctangle takes %s '
           'instructions, behind scanning %s' % (show(whole), show(of_whole)),
-          ['', 'instructions or KB', 'ratio', 'wanted'],
+          ['', 'instructions or KB', 'ratio', 'required'],
           [['one replace of a line of a leaf', edit, ratio(edit, whole),
             'at most 0.76 of a whole run, and 72,000,000'],
            ['one line more in front of all others', moves, ratio(moves, whole), 'no more than it'],
@@ -301,7 +301,7 @@ def bench_marks(bench):
     marks = bench.cost_of_one(folder, settings(12))
     edit = bench.cost_of_one(folder, rewordings(lines, 12))
     table('The setting of line marks by retangle, over the web of 35,000 lines',
-          ['', 'instructions', 'ratio', 'wanted'],
+          ['', 'instructions', 'ratio', 'required'],
           [['an edit that affects no node', edit, '', ''],
            ['marks none and marks full in turn', marks, ratio(marks, edit), 'within 0.02 of it']])
 
@@ -315,7 +315,7 @@ def bench_lists(bench):
     lists = [as_list(edits[start:start + 100]) for start in range(0, 600, 100)]
     hundred = bench.cost_of_one(folder, lists)
     table('A list of edits by retangle of the web of 35,000 lines',
-          ['', 'instructions', 'ratio', 'wanted'],
+          ['', 'instructions', 'ratio', 'required'],
           [['one replace', edit, '', ''],
            ['a list of 100 replaces, each in another leaf', hundred, ratio(hundred, edit),
             'at most 1.1 of one']])
@@ -325,7 +325,7 @@ def bench_lists(bench):
     alone, given = (bench.run_of_script(folder, script, runs=3)
                     for script in ([], lines_of(inserts)))
     table('A list of 10,000 inserts at line 1 of a web of 100,000 lines',
-          ['', 'seconds', 'KB', 'wanted'],
+          ['', 'seconds', 'KB', 'required'],
           [['a run without it', alone.seconds, alone.kilobytes, ''],
            ['with it', given.seconds, given.kilobytes, ''],
            ['the list', given.seconds - alone.seconds, given.kilobytes - alone.kilobytes,

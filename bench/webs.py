@@ -2,7 +2,7 @@
 import random
 
 FUNCTION = '''\
-@ Function {n} adds up a part of the table, and this line tells so with |code| between bars.
+@ Function {n} adds up a part of the table, and this line reports so with |code| between bars.
 The sum stops at a limit that grows with the number of the function.
 @d LIMIT_{n} ({n} * 10)
 

@@ -34,9 +34,9 @@ LONGEST = 2000
 ROLES = Roles(b'a.w', None, b'a.c')
 
 
-def tangled(words, folder):
+def tangled(arguments, folder):
     """The status, standard error and the output files that the reference gives."""
-    names = programs.read_words(words)
+    names = programs.read_words(arguments)
     if names is None:
         return 2, programs.USAGE, {}
     try:
@@ -68,22 +68,22 @@ def files_of(folder):
     return found
 
 
-def run(program, words, folder, script=None):
-    return subprocess.run([program] + words, cwd=folder, input=script or b'', capture_output=True, timeout=SECONDS)
+def run(program, arguments, folder, script=None):
+    return subprocess.run([program] + arguments, cwd=folder, input=script or b'', capture_output=True, timeout=SECONDS)
 
 
 def arguments_of(project, seed):
     """Arguments that name the project's files, with and without extensions and flags."""
-    words = ['+s'] if seed % 5 == 0 else []
-    words.append('a' if seed % 2 else 'a.w')
+    arguments = ['+s'] if seed % 5 == 0 else []
+    arguments.append('a' if seed % 2 else 'a.w')
     has_out = project.out != b'a.c'
     if project.change:
-        words.append('a' if seed % 3 else 'a.ch')
+        arguments.append('a' if seed % 3 else 'a.ch')
     elif has_out:
-        words.append('-')
+        arguments.append('-')
     if has_out:
-        words.append(os.fsdecode(project.out))
-    return words
+        arguments.append(os.fsdecode(project.out))
+    return arguments
 
 
 def shown(ended):
@@ -96,18 +96,18 @@ class Comparison:
         self.program = os.path.abspath(program)
         self.passed = self.failed = 0
 
-    def count(self, name, wanted, found):
-        if wanted == found:
+    def count(self, name, expected, found):
+        if expected == found:
             self.passed += 1
             return
         self.failed += 1
         if self.failed <= SHOWN:
-            print('FAIL %s:\n    wanted %s\n    found  %s' % (name, shown(wanted), shown(found)))
+            print('FAIL %s:\n    expected %s\n    found  %s' % (name, shown(expected), shown(found)))
 
-    def compare_run(self, name, words, folder):
-        status, faults, files = tangled(words, folder)
+    def compare_run(self, name, arguments, folder):
+        status, faults, files = tangled(arguments, folder)
         before = files_of(folder)
-        done = run(self.program, words, folder)
+        done = run(self.program, arguments, folder)
         self.count(name, (status, b'', faults, {**before, **files}),
                    (done.returncode, done.stdout, done.stderr, files_of(folder)))
 
@@ -143,14 +143,14 @@ class Comparison:
         for seed in range(first, first + count):
             project, text = generator.script(seed)
             lay(folder, project.files)
-            words = ['a', '--out', os.fsdecode(project.out)] + (['--change', 'a'] if project.change else [])
-            loaded = programs.load(programs.read_retangle(words), programs.Folder(folder))
+            arguments = ['a', '--out', os.fsdecode(project.out)] + (['--change', 'a'] if project.change else [])
+            loaded = programs.load(programs.read_retangle(arguments), programs.Folder(folder))
             try:
                 answers = Script(Session(*loaded, watch), text)
             except TooLarge:
                 print('generated script %d is too large' % seed)
                 continue
-            done = run(self.program, words, folder, text)
+            done = run(self.program, arguments, folder, text)
             self.count('generated script %d' % seed, (answers.status, answers.written, b''),
                        (done.returncode, done.stdout, done.stderr))
 

@@ -4,7 +4,7 @@ which says by computing alone what the depths, weights and texts of the web's no
 
 usage: tests/computed_webs.py FOLDER FIRST COUNT
 
-FOLDER is a new folder beside the other crates, and FIRST the seed to begin with. In crates.txt stands
+FOLDER is a new folder beside the other crates, and FIRST the seed to begin with. In crates.txt is
     FOLDER: tangle_graph digraph tangle_expansion tangle_names tangle_scan tangle_lexer tangle_lines tangle_files
 and 'rt check' in the folder says whether all lemmas hold. The gate does not do this.
 
@@ -29,7 +29,7 @@ HEAD = '''-- Generated webs: the depths, weights and texts of their nodes, and t
 use Rattle.std.proofs.Common.{◌≡◌, ℕ, List, [], ◌∷◌, ◌++◌, refl}
 use Rattle.std.specs.Prelude.{codes, map, true, false}
 use Rattle.std.specs.Fmt.{digits}
-use Rattle.tangle_lexer.specs.Steps.{lexeme, names_from, tokens_from}
+use Rattle.tangle_lexer.specs.Steps.{lexeme, occurrences_from, tokens_from}
 use Rattle.tangle_expansion.specs.Limits.{levels, heaviest}
 use Rattle.tangle_expansion.specs.Shapes.{Program, Named}
 use Rattle.%s.proofs.Shown.{line, shown}
@@ -44,7 +44,7 @@ use Rattle.tangle_names.specs.NameTable.{table_of}
 use Rattle.tangle_expansion.specs.Shapes.{Title}
 use Rattle.tangle_expansion.specs.Flat.{flat, weight, depth}
 use Rattle.tangle_expansion.specs.Limits.{levels}
-use Rattle.tangle_expansion.specs.Projects.{project}
+use Rattle.tangle_expansion.specs.WebShapes.{shapes}
 use Rattle.tangle_expansion.specs.Numbers.{numbers_of, text}
 use Rattle.tangle_expansion.specs.Outputs.{file_text}
 use Rattle.tangle_files.specs.declared.marks.MarkMode.TheVariants.{Full}
@@ -74,17 +74,17 @@ source files lines = record { files = map (λ name. (name, [])) files; lines = l
 
 abbrev pub node_of : WebRead → Title → Node
 node_of web title = record {
-  depth = depth levels (project web (table_of web)) title;
-  weight = weight levels (project web (table_of web)) title;
-  text = text (numbers_of web (table_of web) Full) (flat levels (project web (table_of web)) title);
+  depth = depth levels (shapes web (table_of web)) title;
+  weight = weight levels (shapes web (table_of web)) title;
+  text = text (numbers_of web (table_of web) Full) (flat levels (shapes web (table_of web)) title);
 }
 
 -- of the nodes the first, of those that reach a name that contains itself the depth, and the output files
 abbrev pub shown_of : WebRead → List ℕ → List Title → List Title → Shown
 shown_of web out nodes circular = record {
   nodes = map (node_of web) nodes;
-  circular = map (depth levels (project web (table_of web))) circular;
-  files = map (λ o. record { name = o.name; bytes = file_text (numbers_of web (table_of web) Full) o.has_macros o.has_piece (flat levels (project web (table_of web)) (title_of_node (table_of web).names o.node)) }) (outputs web (table_of web) out);
+  circular = map (depth levels (shapes web (table_of web))) circular;
+  files = map (λ o. record { name = o.name; bytes = file_text (numbers_of web (table_of web) Full) o.has_macros o.has_piece (flat levels (shapes web (table_of web)) (title_of_node (table_of web).names o.node)) }) (outputs web (table_of web) out);
 }
 
 abbrev pub shown : List (List ℕ) → List Line → List ℕ → List Title → List Title → Shown
@@ -158,7 +158,7 @@ def lemma(seed):
   circular = %s;
   files = %s;
 }
-unfolding lexeme tokens_from names_from digits levels heaviest
+unfolding lexeme tokens_from occurrences_from digits levels heaviest
 %s = refl
 ''' % (name, list_term([bytes_term(file) for file, _ in files]), list_term(lines), bytes_term(roles.out),
         list_term(list(map(title_term, plain))), list_term(list(map(title_term, circular))), list_term(nodes),
@@ -173,9 +173,9 @@ def write(folder, path, text):
 
 
 def main():
-    folder, seed, wanted = sys.argv[1], int(sys.argv[2]), int(sys.argv[3])
+    folder, seed, expected = sys.argv[1], int(sys.argv[2]), int(sys.argv[3])
     lemmas = []
-    while len(lemmas) < wanted:
+    while len(lemmas) < expected:
         made = lemma(seed)
         seed += 1
         if made is not None:
@@ -184,11 +184,11 @@ def main():
     write(folder, 'src/lib.rt', '//! Generated webs, computed.\n#![tactic(auto)]\n')
     write(folder, 'proofs/Shown.antt', SHOWN)
     modules = ['Shown']
-    for at in range(0, wanted, WEBS_A_FILE):
+    for at in range(0, expected, WEBS_A_FILE):
         modules.append('Webs%d' % (at // WEBS_A_FILE))
         write(folder, 'proofs/%s.antt' % modules[-1], HEAD % crate + '\n'.join(lemmas[at:at + WEBS_A_FILE]))
     write(folder, 'proofs/Lib.antt', ''.join('mod %s\n' % module for module in modules))
-    print('%d webs, of seeds below %d' % (wanted, seed))
+    print('%d webs, of seeds below %d' % (expected, seed))
 
 
 if __name__ == '__main__':

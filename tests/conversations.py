@@ -89,7 +89,7 @@ def converse(name, files, arguments, turns):
 
 
 def turns_of(conversation):
-    """The commands, with their texts, and the answers of a conversation in which > stands before what is typed."""
+    """The commands, with their texts, and the answers of a conversation in which > is before what is typed."""
     turns, takes_text = [], False
     for line in conversation.splitlines(True):
         if line.startswith(b'> '):
@@ -118,7 +118,7 @@ def test_stored_conversations():
     folder = os.path.join(top, 'tests', 'conversations')
     for name in sorted(os.listdir(folder)):
         case = {}
-        for part in ('words', 'stdin', 'stdout', 'status'):
+        for part in ('arguments', 'stdin', 'stdout', 'status'):
             with open(os.path.join(folder, name, part), 'rb') as file:
                 case[part] = file.read()
         files = {}
@@ -126,7 +126,7 @@ def test_stored_conversations():
             with open(os.path.join(folder, name, 'in', file_name), 'rb') as file:
                 files[file_name] = file.read()
         for size in (1, 7, 1 << 20):
-            written, status, errors = run_script(Room(files), case['words'].decode().split(), case['stdin'], size)
+            written, status, errors = run_script(Room(files), case['arguments'].decode().split(), case['stdin'], size)
             check((written, status) == (case['stdout'], int(case['status'])), name, '%r, status %d' % (written, status))
             check(not errors, name, errors)
 
@@ -141,10 +141,10 @@ def answered(script, files=(), roles=ROLES):
     return done.written, done.status
 
 
-def check_script(name, script, wanted, status=0, files=None, size=1 << 20):
+def check_script(name, script, expected, status=0, files=None, size=1 << 20):
     """What is written for a script over these files, the web of one piece if none are given."""
     written, ended, _ = run_script(Room(files or {'a.w': WEB}), ['a'], script, size)
-    check((written, ended) == (wanted, status), name,
+    check((written, ended) == (expected, status), name,
           'to %r, in pieces of %d, the answer is %r, status %d'
           % (script[-100:], size, written[-200:], ended))
 
@@ -307,7 +307,7 @@ def test_failing_reader():
 
 
 def test_failing_writer():
-    """The writer fails at each byte of the answers: what went out is the front of them, and the status is 3."""
+    """The writer fails at each byte of the answers: what was written is the front of them, and the status is 3."""
     script = (b'work\nreplace 3 a.w\nint y;\nshow a.c\nshow b\nfaults\nmarks none\nbegin\n'
               b'remove 9 a.w\nwork\ncommit\nbegin\nreplace 3 a.w\nint z;\ncommit\nshow a.c\nbegin\n'
               b'cancel\nquit\n')

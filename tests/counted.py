@@ -22,7 +22,7 @@ SECONDS = 60
 SIZES = (10, 1000, 10000)
 
 # What an edit takes for a node that it changed, and that uses none: the expansion; and for its text
-# the name, the bytes, the plan, what tells the shape, and what holds these. For the first one it
+# the name, the bytes, the plan, what determines the shape, and what holds these. For the first one it
 # takes the list of the affected nodes, that of the work, and two buffers for planning besides.
 ANOTHER = 6
 ONE_NODE = ANOTHER + 4

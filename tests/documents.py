@@ -2,7 +2,7 @@
 
 usage: documents.py [FOLDER]      the folder of the repository
 
-- docs/definitions.md: each definition stands in the file beside it, each file of code is there, and
+- docs/definitions.md: each definition is in the file beside it, each file of code is there, and
   each promise is a function of the file beside it, with that clause; each file of specs/ is in the
   map, and each page of docs/ that names it has a part there.
 - docs/promises.md: each public call of a crate that has a table there is in it.
@@ -10,7 +10,7 @@ usage: documents.py [FOLDER]      the folder of the repository
   in its table and in docs/retangle.1. README.md names each page of docs/.
 - crates/*/must-fail and tests/wrong-bodies: each public function that is no law has an edit of its own, or of a private
   function that it calls, unless docs/wrong-bodies.md has it in a row '| `CRATE` | without an edit: `TYPE::NAME`, `NAME` |
-  why |'. Each text that an edit replaces stands once in its file.
+  why |'. Each text that an edit replaces is once in its file.
 - The crates from the expansions upwards: works are begun, nodes expanded and texts written where
   CALLS and MADE say, and nowhere else; bugs that are planted in a copy of the code are seen.
 The last line is 'N passed, M failed'.
@@ -47,7 +47,7 @@ CALLS = {
     'expand': ['tangle_graph/store.rt: expand_one'],
     # files.rt has a function of this name of its own, which reads what is kept
     'expansion_of': ['tangle_expansion/expanding.rt: expand', 'tangle_expansion/files.rt: write_file'],
-    'plan_node': ['tangle_graph/texts.rt: text_of_node'],
+    'plan_node': ['tangle_graph/bodies.rt: body_of_node'],
     'put_text': ['tangle_expansion/writing.rt: put_text', 'tangle_expansion/writing.rt: write_text',
                  'tangle_expansion/files.rt: write_file'],
     'write_text': [],
@@ -60,7 +60,7 @@ CALLS = {
 # type is copied, and a share of an expansion expands nothing.
 MADE = {
     'Work': ['tangle_expansion/work.rt: new'],
-    'Body': ['tangle_expansion/expanding.rt: expansion_of'],
+    'SharedExpansion': ['tangle_expansion/expanding.rt: expansion_of'],
     'Expansion': ['tangle_expansion/expanding.rt: expansion_of', 'tangle_expansion/expansion.rt: share'],
 }
 
@@ -94,7 +94,7 @@ PLANTED = {
         '    let second = Work { nodes: Vec::new(alloc) };\n    drop(second);\n    work.add(node)?;\n'),
     'a session writes its outputs when it starts': (
         'tangle_session', 'session.rt', '        let mut work = Work::new(alloc);\n',
-        '        write_text(&expansion, &ground.numbers, &mut sink)?;\n        let mut work = Work::new(alloc);\n'),
+        '        write_text(&expansion, &analysis.numbers, &mut sink)?;\n        let mut work = Work::new(alloc);\n'),
 }
 
 def texts_in(folder, ending):
@@ -153,8 +153,8 @@ class Map:
             texts = [one[4] for one in functions_in(self.file(path, 'src'))
                      if one[2] == call.split('::')[-1]]
             check(texts, self.name, '%s is not in %s' % (call, path))
-            wanted = r'ensures %s\b' % re.escape(clause) if clause else r'\bensures\b'
-            check(any(re.search(wanted, text) for text in texts), self.name,
+            expected = r'ensures %s\b' % re.escape(clause) if clause else r'\bensures\b'
+            check(any(re.search(expected, text) for text in texts), self.name,
                   'no clause %s of %s in %s' % (clause, call, path))
 
     def file(self, path, folder):
@@ -183,7 +183,7 @@ class Map:
 # ------------------------------------------------------------------ the conversation
 
 def check_conversation(top):
-    """What stands behind '$ retangle a': lines that begin with > are typed, over the file shown before."""
+    """What is behind '$ retangle a': lines that begin with > are typed, over the file shown before."""
     path = os.path.join(top, 'docs', 'sessions.md')
     if not os.path.exists(path):
         return
@@ -217,9 +217,9 @@ def check_commands(crates, top):
 
 def check_readme(top):
     with open(os.path.join(top, 'README.md'), encoding='utf-8') as source:
-        told = set(CODED.findall(source.read()))
+        reported = set(CODED.findall(source.read()))
     for page in sorted(os.listdir(os.path.join(top, 'docs'))):
-        check('docs/%s' % page in told, 'README.md', 'docs/%s is not in it' % page)
+        check('docs/%s' % page in reported, 'README.md', 'docs/%s is not in it' % page)
 
 
 # ------------------------------------------------------------------ wrong bodies
@@ -248,9 +248,9 @@ def surface_of(here, functions):
 
 
 def check_promises(crate, here, part):
-    """Each public call stands in the tables of docs/promises.md, as NAME or TYPE::NAME."""
-    told = {word.split('::')[-1] for word in CODED.findall(part)}
-    missing = sorted({one[3] for one in surface_of(here, functions_of(here))} - told)
+    """Each public call is in the tables of docs/promises.md, as NAME or TYPE::NAME."""
+    reported = {word.split('::')[-1] for word in CODED.findall(part)}
+    missing = sorted({one[3] for one in surface_of(here, functions_of(here))} - reported)
     check(not missing, 'docs/promises.md', '%s of %s' % (', '.join(missing), crate))
 
 
@@ -269,7 +269,7 @@ def check_edits(crate, here, excused):
 
 
 def check_edits_apply(crate, here):
-    """Each text that an edit replaces stands once in its file, when its turn comes."""
+    """Each text that an edit replaces is once in its file, when its turn comes."""
     for name, edit in [*here.edits.items(), *here.further_edits.items()]:
         texts, file = dict(here.code), None
         turns = re.findall(r'^(?:file: src/(\S+)\n)?old: ?(.*)\nnew: ?(.*)', edit, re.M)
@@ -288,7 +288,7 @@ def code_of(text):
 
 
 def uses_of(texts, word):
-    """Where a word stands that has this form: FILE: FUNCTION, once for each time."""
+    """Where a word is that has this form: FILE: FUNCTION, once for each time."""
     found = []
     for file, text in texts.items():
         functions = list(functions_in(text))
@@ -304,16 +304,16 @@ def problems_of_calls(sources):
     whole = '\n'.join(texts.values())
     problems = ['%s has another name' % word for word in {*(called.split('::')[0] for called in CALLS), *MADE}
                 for text in sources.values() if re.search(r'\b%s\s+as\b' % word, re.sub(r'//.*', '', text))]
-    for called, wanted in CALLS.items():
+    for called, expected in CALLS.items():
         name = r'(?<!fn )(?<!\w)%s(?!\w)' % called.replace('::', r'\s*>?\s*::\s*')
         found = uses_of(texts, name)
-        if sorted(found) != sorted(wanted):
-            problems.append('%s stands in %s' % (called, ', '.join(found) or 'no function'))
+        if sorted(found) != sorted(expected):
+            problems.append('%s is in %s' % (called, ', '.join(found) or 'no function'))
         if re.search(name + r'(?!\s*(?:::\s*<[^>]*>)?\s*\()', whole):
-            problems.append('%s stands where it is not called' % called)
-    for made, wanted in MADE.items():
+            problems.append('%s is where it is not called' % called)
+    for made, expected in MADE.items():
         found = uses_of(texts, r'(?<!impl )(?<!for )(?<!struct )(?<!-> )(?<!\w)%s \{' % made)
-        if sorted(found) != sorted(wanted):
+        if sorted(found) != sorted(expected):
             problems.append('%s is made in %s' % (made, ', '.join(found) or 'no function'))
         if re.search(r'\btype\s[^;]*=[^;]*\b%s\b' % made, whole):
             problems.append('%s has another name' % made)

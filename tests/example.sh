@@ -11,7 +11,7 @@ test_example() {
     for line in '15 primes below 50' '25 primes below 100'; do
         if grep -qx "$line" "$room/log"; then pass; else fail example "no line '$line'"; fi
     done
-    # what comes out stands beside the web for a reader
+    # what comes out is beside the web for a reader
     for file in primes.c more-primes.c primes.h; do
         if cmp -s "$room/example/out/$file" "$top/examples/expected/$file"; then pass; else fail example "another $file"; fi
     done

@@ -57,17 +57,17 @@ SCRIPT = 'insert 1 a.w\n% top\nwork\nremove 1 a.w\nwork\n'
 class Taken:
     """What a run over a web takes."""
 
-    def __init__(self, lines, words, script, counter):
+    def __init__(self, lines, arguments, script, counter):
         web = '\n'.join(lines) + '\n'
         with folder_with({'a.w': web.encode(), 'script': script.encode()}) as folder:
             given, used = os.path.join(folder, 'script'), os.path.join(folder, 'used')
-            self.run([measure, used] + words, folder, given)
+            self.run([measure, used] + arguments, folder, given)
             with open(used) as reported:
                 self.time, self.held = map(int, reported.read().split())
-            self.run(words, folder, given, LD_PRELOAD=refuse, COUNT_TO=used)
+            self.run(arguments, folder, given, LD_PRELOAD=refuse, COUNT_TO=used)
             with open(used) as reported:
                 self.allocations, self.asked = map(int, reported.read().split())
-            self.instructions = counter and counter(words, folder, NOTHING, given)
+            self.instructions = counter and counter(arguments, folder, NOTHING, given)
 
     @staticmethod
     def run(command, folder, given, **variables):

@@ -1,6 +1,6 @@
 """Webs whose graph of names is made to cost time, with what a run over each has to write.
 
-usage: hostile.py NAME FOLDER      makes FOLDER/in, FOLDER/want, FOLDER/stderr and FOLDER/status; without words, the names
+usage: hostile.py NAME FOLDER      makes FOLDER/in, FOLDER/expected, FOLDER/stderr and FOLDER/status; without arguments, the names
 
 Each output and each fault is written down here by the rules of docs/expansion.md, with no graph: the webs are regular.
 """
@@ -150,10 +150,10 @@ def main():
         print('\n'.join(CASES))
         return
     case, folder = CASES[sys.argv[1]](), sys.argv[2]
-    for below in ('in', 'want'):
+    for below in ('in', 'expected'):
         os.makedirs(os.path.join(folder, below), exist_ok=True)
-    texts = {'in/a.w': ''.join(case.web), 'stderr': ''.join(case.faults), 'status': '%d\n' % case.status, 'words': 'a\n'}
-    texts.update(('want/' + name, text) for name, text in case.files.items())
+    texts = {'in/a.w': ''.join(case.web), 'stderr': ''.join(case.faults), 'status': '%d\n' % case.status, 'arguments': 'a\n'}
+    texts.update(('expected/' + name, text) for name, text in case.files.items())
     for name, text in texts.items():
         with open(os.path.join(folder, name), 'w', encoding='latin-1') as out:
             out.write(text)

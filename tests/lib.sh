@@ -1,8 +1,8 @@
 # What the shell tests share: running a case, and counting.
 #
-# A case is a folder: in/ (the folder in which the program runs), words (the arguments, one a
-# line), want/ (the files that the run creates, and no other), stderr, status. A missing in/ or
-# want/ is an empty one.
+# A case is a folder: in/ (the folder in which the program runs), arguments (one a
+# line), expected/ (the files that the run creates, and no other), stderr, status. A missing in/ or
+# expected/ is an empty one.
 
 passed=0
 failed=0
@@ -20,14 +20,14 @@ skip() { # NAME REASON
     echo "skipped: $1 ($2)"
 }
 
-# Starts a case that a test makes, in $case: it wants status 0, no file and nothing on standard error.
+# Starts a case that a test makes, in $case: it needs status 0, no file and nothing on standard error.
 begin_case() { # WORDS..
     case=$room/case
     rm -rf "$case"
-    mkdir "$case" "$case/in" "$case/want"
+    mkdir "$case" "$case/in" "$case/expected"
     for word; do
         printf '%s\n' "$word"
-    done >"$case/words"
+    done >"$case/arguments"
     : >"$case/stderr"
     echo 0 >"$case/status"
 }
@@ -46,32 +46,32 @@ plainly() {
 }
 
 # Runs the program on $1 by the runner $2, a function that is handed the program and its arguments.
-# Leaves the folder in $room/run, what it should hold in $room/want, the streams and $status.
+# Leaves the folder in $room/run, what it should hold in $room/expected, the streams and $status.
 run_program() { # CASE RUNNER
-    rm -rf "$room/run" "$room/want"
-    mkdir "$room/run" "$room/want"
+    rm -rf "$room/run" "$room/expected"
+    mkdir "$room/run" "$room/expected"
     chmod 777 "$room/run"
     if [ -d "$1/in" ]; then
         cp -R "$1/in/." "$room/run"
-        cp -R "$1/in/." "$room/want"
+        cp -R "$1/in/." "$room/expected"
     fi
-    [ ! -d "$1/want" ] || cp -R "$1/want/." "$room/want"
+    [ ! -d "$1/expected" ] || cp -R "$1/expected/." "$room/expected"
     _case=$1 _runner=$2
     set --
     while IFS= read -r word; do
         set -- "$@" "$word"
-    done <"$_case/words"
+    done <"$_case/arguments"
     status=0
     (cd "$room/run" && "$_runner" "$room/ctangle" "$@") >"$room/stdout" 2>"$room/stderr" || status=$?
 }
 
-# Whether the last run ended as $1 says: its status, its streams, and the files that stand there.
+# Whether the last run ended as $1 says: its status, its streams, and the files that are there.
 ended_so() { # CASE
     problem=
     [ "$status" = "$(cat "$1/status")" ] || problem="status $status, not $(cat "$1/status")"
     [ ! -s "$room/stdout" ] || problem="something on standard output"
     cmp -s "$room/stderr" "$1/stderr" || problem="${problem:+$problem; }another standard error"
-    diff -r "$room/want" "$room/run" >"$room/difference" 2>&1 || problem="${problem:+$problem; }other files"
+    diff -r "$room/expected" "$room/run" >"$room/difference" 2>&1 || problem="${problem:+$problem; }other files"
     [ -z "$problem" ]
 }
 

@@ -22,7 +22,7 @@ repeated() { # COUNT TEXT
 
 only_limbo() {
     must_end 0 'warning: no program text'
-    : >"$case/want/a.c"
+    : >"$case/expected/a.c"
 }
 
 test_line_length() {
@@ -96,20 +96,20 @@ test_file_size() {
 test_longest_files() {
     begin_case a
     longest_file "$case/in/a.w" '\n@\n@c\nlast'
-    printf '/*1:*/\n#line 1026 "a.w"\n\nlast\n/*:1*/\n' >"$case/want/a.c"
+    printf '/*1:*/\n#line 1026 "a.w"\n\nlast\n/*:1*/\n' >"$case/expected/a.c"
     run_case 'web of 67,108,864 bytes' "$case"
     printf x >>"$case/in/a.w"
-    rm "$case/want/a.c"
+    rm "$case/expected/a.c"
     must_end 3 'ctangle: cannot read a.w'
     run_case 'web of 67,108,865 bytes' "$case"
 
     begin_case a
     printf '@i b.w\n' >"$case/in/a.w"
     longest_file "$case/in/b.w" '\n@\n@c\nlast'
-    printf '/*1:*/\n#line 1026 "b.w"\n\nlast\n/*:1*/\n' >"$case/want/a.c"
+    printf '/*1:*/\n#line 1026 "b.w"\n\nlast\n/*:1*/\n' >"$case/expected/a.c"
     run_case 'included file of 67,108,864 bytes' "$case"
     printf x >>"$case/in/b.w"
-    rm "$case/want/a.c"
+    rm "$case/expected/a.c"
     must_end 3 'ctangle: cannot read b.w'
     run_case 'included file of 67,108,865 bytes' "$case"
 
@@ -117,10 +117,10 @@ test_longest_files() {
     printf '@ A.\n@c\nint x;\n' >"$case/in/a.w"
     longest_file "$case/in/a.ch" '\n@x\nint x;\n@y\nlast'
     must_end 1 'a.ch:1025: error: change without @z'
-    printf '/*1:*/\n#line 2 "a.w"\n\n#line 1028 "a.ch"\nlast\n/*:1*/\n' >"$case/want/a.c"
+    printf '/*1:*/\n#line 2 "a.w"\n\n#line 1028 "a.ch"\nlast\n/*:1*/\n' >"$case/expected/a.c"
     run_case 'change file of 67,108,864 bytes' "$case"
     printf x >>"$case/in/a.ch"
-    rm "$case/want/a.c"
+    rm "$case/expected/a.c"
     must_end 3 'ctangle: cannot read a.ch'
     run_case 'change file of 67,108,865 bytes' "$case"
 }
@@ -144,7 +144,7 @@ test_file_names() {
     begin_case a
     printf '@i %snn\n' "$name" >"$case/in/a.w"
     must_end 1 "a.w:1: error: included file not found: ${name}nn" 'warning: no program text'
-    : >"$case/want/a.c"
+    : >"$case/expected/a.c"
     run_case 'inclusion with a name of 256 bytes' "$case"
 }
 
@@ -194,7 +194,7 @@ test_lines_taken() {
     repeated 1000000 '
 ' >"$case/in/b.w"
     must_end 1 'b.w:999999: error: too many lines' 'warning: no program text'
-    : >"$case/want/a.c"
+    : >"$case/expected/a.c"
     cc -O2 -o "$room/measure" "$top/tests/measure.c"
     run_case 'more than 2,000,000 lines taken' "$case" measured
     kilobytes=$(cut -d ' ' -f 2 "$room/used")
@@ -212,7 +212,7 @@ test_long_name() {
     {
         printf '/*1:*/\n#line 2 "a.w"\n\n /*2:*/\n#line 4 "a.w"\n\n1\n/*:2*/'
         printf '\n#line 3 "a.w"\n\n/*:1*/\n'
-    } >"$case/want/a.c"
+    } >"$case/expected/a.c"
     run_case 'name of 60,000 bytes' "$case"
 }
 
@@ -233,7 +233,7 @@ test_depth() {
         printf "/*1000:*/\n#line 2000 \"a.w\"\n\n1\n/*:1000*/"
         for (n = 999; n > 0; n--) printf "\n#line %d \"a.w\"\n\n/*:%d*/", 2 * n + 1, n
         printf "\n"
-    }' >"$case/want/a.c"
+    }' >"$case/expected/a.c"
     run_case 'chain of 999 names below the program' "$case"
 
     begin_case a
@@ -255,7 +255,7 @@ heavy_file() { # BYTES
         repeated 5784 z
         printf '\n'
     } >"$case/in/a.w"
-    : >"$case/want/a.c"
+    : >"$case/expected/a.c"
 }
 
 test_weight() {
@@ -272,7 +272,7 @@ test_weight() {
         for number in $(seq 255); do cat "$room/used"; done
         repeated 251 x
         printf '\n/*:1*/\n'
-    } >"$case/want/s.h"
+    } >"$case/expected/s.h"
     run_case 'file of weight 16,777,216' "$case"
 
     begin_case a
@@ -286,7 +286,7 @@ many_sections() { # COUNT
     awk -v count="$1" 'BEGIN {
         for (n = 1; n <= count; n++) printf "/*%d:*/\n#line %d \"a.w\"\n\nx\n/*:%d*/", n, 2 * n, n
         printf "\n"
-    }' >"$case/want/a.c"
+    }' >"$case/expected/a.c"
 }
 
 # More than a small number can count: sections, and names that are used in front of their definitions.
@@ -308,7 +308,7 @@ test_many() {
             printf "\n#line %d \"a.w\"\n\n", n + 2
         }
         printf "/*:1*/\n"
-    }' >"$case/want/a.c"
+    }' >"$case/expected/a.c"
     run_case '5,000 names' "$case"
 
     begin_case a
@@ -321,15 +321,15 @@ test_many() {
         printf '/*1:*/\n#line 2 "a.w"\n\n'
         sed 1,2d "$case/in/a.w"
         printf '/*:1*/\n'
-    } >"$case/want/a.c"
+    } >"$case/expected/a.c"
     must_end 1 'error: too large: the unnamed program'
-    rm "$case/want/a.c"
+    rm "$case/expected/a.c"
     run_case '19,500,000 bytes of C in one part' "$case"
 }
 
-# Between these two words stands nothing but what joins take away.
-wants_joined_words() {
-    printf '/*1:*/\n#line 2 "a.w"\n\nxy\n/*:1*/\n' >"$case/want/a.c"
+# Between these two words is nothing but what joins take away.
+needs_joined_words() {
+    printf '/*1:*/\n#line 2 "a.w"\n\nxy\n/*:1*/\n' >"$case/expected/a.c"
 }
 
 # Parts with so many joins, ASCII constants and line ends that a look at all others from each takes too long.
@@ -341,7 +341,7 @@ test_rare_tokens() {
 "
         printf 'y\n'
     } >"$case/in/a.w"
-    wants_joined_words
+    needs_joined_words
     run_timed_case 'part of 1,000,000 joins' 1000000
 
     begin_case a
@@ -355,7 +355,7 @@ test_rare_tokens() {
         repeated 100 "$(repeated 9999 '97 ')97
 "
         printf '/*:1*/\n'
-    } >"$case/want/a.c"
+    } >"$case/expected/a.c"
     run_timed_case 'part of 1,000,000 ASCII constants that touch' 1000000
 
     begin_case a
@@ -365,7 +365,7 @@ test_rare_tokens() {
 '
         printf 'y\n'
     } >"$case/in/a.w"
-    wants_joined_words
+    needs_joined_words
     run_timed_case 'join before 60,000 line ends' 1000000
 
     begin_case a
@@ -375,7 +375,7 @@ test_rare_tokens() {
 '
         printf 'y\n'
     } >"$case/in/a.w"
-    wants_joined_words
+    needs_joined_words
     run_timed_case 'joins and line ends in turn' 1000000
 }
 

@@ -73,11 +73,11 @@ test_permissions() {
     run_case 'output folder without permission' "$case" locked_away
 }
 
-# A folder stands where the named file is to be written, behind the main file. Of three files the last is not tried.
+# A folder is where the named file is to be written, behind the main file. Of three files the last is not tried.
 test_second_output() {
     begin_case a
     cp -R "$two_outputs/in/." "$case/in"
-    cp "$two_outputs/want/a.c" "$case/want"
+    cp "$two_outputs/expected/a.c" "$case/expected"
     mkdir "$case/in/h.h"
     must_end 3 'ctangle: cannot write h.h'
     run_case 'second output is a folder' "$case"
@@ -128,7 +128,7 @@ test_full_disk() {
         cat "$room/lines"
         printf '/*:1*/\n'
     } >"$room/whole"
-    cp "$room/run/a.c" "$room/want" 2>/dev/null
+    cp "$room/run/a.c" "$room/expected" 2>/dev/null
     if ! ended_so "$case"; then
         report 'disk fills while writing'
     elif ! is_prefix "$room/run/a.c" "$room/whole"; then

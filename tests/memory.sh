@@ -80,7 +80,7 @@ survived() { # CASE
     [ ! -s "$room/stderr" ] || cmp -s "$room/stderr" "$room/no_memory" || cmp -s "$room/stderr" "$room/faults_first" \
         || problem="another standard error"
     for file in "$room/run"/*; do
-        survived_as "$file" "$1/in/${file##*/}" "$room/want/${file##*/}" || problem="${file##*/} is no prefix of its output"
+        survived_as "$file" "$1/in/${file##*/}" "$room/expected/${file##*/}" || problem="${file##*/} is no prefix of its output"
     done
     [ -z "$problem" ]
 }

@@ -2,7 +2,7 @@
 
 usage: refused.py RETANGLE REFUSE TOP       REFUSE is tests/refuse.c as a library, TOP the folder of the repository
 
-Where an allocation is refused, one edit is answered 'no NoMemory' and is not made or, in an open list,
+Where an allocation fails, one edit is answered 'no NoMemory' and is not made or, in an open list,
 not held; or one list is answered 'no NoMemory 0' and none of its edits is made; and the others are
 made and answered. Or the run ends with status 3 behind an answer, or before the first one; or it
 did without that memory, and all is answered. The last line is 'N passed, M failed'.
@@ -97,7 +97,7 @@ class Refused(Script):
         self.ends.append(len(self.written))
 
 
-def wanted(web, script):
+def expected(web, script):
     """The ways in which a run may end, (status, written), with what each of them lacks; and what
     has to be refused memory at some time."""
     whole = Refused(web, script, 0)
@@ -110,9 +110,9 @@ def wanted(web, script):
     return ways, [way for way in ways.values() if way.startswith('edit') and way not in spared]
 
 
-def run(folder, words, script, at, report):
+def run(folder, arguments, script, at, report):
     environment = dict(os.environ, LD_PRELOAD=refuse, REFUSE_AT=str(at), REFUSE_REPORT=report)
-    return subprocess.run([program] + words, cwd=folder, env=environment, input=script,
+    return subprocess.run([program] + arguments, cwd=folder, env=environment, input=script,
                           capture_output=True, timeout=SECONDS)
 
 
@@ -128,7 +128,7 @@ def folder_with(room, files):
 
 def refuse_each(name, web, script, room):
     """Refuses each allocation, one a run: how many runs lack what."""
-    (ways, edits), met = wanted(web, script), {}
+    (ways, edits), met = expected(web, script), {}
     folder, report = folder_with(room, {'a.w': web}), os.path.join(room, 'refused')
     for at in range(1, MOST):
         done = run(folder, ['a'], script, at, report)
@@ -164,17 +164,17 @@ WORDS = {
 }
 
 
-def refuse_each_word(name, words, files, status, room):
+def refuse_each_word(name, arguments, files, status, room):
     """Refuses each allocation, one a run, over a script of one question. What ends so answers nothing,
     and reports at most that it is out of memory; anything else ends as without a refusal."""
     folder, report = folder_with(room, files), os.path.join(room, 'refused')
     script = b'show z.c\n'
-    whole, lacking = run(folder, words, script, 0, report), 0
+    whole, lacking = run(folder, arguments, script, 0, report), 0
     check(whole.returncode == status, name, 'status %d' % whole.returncode)
     check(whole.stdout == (SHOWN if status == 1 else b''), name, '%r' % whole)
     check(bool(whole.stderr) == (status != 1), name, '%r' % whole)
     for at in range(1, MOST):
-        done = run(folder, words, script, at, report)
+        done = run(folder, arguments, script, at, report)
         if not os.path.exists(report):
             break
         os.remove(report)
@@ -188,8 +188,8 @@ def refuse_each_word(name, words, files, status, room):
 
 def main():
     with tempfile.TemporaryDirectory() as room:
-        for name, (words, files, status) in WORDS.items():
-            refuse_each_word(name, words, files, status, room)
+        for name, (arguments, files, status) in WORDS.items():
+            refuse_each_word(name, arguments, files, status, room)
         for name, (web, script) in CONVERSATIONS.items():
             met = refuse_each(name, web, script, room)
     check(met.get('edit 1', 0) >= met.get('edit 2', 0) + FEWER, 'chain', 'an edit that affects nothing makes no fewer allocations: %r' % met)

@@ -33,22 +33,22 @@ def around(before, behind):
     return [turn + step for turn in TURNS for step in range(-before, behind + 1)]
 
 
-def run(program, words, files, script=''):
+def run(program, arguments, files, script=''):
     """The status, what is written on both streams, and the files that were created or written."""
     files = {name: text.encode('latin-1') for name, text in files.items()}
     with folder_with(files) as folder:
-        done = subprocess.run([program] + words, cwd=folder, input=script.encode('latin-1'),
+        done = subprocess.run([program] + arguments, cwd=folder, input=script.encode('latin-1'),
                               capture_output=True, timeout=SECONDS)
         made = {name: text.decode('latin-1') for name, text in written_in(folder, files).items()}
     return done.returncode, done.stdout.decode('latin-1'), done.stderr.decode('latin-1'), made
 
 
-def converse(name, files, turns, status=0, words=('a',)):
+def converse(name, files, turns, status=0, arguments=('a',)):
     """A conversation, (script lines, answer) each."""
-    script, wanted = (''.join(parts) for parts in zip(*turns))
-    ended, written, errors, _ = run(retangle, list(words), files, script)
+    script, expected = (''.join(parts) for parts in zip(*turns))
+    ended, written, errors, _ = run(retangle, list(arguments), files, script)
     check((ended, errors) == (status, ''), name, 'status %d, %r' % (ended, errors[:200]))
-    check(written == wanted, name, difference(wanted, written))
+    check(written == expected, name, difference(expected, written))
 
 
 def in_list(edits, count):
@@ -60,13 +60,13 @@ def shown(name, text):
     return 'show %s\n' % name, '= %s %d\n%s' % (name, len(text), text)
 
 
-def tangle(name, files, wanted, faults='', status=0, words=('a',)):
+def tangle(name, files, expected, faults='', status=0, arguments=('a',)):
     """A run of ctangle, with the files that it creates."""
-    ended, written, errors, made = run(ctangle, list(words), files)
+    ended, written, errors, made = run(ctangle, list(arguments), files)
     check((ended, written) == (status, ''), name, 'status %d' % ended)
     check(errors == faults, name, difference(faults, errors))
-    check(set(made) == set(wanted), name, '%d files, not %d' % (len(made), len(wanted)))
-    other = [file for file in wanted if made.get(file) != wanted[file]]
+    check(set(made) == set(expected), name, '%d files, not %d' % (len(made), len(expected)))
+    other = [file for file in expected if made.get(file) != expected[file]]
     check(not other, name, 'other bytes in %s' % other[:3])
 
 
@@ -186,13 +186,13 @@ def test_changes():
         turns = [work(1), shown('a.c', whole), NO_FAULTS, ('replace 3 a.w\nc;\n', 'ok\n'), work(1),
                  shown('a.c', edited), ('faults\n', unused)]
         converse('%d changes' % count, files, turns, 1, ('a', '--change', 'a'))
-        tangle('%d changes in a run' % count, files, {'a.c': whole}, words=('a', 'a'))
+        tangle('%d changes in a run' % count, files, {'a.c': whole}, arguments=('a', 'a'))
 
 
 # ------------------------------------------------------------------ files
 
 def edits_of_files(last):
-    """Edits of each kind, of which some want a file more; the last included file is this one."""
+    """Edits of each kind, of which some need a file more; the last included file is this one."""
     return ['insert 3 a.w\ny', 'replace 1 %s\nz' % last, 'insert 1 i001.w\n@<u@>',
             'remove 1 i001.w', 'create new.w', 'insert 1 new.w\nnew', 'insert 3 a.w\n@i new.w',
             'create another.w',
@@ -212,9 +212,9 @@ def test_files():
         table = add([], b'a.w', web.encode())
         for name, text in included.items():
             table = add(table, name.encode(), text.encode())
-        wanted = Script(Session(table, Roles(b'a.w', None, b'a.c')), script.encode())
-        turns = [(script, wanted.written.decode('latin-1'))]
-        converse('%d files' % count, {'a.w': web, **included}, turns, wanted.status)
+        expected = Script(Session(table, Roles(b'a.w', None, b'a.c')), script.encode())
+        turns = [(script, expected.written.decode('latin-1'))]
+        converse('%d files' % count, {'a.w': web, **included}, turns, expected.status)
 
 
 # ------------------------------------------------------------------ sections, uses, macros, lists

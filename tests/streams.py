@@ -24,12 +24,12 @@ SECONDS = 60
 SCRIPT_BYTES = 67108864
 WEB = b'@ A.\n@c\nint x;\n'
 
-def run(program, words, files, script=b'', **fails):
+def run(program, arguments, files, script=b'', **fails):
     """The status, what is on both streams, and the files that were created or written."""
     limits = {name.upper(): str(count) for name, count in fails.items()}
     environment = dict(os.environ, LD_PRELOAD=fail, **limits)
     with folder_with(files) as folder:
-        done = subprocess.run([program] + words, cwd=folder, env=environment, input=script,
+        done = subprocess.run([program] + arguments, cwd=folder, env=environment, input=script,
                               capture_output=True, timeout=SECONDS)
         made = written_in(folder, files)
     return done.returncode, done.stdout, done.stderr, made
@@ -41,14 +41,14 @@ class Cases:
     def __init__(self, name):
         self.name, self.cases = name, []
 
-    def add(self, arguments, wanted, **fails):
-        self.cases.append((arguments, fails, wanted))
+    def add(self, arguments, expected, **fails):
+        self.cases.append((arguments, fails, expected))
 
     def compare(self):
         with ThreadPoolExecutor(os.cpu_count()) as pool:
             found = pool.map(lambda case: run(*case[0], **case[1]), self.cases)
-            for (_, fails, wanted), ended in zip(self.cases, found):
-                check(ended == wanted, self.name, '%r: %r, not %r' % (fails, ended, wanted))
+            for (_, fails, expected), ended in zip(self.cases, found):
+                check(ended == expected, self.name, '%r: %r, not %r' % (fails, ended, expected))
 
 
 def table_of(files):
@@ -85,9 +85,9 @@ def test_failing_readers():
     for name, script in SCRIPTS.items():
         cases = Cases('reader that fails, %s' % name)
         for size in range(len(script) + 1):
-            wanted = answers(files, ROLES, script[:size], reader_fails=True)
-            cases.add((retangle, ['a'], files, script), wanted, fail_input=size)
-            cases.add((retangle, ['a'], files, script), wanted, fail_input=size, pieces=1)
+            expected = answers(files, ROLES, script[:size], reader_fails=True)
+            cases.add((retangle, ['a'], files, script), expected, fail_input=size)
+            cases.add((retangle, ['a'], files, script), expected, fail_input=size, pieces=1)
         cases.compare()
 
 
@@ -97,9 +97,9 @@ def test_failing_writers():
     for name, script in SCRIPTS.items():
         cases = Cases('writer that fails, %s' % name)
         for size in range(len(answers(files, ROLES, script)[1]) + 1):
-            wanted = answers(files, ROLES, script, room=size)
-            cases.add((retangle, ['a'], files, script), wanted, fail_output=size)
-            cases.add((retangle, ['a'], files, script), wanted, fail_output=size, pieces=1)
+            expected = answers(files, ROLES, script, room=size)
+            cases.add((retangle, ['a'], files, script), expected, fail_output=size)
+            cases.add((retangle, ['a'], files, script), expected, fail_output=size, pieces=1)
         cases.compare()
     found = run(retangle, ['a'], files, ONE_EDIT, fail_output=7)
     check(found == (3, b'work 1\n', b'', {}), 'writer that fails after 7 bytes', '%r' % (found,))
@@ -157,9 +157,9 @@ def test_failing_outputs():
     for name, text in outputs:
         for size in range(len(text)):
             reported = faults + b'ctangle: cannot write %s\n' % name.encode()
-            wanted = 3, b'', reported, {**whole, name: text[:size]}
-            cases.add((ctangle, WORDS, PROJECT), wanted, fail_write=before + size)
-            cases.add((ctangle, WORDS, PROJECT), wanted, fail_write=before + size, pieces=1)
+            expected = 3, b'', reported, {**whole, name: text[:size]}
+            cases.add((ctangle, WORDS, PROJECT), expected, fail_write=before + size)
+            cases.add((ctangle, WORDS, PROJECT), expected, fail_write=before + size, pieces=1)
         before += len(text)
         whole[name] = text
     cases.add((ctangle, WORDS, PROJECT), (status, b'', faults, whole), fail_write=before)
@@ -176,12 +176,12 @@ def test_failing_errors():
             (ctangle, ['a'], long_line, b'ctangle: a.w: LineTooLong\n'),
             (retangle, ['a'], {}, b'retangle: cannot read a.w\n'),
             (retangle, ['a'], long_line, b'retangle: a.w: LineTooLong\n')]
-    for words in ([], ['--help'], ['a', 'b']):      # the texts are clap's
-        runs.append((retangle, words, {}, run(retangle, words, {})[2]))
+    for arguments in ([], ['--help'], ['a', 'b']):      # the texts are clap's
+        runs.append((retangle, arguments, {}, run(retangle, arguments, {})[2]))
     cases = Cases('standard error that fails')
-    for program, words, files, reported in runs:
+    for program, arguments, files, reported in runs:
         for size in range(len(reported)):
-            cases.add((program, words, files), (3, b'', reported[:size], {}), fail_errors=size)
+            cases.add((program, arguments, files), (3, b'', reported[:size], {}), fail_errors=size)
     whole = status, b'', faults, dict(outputs)
     cases.add((ctangle, WORDS, PROJECT), whole, fail_errors=len(faults))
     cases.compare()
@@ -196,17 +196,17 @@ def closed_pipe():
 
 def test_closed_pipes():
     """A pipe whose reader is gone is a stream that fails: no signal ends the program."""
-    for program, words, stream in ((retangle, ['a'], 'stdout'), (retangle, ['--help'], 'stderr'),
+    for program, arguments, stream in ((retangle, ['a'], 'stdout'), (retangle, ['--help'], 'stderr'),
                                    (ctangle, [], 'stderr'), (ctangle, ['a', 'a'], 'stderr')):
         pipe, streams = closed_pipe(), {'stdout': subprocess.DEVNULL, 'stderr': subprocess.DEVNULL}
         with folder_with(PROJECT) as folder:
             streams[stream] = pipe
-            done = subprocess.run([program] + words, cwd=folder, input=b'work\n', timeout=SECONDS,
+            done = subprocess.run([program] + arguments, cwd=folder, input=b'work\n', timeout=SECONDS,
                                   **streams)
             made = sorted(os.listdir(folder))
         os.close(pipe)
         check((done.returncode, made) == (3, sorted(PROJECT)), 'pipe that is closed',
-              '%r: status %d, files %r' % (words, done.returncode, made))
+              '%r: status %d, files %r' % (arguments, done.returncode, made))
 
 
 def main():

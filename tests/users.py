@@ -180,7 +180,7 @@ class Client:
                                         stdin=subprocess.PIPE, stdout=subprocess.PIPE,
                                         env=dict(os.environ, RETANGLE=retangle))
 
-    def prints(self, command, wanted):
+    def prints(self, command, expected):
         """Compares what is printed, up to the answer to a line that is no command."""
         self.process.stdin.write(command + b'\nend\n')
         self.process.stdin.flush()
@@ -189,15 +189,15 @@ class Client:
             if line == b'no such command\n':
                 break
             printed += line
-        same(printed, wanted, 'editor.py, %s' % command.decode())
+        same(printed, expected, 'editor.py, %s' % command.decode())
 
-    def saves(self, name, text, wanted):
+    def saves(self, name, text, expected):
         """The same when a file was saved with this text, or removed."""
         if text is None:
             os.remove(os.path.join(self.folder, name))
         else:
             write(text, self.folder, name)
-        self.prints(b'save ' + name.encode(), wanted)
+        self.prints(b'save ' + name.encode(), expected)
 
     def ends(self, status):
         self.process.stdin.close()
@@ -322,8 +322,8 @@ def check_shown(client):
     errors = run([ctangle, 'calc'], '.')[1]
     same(client.faults(), errors.split(b'\n')[:-1], 'the faults after a save')
     for name in OUTPUTS:
-        wanted = read(name) if os.path.exists(name) else None
-        same(client.show(name.encode()), wanted, 'an output after a save')
+        expected = read(name) if os.path.exists(name) else None
+        same(client.show(name.encode()), expected, 'an output after a save')
 
 
 # ---------------------------------------------------------------------- recipes

@@ -11,7 +11,7 @@ from reading import Reading
 from tangling import Tangling
 
 # What is larger is left out: the reference holds all of it at once, and a web can be small and its C not. A file that
-# includes itself twice has a thousand times its lines; an @h stands for all macros, and a part that is used often may
+# includes itself twice has a thousand times its lines; an @h represents all macros, and a part that is used often may
 # hold many.
 MOST_LINES = 50000
 MOST_BYTES = 1 << 24

@@ -32,7 +32,7 @@ class Graph:
                            and self.depth[node] <= limits.DEPTH}
 
     def use(self, item):
-        """The name that a use stands for, where it is resolved."""
+        """The name that a use represents, where it is resolved."""
         return self.names.resolved[item.value]
 
     def _used(self, node):

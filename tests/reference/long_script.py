@@ -209,7 +209,7 @@ def main():
     given = b''.join(line + b'\n' for line in script)
     answers = Script(Session(add([], b'a.w', text), Roles(b'a.w', None, b'a.c')), given)
     for name, part in ((b'in/a.w', text), (b'stdin', given), (b'stdout', answers.written),
-                       (b'words', b'a\n'), (b'status', b'%d\n' % answers.status)):
+                       (b'arguments', b'a\n'), (b'status', b'%d\n' % answers.status)):
         write(os.path.join(folder, name), part)
 
 

@@ -1,4 +1,4 @@
-"""The tokens of one C part or macro: what stands at each place of the text (docs/scanning.md)."""
+"""The tokens of one C part or macro: what is at each place of the text (docs/scanning.md)."""
 import re
 from collections import namedtuple
 
@@ -26,12 +26,12 @@ def lower(byte):
 
 
 class Part:
-    """The tokens from a place of a web's text on, up to what ends the part or macro, where `at` stands then."""
+    """The tokens from a place of a web's text on, up to what ends the part or macro, where `at` is then."""
 
     def __init__(self, web, at, is_macro):
         self.web, self.text, self.at, self.is_macro = web, web.text, at, is_macro
         self.tokens = []
-        self.line = []                          # what stood on this line so far, white space left out
+        self.line = []                          # what was on this line so far, white space left out
         while self.at < len(self.text) and self._step():
             pass
 
@@ -52,7 +52,7 @@ class Part:
         return True
 
     def _step(self):
-        """Takes what stands here, or says that it ends the part."""
+        """Takes what is here, or says that it ends the part."""
         text, at = self.text, self.at
         byte = text[at]
         if byte == 64:
@@ -96,7 +96,7 @@ class Part:
         if code == 39:
             return self._constant()
         if code == 104 and not self.is_macro:
-            web.has_defs = True
+            web.has_all_macros = True
             return self._add('Defs', None, at + 2, web.place(at))
         if code == 104:
             web.fault('MisplacedH', at)

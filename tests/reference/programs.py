@@ -31,24 +31,24 @@ def completed(web, change, out):
     return web, change, with_extension(out, b'.c')
 
 
-def read_words(words):
+def read_words(arguments):
     """The names of web, change file or None, and main file that the arguments of ctangle give, or None."""
-    words = map(os.fsencode, words)
-    names = [word for word in words if len(word) < 2 or word[:1] not in (b'-', b'+')]
+    arguments = map(os.fsencode, arguments)
+    names = [word for word in arguments if len(word) < 2 or word[:1] not in (b'-', b'+')]
     if not 1 <= len(names) <= 3:
         return None
     return completed(*names + [None] * (3 - len(names)))
 
 
-def read_retangle(words):
+def read_retangle(arguments):
     """The same of retangle, for arguments without help and with options written out."""
     options = {b'--change': None, b'--out': None}
-    words, names = [os.fsencode(word) for word in words], []
-    while words:
-        word = words.pop(0)
+    arguments, names = [os.fsencode(word) for word in arguments], []
+    while arguments:
+        word = arguments.pop(0)
         key, equals, value = word.partition(b'=')
-        if key in options and options[key] is None and (equals or words):
-            options[key] = value if equals else words.pop(0)
+        if key in options and options[key] is None and (equals or arguments):
+            options[key] = value if equals else arguments.pop(0)
         else:
             names.append(word)
     if len(names) != 1 or names[0].startswith(b'-'):
@@ -144,8 +144,8 @@ def run_ctangle(names, folder):
 
 
 def main():
-    program, path, words = sys.argv[1], sys.argv[2], sys.argv[3:]
-    names = (read_retangle if program == 'retangle' else read_words)(words)
+    program, path, arguments = sys.argv[1], sys.argv[2], sys.argv[3:]
+    names = (read_retangle if program == 'retangle' else read_words)(arguments)
     if names is None:
         sys.stderr.buffer.write(USAGE)
         return 2

@@ -86,12 +86,12 @@ class Reading:
     def __init__(self, files, roles):
         self.table, self.roles = dict(files), roles
         self.source, self.faults = [], []
-        self.changes = []                       # the next one stands last
+        self.changes = []                       # the next one is last
         if roles.change is not None:
             found = ChangeFile(self.table[roles.change])
             self.changes = found.changes[::-1]
             self.faults = [Fault(kind, (roles.change, number)) for kind, number in found.faults]
-        self.ahead = []                         # the next line stands last
+        self.ahead = []                         # the next line is last
         self._push(roles.web, False, 1)
         self.taken = 0
         while self.ahead and self.taken < limits.LINES_TAKEN:

@@ -27,7 +27,7 @@ class Web:
             start += len(line.line) + 1
         self.section_count = 0
         self.pieces, self.macros, self.occurrences = [], [], []
-        self.has_defs = False
+        self.has_all_macros = False
         self.noted = []                         # (place in the text, fault)
         self._scan()
         self.noted.sort(key=lambda noted: noted[0])
@@ -44,7 +44,7 @@ class Web:
         self.noted.append((at, Fault(kind, self.place(at))))
 
     def occurrence(self, name, code, role, at):
-        """The number of a new occurrence, whose @ stands there."""
+        """The number of a new occurrence, whose @ is there."""
         self.occurrences.append(Occurrence(name, name.endswith(b'...'), code == 40, role, self.place(at)))
         return len(self.occurrences) - 1
 

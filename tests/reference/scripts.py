@@ -21,7 +21,7 @@ class Script:
     def __init__(self, session, text, reader_fails=False, room=None):
         self.session, self.room = session, room
         self.is_broken = reader_fails or len(text) > limits.FILE_BYTES
-        self.ahead = text[:limits.FILE_BYTES].split(b'\n')[::-1]    # the next line stands last
+        self.ahead = text[:limits.FILE_BYTES].split(b'\n')[::-1]    # the next line is last
         if self.is_broken or self.ahead[0] == b'':
             self.ahead.pop(0)                   # bytes behind the last line feed are no line, or none are there
         self.held = None                        # the edits of an open list

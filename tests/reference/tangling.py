@@ -60,7 +60,7 @@ class Tangling:
         return sum(self._size(writer, node) for _, node in self.outputs())
 
     def _size(self, writer, node):
-        front = 0 if node is not PROGRAM or self.web.has_defs else len(writer.macros)
+        front = 0 if node is not PROGRAM or self.web.has_all_macros else len(writer.macros)
         return front + (writer.size(node) + 1 if self.graph.pieces[node] else 0)
 
     def files(self):
@@ -69,5 +69,5 @@ class Tangling:
         return [(name, self._text(writer, node)) for name, node in self.outputs()]
 
     def _text(self, writer, node):
-        front = b'' if node is not PROGRAM or self.web.has_defs else writer.macros
+        front = b'' if node is not PROGRAM or self.web.has_all_macros else writer.macros
         return front + (writer.text(node) + b'\n' if self.graph.pieces[node] else b'')

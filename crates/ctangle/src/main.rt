@@ -8,15 +8,16 @@ use std::process::ExitCode;
 use std::{env, io};
 use tangle_lines::{IoSink, Sink};
 
-// The words of the command line, the program's name first.
-fn words_of(rt: &HostRuntime) -> io::Result<Vec<String>> {
+// The arguments of the command line, the program's name first.
+fn arguments_of(rt: &HostRuntime) -> io::Result<Vec<String>> {
     match env::args(rt) {
-        Ok(words) => words.collect(rt.alloc()).map_err(Error::from),
+        Ok(arguments) => arguments.collect(rt.alloc()).map_err(Error::from),
         Err(error) => Err(error),
     }
 }
 
-// Standard error, handed on line by line. Where there is no memory for a line, each write is handed on.
+// Standard error, handed on line by line. Where there is no memory for a line, each write is handed
+// on.
 fn error_stream(rt: &HostRuntime) -> IoSink<LineWriter<Stderr>> {
     match LineWriter::new(rt.alloc(), rt.stderr()) {
         Ok(lines) => IoSink::new(lines),
@@ -24,24 +25,34 @@ fn error_stream(rt: &HostRuntime) -> IoSink<LineWriter<Stderr>> {
     }
 }
 
-// Runs `ctangle`, and gives its status. With a word that is not UTF-8 it has no words, and tells its usage.
+// Runs `ctangle`, and gives its status. With an argument that is not UTF-8 it has no arguments, and
+// reports its usage.
 fn run(rt: &HostRuntime, err: &mut IoSink<LineWriter<Stderr>>) -> u8 {
-    let words = match words_of(rt) {
-        Ok(words) => words,
+    let arguments = match arguments_of(rt) {
+        Ok(arguments) => arguments,
         Err(error) if error.kind() == ErrorKind::OutOfMemory => return no_memory(err),
         Err(_) => Vec::new(rt.alloc()),
     };
-    let names = words.iter().skip(1).map(|word| word.as_bytes());
+    let names = arguments.iter().skip(1).map(|argument| argument.as_bytes());
     match names.collect::<Vec<&[u8]>>(rt.alloc()) {
-        Ok(words) => run_words(rt, words.as_slice(), err),
+        Ok(arguments) => run_arguments(rt, arguments.as_slice(), err),
         Err(_) => no_memory(err),
     }
 }
 
-// Runs `ctangle` with these words. The program ends behind the run, which frees the session's memory
-// at once: it is not taken apart before.
-fn run_words(rt: &HostRuntime, words: &[&[u8]], err: &mut IoSink<LineWriter<Stderr>>) -> u8 {
-    let Ended { status, session } = run_keeping_session(rt.alloc(), words, &mut Disk::new(rt), err);
+// Runs `ctangle` with these arguments. The program ends behind the run, which frees the session's
+// memory at once: it is not taken apart before.
+fn run_arguments(
+    rt: &HostRuntime,
+    arguments: &[&[u8]],
+    err: &mut IoSink<LineWriter<Stderr>>,
+) -> u8 {
+    let Ended { status, session } = run_keeping_session(
+        rt.alloc(),
+        arguments,
+        &mut Disk::new(rt),
+        err,
+    );
     forget(session);
     status
 }

@@ -18,12 +18,12 @@ use Rattle.tangle_files.specs.Lines.{FileTable, cut}
 use Rattle.tangle_files.specs.Adding.{add_refusal, has_file, with_file}
 use Rattle.tangle_files.specs.Roles.{RolesRead}
 use Rattle.tangle_folders.specs.Folder.{File, file_limit, with_asked}
-use Rattle.ctangle_cli.specs.Asking.{AsksForAll, AsksOnce, IsWanted}
+use Rattle.ctangle_cli.specs.Asking.{AsksForAll, AsksOnce, IsNeeded}
 use Rattle.ctangle_cli.specs.Tries.{AsksOn, IsTriedIn, RoundsOnce, StopsAsking, Tries, TriesAll, TriesOnce, TriesSince, TriesStay, is_tried}
 use Rattle.ctangle_cli.specs.Questions.{named_in}
-use Rattle.tangle_lines.specs.Faults.{Finding}
+use Rattle.tangle_lines.specs.Faults.{FaultRead}
 use Rattle.ctangle_cli.specs.Loading.{Grows, Loaded, and_then, is_missing_kind, missed_in, with_inclusion, with_inclusions, add_bytes, missing_of, unless_refused}
-use Rattle.ctangle_cli.specs.Loading.Ending.{Unreadable}
+use Rattle.ctangle_cli.specs.Loading.LoadEnd.{Unreadable}
 use Rattle.ctangle_cli.proofs.LoadLemmas.{has_any, list_any-map}
 
 pub or_false : (b : Bool) → (b || false) ≡ b
@@ -85,27 +85,27 @@ behind_more names asked old new name is e = e ∙ ap (λ o. with_asked o name) i
 
 -- the folder was asked for this name
 pub asks_this : (old new : Tries) (name : List ℕ) → is_tried old name ≡ false → new.asked ≡ with_asked old.asked name → TriesThis old new name → AsksOn old new (name ∷ [])
-asks_this old new name fresh asks this None wanted among before = tt
-asks_this old new name fresh asks this (Some names) wanted among before = record {
+asks_this old new name fresh asks this None needed among before = tt
+asks_this old new name fresh asks this (Some names) needed among before = record {
   asked = before.asked ++ name ∷ [];
   behind = behind_more names before.asked old.asked new.asked name before.behind asks;
   once = IsDistinct-push nat_list_eq_equiv before.asked name before.once (before.same name ∙ fresh);
   same = λ other. list_any-append (bytes_eq other) before.asked (name ∷ []) ∙ ap (λ b. b || (bytes_eq other name || false)) (before.same other)
       ∙ ap (λ b. is_tried old other || b) (or_false (bytes_eq other name)) ∙ sym (this other);
-  only = All-append (Contains wanted) before.asked (name ∷ []) before.only among;
+  only = All-append (Contains needed) before.asked (name ∷ []) before.only among;
 }
 
 pub stops_at : (old : Tries) (asked : Option (List (List ℕ))) (name : List ℕ) → is_tried old name ≡ false → asked ≡ with_asked old.asked name → StopsAsking old asked
-stops_at old asked name fresh asks None wanted before = tt
-stops_at old asked name fresh asks (Some names) wanted before = record {
+stops_at old asked name fresh asks None needed before = tt
+stops_at old asked name fresh asks (Some names) needed before = record {
   asked = before.asked ++ name ∷ [];
   behind = behind_more names before.asked old.asked asked name before.behind asks;
   once = IsDistinct-push nat_list_eq_equiv before.asked name before.once (before.same name ∙ fresh);
 }
 
 pub stops_here : (old : Tries) (asked : Option (List (List ℕ))) → asked ≡ old.asked → StopsAsking old asked
-stops_here old asked same None wanted before = tt
-stops_here old asked same (Some names) wanted before = record { asked = before.asked; behind = same ∙ before.behind; once = before.once }
+stops_here old asked same None needed before = tt
+stops_here old asked same (Some names) needed before = record { asked = before.asked; behind = same ∙ before.behind; once = before.once }
 
 pub stops_short : (old : Tries) (asked : Option (List (List ℕ))) (name : List ℕ) → is_tried old name ≡ false → (asked ≡ old.asked) ⊎ (asked ≡ with_asked old.asked name) → StopsAsking old asked
 stops_short old asked name fresh which = elim which [ inl e ↦ stops_here old asked e | inr e ↦ stops_at old asked name fresh e ]
@@ -147,8 +147,8 @@ always_err (Err e) p = p
 
 -- one after another
 abbrev pub AsksSoFar : Tries → Tries → List (List ℕ) → List (List ℕ) → Type 0
-AsksSoFar old now all rest = (before : Option (List (List ℕ))) (wanted : List (List ℕ)) → All (Contains wanted) all → TriesOnce before old wanted
-    → All (Contains wanted) rest × TriesOnce before now wanted
+AsksSoFar old now all rest = (before : Option (List (List ℕ))) (needed : List (List ℕ)) → All (Contains needed) all → TriesOnce before old needed
+    → All (Contains needed) rest × TriesOnce before now needed
 
 abbrev pub TriesSoFar : Tries → List (List ℕ) → List (List ℕ) → Type 0
 TriesSoFar now all rest = (last : Tries) → TriesStay now last → All (IsTriedIn last) rest → All (IsTriedIn last) all
@@ -159,10 +159,10 @@ none_among P x xs h = (h zero x (omega arith), λ k d lt. h (suc k) d (omega ari
 
 pub asks_next : (old now next : Tries) (all names : List (List ℕ)) (name : List ℕ) (rest : List (List ℕ)) → names ≡ name ∷ rest → AsksSoFar old now all names → AsksOn now next (name ∷ [])
     → AsksSoFar old next all rest
-asks_next old now next all names name rest is so_far asks before wanted among t =
-    let here = so_far before wanted among t in
-    let parts = none_among (Contains wanted) name rest (subst (All (Contains wanted)) is here.0) in
-    (parts.1, asks before wanted (All-cons (Contains wanted) name [] parts.0 (All-nil (Contains wanted))) here.1)
+asks_next old now next all names name rest is so_far asks before needed among t =
+    let here = so_far before needed among t in
+    let parts = none_among (Contains needed) name rest (subst (All (Contains needed)) is here.0) in
+    (parts.1, asks before needed (All-cons (Contains needed) name [] parts.0 (All-nil (Contains needed))) here.1)
 
 pub tries_next : (now next : Tries) (all names : List (List ℕ)) (name : List ℕ) (rest : List (List ℕ)) → names ≡ name ∷ rest → TriesSoFar now all names → TriesAll now next (name ∷ [])
     → TriesSoFar next all rest
@@ -176,30 +176,30 @@ tries_at_end old now all rest is stay so_far = record {
   all = so_far now (λ other e. e) (subst (All (IsTriedIn now)) (sym is) (All-nil (IsTriedIn now)));
 }
 
-pub loads_next : (told told' : Option (List File)) (loads : List File → Loaded) (names : List (List ℕ)) (name : List ℕ) (rest : List (List ℕ)) (files next : FileTable) → told' ≡ told
-    → names ≡ name ∷ rest → IfSome told (λ all. with_inclusions all names files ≡ loads all) → IfSome told' (λ all. with_inclusion all files name ≡ Ok next)
-    → IfSome told (λ all. with_inclusions all rest next ≡ loads all)
-loads_next told told' loads names name rest files next same is so_far this = by told so_far (subst (λ t. IfSome t (λ all. with_inclusion all files name ≡ Ok next)) same this)
+pub loads_next : (reported reported' : Option (List File)) (loads : List File → Loaded) (names : List (List ℕ)) (name : List ℕ) (rest : List (List ℕ)) (files next : FileTable) → reported' ≡ reported
+    → names ≡ name ∷ rest → IfSome reported (λ all. with_inclusions all names files ≡ loads all) → IfSome reported' (λ all. with_inclusion all files name ≡ Ok next)
+    → IfSome reported (λ all. with_inclusions all rest next ≡ loads all)
+loads_next reported reported' loads names name rest files next same is so_far this = by reported so_far (subst (λ t. IfSome t (λ all. with_inclusion all files name ≡ Ok next)) same this)
   where
     by : (t : Option (List File)) → IfSome t (λ all. with_inclusions all names files ≡ loads all) → IfSome t (λ all. with_inclusion all files name ≡ Ok next)
         → IfSome t (λ all. with_inclusions all rest next ≡ loads all)
     by None a b = tt
     by (Some all) a b = sym (ap (λ l. and_then l (λ mid. with_inclusions all rest mid)) b) ∙ sym (ap (λ l. with_inclusions all l files) is) ∙ a
 
-missed_cons : (fault : Finding) (rest : List Finding) (b : Bool) → is_missing_kind fault.kind ≡ b → missed_in (fault ∷ rest) ≡ cond b (fault.subject ∷ missed_in rest) (missed_in rest)
+missed_cons : (fault : FaultRead) (rest : List FaultRead) (b : Bool) → is_missing_kind fault.kind ≡ b → missed_in (fault ∷ rest) ≡ cond b (fault.subject ∷ missed_in rest) (missed_in rest)
 missed_cons fault rest true e = ap (λ b. map (λ f. f.subject) (cond b (fault ∷ filter (λ f. is_missing_kind f.kind) rest) (filter (λ f. is_missing_kind f.kind) rest))) e
 missed_cons fault rest false e = ap (λ b. map (λ f. f.subject) (cond b (fault ∷ filter (λ f. is_missing_kind f.kind) rest) (filter (λ f. is_missing_kind f.kind) rest))) e
 
-pub missed_at : (faults : List Finding) (i : ℕ) (fault : Finding) (b : Bool) → i < length faults → fault ≡ get_or faults i fault → is_missing_kind fault.kind ≡ b
+pub missed_at : (faults : List FaultRead) (i : ℕ) (fault : FaultRead) (b : Bool) → i < length faults → fault ≡ get_or faults i fault → is_missing_kind fault.kind ≡ b
     → missed_in (drop i faults) ≡ cond b (fault.subject ∷ missed_in (drop (i + 1) faults)) (missed_in (drop (i + 1) faults))
 missed_at faults i fault b inside is e = ap missed_in (drop_more faults i fault inside ∙ ap (λ f. f ∷ drop (i + 1) faults) (sym is)) ∙ missed_cons fault (drop (i + 1) faults) b e
 
-pub none_missed : (faults : List Finding) (i : ℕ) → length faults ≤ i → missed_in (drop i faults) ≡ []
+pub none_missed : (faults : List FaultRead) (i : ℕ) → length faults ≤ i → missed_in (drop i faults) ≡ []
 none_missed faults i end = ap missed_in (drop_of_length-le faults end)
 
 -- rounds: what is asked for in one is what its reading misses
-still_wanted : (files next : FileTable) (roles : RolesRead) (name : List ℕ) → Grows files next → IsWanted files roles name → IsWanted next roles name
-still_wanted files next roles name g w = elim w [
+still_needed : (files next : FileTable) (roles : RolesRead) (name : List ℕ) → Grows files next → IsNeeded files roles name → IsNeeded next roles name
+still_needed files next roles name g w = elim w [
   | inl web ↦ inl web
   | inr other ↦ elim other [
     | inl change ↦ inr (inl change)
@@ -211,12 +211,12 @@ still_wanted files next roles name g w = elim w [
   ]
 ]
 
-this_wanted : (files next : FileTable) (roles : RolesRead) (name : List ℕ) → Grows files next → Contains (missing_of files roles) name → IsWanted next roles name
-this_wanted files next roles name g c =
-    still_wanted files next roles name g (inr (inr (length files, omega arith, subst (λ t. Contains (missing_of t roles) name) (sym (take_all (length files) files (omega arith))) c)))
+this_needed : (files next : FileTable) (roles : RolesRead) (name : List ℕ) → Grows files next → Contains (missing_of files roles) name → IsNeeded next roles name
+this_needed files next roles name g c =
+    still_needed files next roles name g (inr (inr (length files, omega arith, subst (λ t. Contains (missing_of t roles) name) (sym (take_all (length files) files (omega arith))) c)))
 
-wanted_more : (names : List (List ℕ)) (now : Tries) (few more : List (List ℕ)) → TriesSince names now few → TriesSince names now (few ++ more)
-wanted_more names now few more t = record {
+needed_more : (names : List (List ℕ)) (now : Tries) (few more : List (List ℕ)) → TriesSince names now few → TriesSince names now (few ++ more)
+needed_more names now few more t = record {
   asked = t.asked;
   behind = t.behind;
   once = t.once;
@@ -224,24 +224,24 @@ wanted_more names now few more t = record {
   only = All-weaker (Contains few) (Contains (few ++ more)) (λ name c. Contains-append_left few more name c) t.asked t.only;
 }
 
-wanted_more_if : (before : Option (List (List ℕ))) (now : Tries) (few more : List (List ℕ)) → TriesOnce before now few → TriesOnce before now (few ++ more)
-wanted_more_if None now few more t = tt
-wanted_more_if (Some names) now few more t = wanted_more names now few more t
+needed_more_if : (before : Option (List (List ℕ))) (now : Tries) (few more : List (List ℕ)) → TriesOnce before now few → TriesOnce before now (few ++ more)
+needed_more_if None now few more t = tt
+needed_more_if (Some names) now few more t = needed_more names now few more t
 
 all_among : (few more : List (List ℕ)) → All (Contains (few ++ more)) more
 all_among few more = All-weaker (Contains more) (Contains (few ++ more)) (λ name c. Contains-append_right few more name c) more (All-contains_itself more)
 
 pub stops_then : (old now : Tries) (asked : Option (List (List ℕ))) (all rest : List (List ℕ)) → AsksSoFar old now all rest → StopsAsking now asked → StopsAsking old asked
-stops_then old now asked all rest so_far stops before wanted t =
-    stops before (wanted ++ all) (so_far before (wanted ++ all) (all_among wanted all) (wanted_more_if before old wanted all t)).1
+stops_then old now asked all rest so_far stops before needed t =
+    stops before (needed ++ all) (so_far before (needed ++ all) (all_among needed all) (needed_more_if before old needed all t)).1
 
 pub round_asks : (before : Option (List (List ℕ))) (old new : Tries) (roles : RolesRead) (missed : List (List ℕ)) → missed ≡ missing_of old.files roles → Grows old.files new.files
     → AsksOn old new missed → RoundsOnce before old roles → RoundsOnce before new roles
 round_asks before old new roles missed is g asks r = (
   r.0 ++ missed,
-  All-append (IsWanted new.files roles) r.0 missed (All-weaker (IsWanted old.files roles) (IsWanted new.files roles) (λ name w. still_wanted old.files new.files roles name g w) r.0 r.1)
-      (All-weaker (Contains missed) (IsWanted new.files roles) (λ name c. this_wanted old.files new.files roles name g (subst (λ l. Contains l name) is c)) missed (All-contains_itself missed)),
-  asks before (r.0 ++ missed) (all_among r.0 missed) (wanted_more_if before old r.0 missed r.2),
+  All-append (IsNeeded new.files roles) r.0 missed (All-weaker (IsNeeded old.files roles) (IsNeeded new.files roles) (λ name w. still_needed old.files new.files roles name g w) r.0 r.1)
+      (All-weaker (Contains missed) (IsNeeded new.files roles) (λ name c. this_needed old.files new.files roles name g (subst (λ l. Contains l name) is c)) missed (All-contains_itself missed)),
+  asks before (r.0 ++ missed) (all_among r.0 missed) (needed_more_if before old r.0 missed r.2),
 )
 
 pub asking_stops : (start now : Tries) (asked : Option (List (List ℕ))) (roles : RolesRead) → ((before : Option (List (List ℕ))) → RoundsOnce before start roles → RoundsOnce before now roles)
@@ -250,8 +250,8 @@ asking_stops start now asked roles so_far stops before r =
     let here = so_far before r in
     stops before here.0 here.2
 
-tried_asked : (names : List (List ℕ)) (now : Tries) (wanted : List (List ℕ)) (name : List ℕ) (t : TriesSince names now wanted) → is_tried now name ≡ true → Contains t.asked name
-tried_asked names now wanted name t e = Contains-from_any (λ x y same. (bytes_eq-Decides x y).0 same) name t.asked (t.same name ∙ e)
+tried_asked : (names : List (List ℕ)) (now : Tries) (needed : List (List ℕ)) (name : List ℕ) (t : TriesSince names now needed) → is_tried now name ≡ true → Contains t.asked name
+tried_asked names now needed name t e = Contains-from_any (λ x y same. (bytes_eq-Decides x y).0 same) name t.asked (t.same name ∙ e)
 
 pub last_asks : (before : Option (List (List ℕ))) (old now : Tries) (roles : RolesRead) (missed : List (List ℕ)) → missed ≡ missing_of old.files roles → now.files ≡ old.files → TriesAll old now missed
     → RoundsOnce before now roles → AsksForAll before now.asked now.files roles
@@ -260,21 +260,21 @@ last_asks (Some names) old now roles missed is stays done r = record {
   asked = r.2.asked;
   behind = r.2.behind;
   once = r.2.once;
-  wanted = All-weaker (Contains r.0) (IsWanted now.files roles) (λ name c. All-contains (IsWanted now.files roles) r.0 name r.1 c) r.2.asked r.2.only;
+  needed = All-weaker (Contains r.0) (IsNeeded now.files roles) (λ name c. All-contains (IsNeeded now.files roles) r.0 name r.1 c) r.2.asked r.2.only;
   loaded = λ name e. tried_asked names now r.0 name r.2 (or_left (has_file now.files name) (list_any (bytes_eq name) now.absent) e);
   missing = λ name c named. tried_asked names now r.0 name r.2 (All-contains (IsTriedIn now) missed name done.all (subst (λ l. Contains l name) (ap (λ t. missing_of t roles) stays ∙ sym is) c) named);
 }
 
 -- the web and the change file
-nothing_asked : (before : Option (List (List ℕ))) (wanted : List (List ℕ)) → TriesOnce before (record { asked = before; files = []; absent = [] }) wanted
+nothing_asked : (before : Option (List (List ℕ))) (needed : List (List ℕ)) → TriesOnce before (record { asked = before; files = []; absent = [] }) needed
 unfolding IsDistinct
-nothing_asked None wanted = tt
-nothing_asked (Some names) wanted = record { asked = []; behind = ap (λ l. Some l) (sym (append-nil names)); once = tt; same = λ name. refl; only = All-nil (Contains wanted) }
+nothing_asked None needed = tt
+nothing_asked (Some names) needed = record { asked = []; behind = ap (λ l. Some l) (sym (append-nil names)); once = tt; same = λ name. refl; only = All-nil (Contains needed) }
 
-roles_wanted : (files : FileTable) (roles : RolesRead) (change : Option (List ℕ)) → roles.change ≡ change → All (IsWanted files roles) (roles.web ∷ named_in change)
-roles_wanted files roles None is = All-cons (IsWanted files roles) roles.web [] (inl refl) (All-nil (IsWanted files roles))
-roles_wanted files roles (Some name) is =
-    All-cons (IsWanted files roles) roles.web (name ∷ []) (inl refl) (All-cons (IsWanted files roles) name [] (inr (inl is)) (All-nil (IsWanted files roles)))
+roles_needed : (files : FileTable) (roles : RolesRead) (change : Option (List ℕ)) → roles.change ≡ change → All (IsNeeded files roles) (roles.web ∷ named_in change)
+roles_needed files roles None is = All-cons (IsNeeded files roles) roles.web [] (inl refl) (All-nil (IsNeeded files roles))
+roles_needed files roles (Some name) is =
+    All-cons (IsNeeded files roles) roles.web (name ∷ []) (inl refl) (All-cons (IsNeeded files roles) name [] (inr (inl is)) (All-nil (IsNeeded files roles)))
 
 pub first_stops : (before asked : Option (List (List ℕ))) → StopsAsking (record { asked = before; files = []; absent = [] }) asked → AsksOnce before asked
 first_stops before asked stops = stops before [] (nothing_asked before [])
@@ -288,7 +288,7 @@ roles_asked before mid now roles first second =
     let all = roles.web ∷ named_in roles.change in
     let parts = none_among (Contains all) roles.web (named_in roles.change) (All-contains_itself all) in (
       all,
-      roles_wanted now.files roles roles.change refl,
+      roles_needed now.files roles roles.change refl,
       second before all parts.1 (first before all (All-cons (Contains all) roles.web [] parts.0 (All-nil (Contains all))) (nothing_asked before all)),
     )
 

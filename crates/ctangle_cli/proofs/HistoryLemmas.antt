@@ -74,7 +74,7 @@ module _ (files : FileTable) (roles : RolesRead) where
     Edited s (ListOf held) (Err list_memory) history (inr refl, same),
   )
 
-  -- the list that is open before and the one that is open after, by other words for them
+  -- the list that is open before and the one that is open after, by other arguments for them
   with_drafts : (calls : List Call) (request : Request) (text : List ℕ) (s t : ConversationRead) (before after : Option (List Edit))
       → s.draft ≡ before → t.draft ≡ after
       → (call : List Call) × IsCallOf request text before call after × History files roles (calls ++ call) t.session → GoesOn calls request text s t

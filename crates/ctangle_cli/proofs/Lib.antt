@@ -7,7 +7,7 @@ mod RunLemmas
 mod WriteLemmas
 mod WorkedWebs
 mod RetangleLemmas
-mod WorkedWords
+mod WorkedArguments
 mod AnswerLemmas
 mod SettledLemmas
 mod HistoryLemmas

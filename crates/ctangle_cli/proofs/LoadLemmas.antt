@@ -17,39 +17,39 @@ use Rattle.tangle_files.specs.Adding.{add_refusal, with_file, has_file, is_name}
 use Rattle.tangle_files.specs.Roles.{RolesRead, is_there, is_there_if_any, fits}
 use Rattle.tangle_streams.specs.Streams.{Failed}
 use Rattle.tangle_folders.specs.Folder.{File, Reads, bytes_of, file_limit, with_asked}
-use Rattle.ctangle_cli.specs.Loading.{AreAbsent, missing_of, Ending, Grows, IsEnding, Loaded, LoadsTo, StopsFor, TellsLastAsked, add_bytes, add_present, after_round, and_then, refused_as, rounds_from, rounds_in, bad_name, load_of, load_unless, unless_refused, with_inclusion, with_inclusions, with_round, with_wanted}
-use Rattle.ctangle_cli.specs.Loading.Ending.{Unreadable, Refuses, Memory}
+use Rattle.ctangle_cli.specs.Loading.{AreAbsent, missing_of, LoadEnd, Grows, IsLoadEnd, Loaded, LoadsTo, StopsFor, NamesLastAsked, add_bytes, add_present, after_round, and_then, refused_as, rounds_from, rounds_in, bad_name, load_of, load_unless, unless_refused, with_inclusion, with_inclusions, with_round, with_needed}
+use Rattle.ctangle_cli.specs.Loading.LoadEnd.{Unreadable, Refuses, Memory}
 
--- want of memory is no claim
-pub stops_given : (told : Option (List File)) (loads : List File → Loaded) (f g : ℕ) (wanted given : Ending)
-    → IsEnding wanted given → StopsFor told loads f g wanted → StopsFor told loads f g given
-stops_given told loads f g wanted given which h =
-    elim which [ inl e ↦ subst (StopsFor told loads f g) (sym e) h | inr e ↦ subst (StopsFor told loads f g) (sym e) tt ]
+-- lack of memory is no claim
+pub stops_given : (reported : Option (List File)) (loads : List File → Loaded) (f g : ℕ) (needed given : LoadEnd)
+    → IsLoadEnd needed given → StopsFor reported loads f g needed → StopsFor reported loads f g given
+stops_given reported loads f g needed given which h =
+    elim which [ inl e ↦ subst (StopsFor reported loads f g) (sym e) h | inr e ↦ subst (StopsFor reported loads f g) (sym e) tt ]
 
 -- where these load so, those do
 pub Follows : Option (List File) → (List File → Loaded) → (List File → Loaded) → Type 0
-Follows told these those = IfSome told (λ all. (e : Ending) → these all ≡ Err e → those all ≡ Err e)
+Follows reported these those = IfSome reported (λ all. (e : LoadEnd) → these all ≡ Err e → those all ≡ Err e)
 
-err_along : (told : Option (List File)) (these those : List File → Loaded) (e : Ending)
-    → IfSome told (λ all. (e : Ending) → these all ≡ Err e → those all ≡ Err e) → IfSome told (λ all. these all ≡ Err e) → IfSome told (λ all. those all ≡ Err e)
+err_along : (reported : Option (List File)) (these those : List File → Loaded) (e : LoadEnd)
+    → IfSome reported (λ all. (e : LoadEnd) → these all ≡ Err e → those all ≡ Err e) → IfSome reported (λ all. these all ≡ Err e) → IfSome reported (λ all. those all ≡ Err e)
 err_along None these those e same h = tt
 err_along (Some all) these those e same h = same e h
 
-pub stops_along : (told : Option (List File)) (these those : List File → Loaded) (f g h : ℕ) (e : Ending)
-    → g ≡ f → IfSome told (λ all. (e : Ending) → these all ≡ Err e → those all ≡ Err e) → StopsFor told these g h e → StopsFor told those f h e
-stops_along told these those f g h (Unreadable name) unfailed same stops =
+pub stops_along : (reported : Option (List File)) (these those : List File → Loaded) (f g h : ℕ) (e : LoadEnd)
+    → g ≡ f → IfSome reported (λ all. (e : LoadEnd) → these all ≡ Err e → those all ≡ Err e) → StopsFor reported these g h e → StopsFor reported those f h e
+stops_along reported these those f g h (Unreadable name) unfailed same stops =
     elim stops [
-      | inl p ↦ inl (err_along told these those (Unreadable name) same p.0, p.1 ∙ unfailed)
+      | inl p ↦ inl (err_along reported these those (Unreadable name) same p.0, p.1 ∙ unfailed)
       | inr p ↦ inr (subst (λ n. Failed n h) unfailed p)
     ]
-stops_along told these those f g h (Refuses name refusal) unfailed same stops =
-    (err_along told these those (Refuses name refusal) same stops.0, stops.1 ∙ unfailed)
-stops_along told these those f g h Memory unfailed same stops = tt
+stops_along reported these those f g h (Refuses name refusal) unfailed same stops =
+    (err_along reported these those (Refuses name refusal) same stops.0, stops.1 ∙ unfailed)
+stops_along reported these those f g h Memory unfailed same stops = tt
 
 -- a refusal of the table
-pub stops_refused : (told : Option (List File)) (n : ℕ) (name : List ℕ) (loads : Loaded) (refusal : Refusal)
-    → loads ≡ Err (Refuses name refusal) → StopsFor told (λ _. loads) n n (refused_as name refusal)
-stops_refused told n name loads NoRoom e = tt
+pub stops_refused : (reported : Option (List File)) (n : ℕ) (name : List ℕ) (loads : Loaded) (refusal : Refusal)
+    → loads ≡ Err (Refuses name refusal) → StopsFor reported (λ _. loads) n n (refused_as name refusal)
+stops_refused reported n name loads NoRoom e = tt
 stops_refused None n name loads refusal e = (tt, refl)
 stops_refused (Some all) n name loads refusal e = (e, refl)
 
@@ -65,29 +65,29 @@ within_limit files name bytes h = by (nat_lt file_limit (length bytes)) refl
 abbrev failed : {T : Type 0} → Refusal → Result T Refusal
 failed refusal = Err refusal
 
-pub refused_bytes : (T : Type 0) (told : Option (List File)) (n : ℕ) (files : FileTable) (name bytes : List ℕ) (refusal : Refusal) (o : Option Refusal)
+pub refused_bytes : (T : Type 0) (reported : Option (List File)) (n : ℕ) (files : FileTable) (name bytes : List ℕ) (refusal : Refusal) (o : Option Refusal)
     → o ≡ add_refusal files name bytes → length bytes ≤ file_limit
     → IfSome o (λ e. failed {T = T} refusal ≡ Err e) → IfNone o (IsOkUnless (failed {T = T} refusal) NoRoom)
-    → StopsFor told (λ _. add_bytes files name bytes) n n (refused_as name refusal)
-refused_bytes T told n files name bytes refusal None is fits some none = subst (λ r. StopsFor told (λ _. add_bytes files name bytes) n n (refused_as name r)) (sym none) tt
-refused_bytes T told n files name bytes refusal (Some e) is fits some none =
+    → StopsFor reported (λ _. add_bytes files name bytes) n n (refused_as name refusal)
+refused_bytes T reported n files name bytes refusal None is fits some none = subst (λ r. StopsFor reported (λ _. add_bytes files name bytes) n n (refused_as name r)) (sym none) tt
+refused_bytes T reported n files name bytes refusal (Some e) is fits some none =
     let same : refusal ≡ e = cc in
-    stops_refused told n name (add_bytes files name bytes) refusal (within_limit files name bytes fits ∙ ap (unless_refused files name bytes) (sym is) ∙ ap (λ r. Err (Refuses name r)) (sym same))
+    stops_refused reported n name (add_bytes files name bytes) refusal (within_limit files name bytes fits ∙ ap (unless_refused files name bytes) (sym is) ∙ ap (λ r. Err (Refuses name r)) (sym same))
 
 -- the bytes that a folder gave are those that it has
-pub wanted_bytes : (told : Option (List File)) (files : FileTable) (name : List ℕ) (bytes : Vec ℕ Global) → Reads told name (Ok bytes)
-    → IfSome told (λ all. (e : Ending) → add_bytes files name bytes.items ≡ Err e → with_wanted all files name ≡ Err e)
-wanted_bytes None files name bytes h = tt
-wanted_bytes (Some all) files name bytes h = λ e stop. rw h stop
+pub needed_bytes : (reported : Option (List File)) (files : FileTable) (name : List ℕ) (bytes : Vec ℕ Global) → Reads reported name (Ok bytes)
+    → IfSome reported (λ all. (e : LoadEnd) → add_bytes files name bytes.items ≡ Err e → with_needed all files name ≡ Err e)
+needed_bytes None files name bytes h = tt
+needed_bytes (Some all) files name bytes h = λ e stop. rw h stop
 
 chosen : (h n : Bool) (files : FileTable) (x : Loaded) → h ≡ false → n ≡ true → cond (h || not n) (Ok files) x ≡ x
 chosen false true files x a b = refl
 chosen true n files x a b = absurd (cc)
 chosen false false files x a b = absurd (cc)
 
-pub included_bytes : (told : Option (List File)) (files : FileTable) (name : List ℕ) (bytes : Vec ℕ Global) → Reads told name (Ok bytes)
+pub included_bytes : (reported : Option (List File)) (files : FileTable) (name : List ℕ) (bytes : Vec ℕ Global) → Reads reported name (Ok bytes)
     → has_file files name ≡ false → is_name name ≡ true
-    → IfSome told (λ all. (e : Ending) → add_bytes files name bytes.items ≡ Err e → with_inclusion all files name ≡ Err e)
+    → IfSome reported (λ all. (e : LoadEnd) → add_bytes files name bytes.items ≡ Err e → with_inclusion all files name ≡ Err e)
 included_bytes None files name bytes h absent named = tt
 included_bytes (Some all) files name bytes h absent named = λ e stop.
     chosen (has_file files name) (is_name name) files (add_present files name (bytes_of all name)) absent named ∙ ap (add_present files name) h ∙ stop
@@ -96,7 +96,7 @@ included_bytes (Some all) files name bytes h absent named = λ e stop.
 some_at_end : {X : Type 0} (xs : List X) (x : X) → 0 < length (xs ++ x ∷ [])
 some_at_end xs x = omega (arith, length-append xs (x ∷ []))
 
--- growth
+-- allocation
 pub Grows-refl : (files : FileTable) → Grows files files
 Grows-refl files = record { more = []; is = sym (append-nil files); within = λ h. absurd (omega arith) }
 
@@ -182,7 +182,7 @@ unfolding rounds_in
 last_round all names files next e same =
     ap (λ l. after_round files l (λ t. rounds_in all names (256 - length files) t)) e ∙ ap (λ b. cond b (Ok next) (rounds_in all names (256 - length files) next)) (eq-eqb (length next) (length files) same)
 
-pub stopped_round : (all : List File) (names : RolesRead) (files : FileTable) (ending : Ending) → with_round all names files ≡ Err ending → rounds_from all names files ≡ Err ending
+pub stopped_round : (all : List File) (names : RolesRead) (files : FileTable) (ending : LoadEnd) → with_round all names files ≡ Err ending → rounds_from all names files ≡ Err ending
 unfolding rounds_in
 stopped_round all names files ending e = ap (λ l. after_round files l (λ t. rounds_in all names (256 - length files) t)) e
 
@@ -217,34 +217,34 @@ next_round all names files next e more =
     ∙ sym (ap (λ l. after_round files l (λ t. rounds_in all names (256 - length files) t)) e ∙ ap (λ b. cond b (Ok next) (rounds_in all names (256 - length files) next)) (ne_eqb (length next) (length files) more))
 
 -- rounds stop where one does
-pub rounds_stop : (told told' : Option (List File)) (names : RolesRead) (start cur : FileTable) (ns : List (List ℕ)) (f f0 f' : ℕ) (e : Ending)
-    → told ≡ told' → ns ≡ missing_of cur names → IfSome told' (λ all. rounds_from all names cur ≡ rounds_from all names start) → f ≡ f0
-    → StopsFor told (λ all. with_inclusions all ns cur) f f' e → StopsFor told' (λ all. rounds_from all names start) f0 f' e
-rounds_stop told told' names start cur ns f f0 f' e stay is inv same stops =
-    stops_along told' (λ all. with_inclusions all ns cur) (λ all. rounds_from all names start) f0 f f' e same (by told' inv) (subst (λ t. StopsFor t (λ all. with_inclusions all ns cur) f f' e) stay stops)
+pub rounds_stop : (reported reported' : Option (List File)) (names : RolesRead) (start cur : FileTable) (ns : List (List ℕ)) (f f0 f' : ℕ) (e : LoadEnd)
+    → reported ≡ reported' → ns ≡ missing_of cur names → IfSome reported' (λ all. rounds_from all names cur ≡ rounds_from all names start) → f ≡ f0
+    → StopsFor reported (λ all. with_inclusions all ns cur) f f' e → StopsFor reported' (λ all. rounds_from all names start) f0 f' e
+rounds_stop reported reported' names start cur ns f f0 f' e stay is inv same stops =
+    stops_along reported' (λ all. with_inclusions all ns cur) (λ all. rounds_from all names start) f0 f f' e same (by reported' inv) (subst (λ t. StopsFor t (λ all. with_inclusions all ns cur) f f' e) stay stops)
   where
     by : (t : Option (List File)) → IfSome t (λ all. rounds_from all names cur ≡ rounds_from all names start)
-        → IfSome t (λ all. (e : Ending) → with_inclusions all ns cur ≡ Err e → rounds_from all names start ≡ Err e)
+        → IfSome t (λ all. (e : LoadEnd) → with_inclusions all ns cur ≡ Err e → rounds_from all names start ≡ Err e)
     by None h = tt
     by (Some all) h = λ e stop. sym h ∙ stopped_round all names cur e (subst (λ l. with_inclusions all l cur ≡ Err e) is stop)
 
 -- and end where one adds nothing
-pub rounds_last : (told told' : Option (List File)) (names : RolesRead) (start cur next : FileTable) (ns : List (List ℕ)) (f f0 f' : ℕ)
-    → told ≡ told' → ns ≡ missing_of cur names → IfSome told' (λ all. rounds_from all names cur ≡ rounds_from all names start) → f ≡ f0
-    → LoadsTo told (λ all. with_inclusions all ns cur) f f' next → length next ≡ length cur → LoadsTo told' (λ all. rounds_from all names start) f0 f' next
-rounds_last told told' names start cur next ns f f0 f' stay is inv same loads equal =
-    (by told' inv (subst (λ t. IfSome t (λ all. with_inclusions all ns cur ≡ Ok next)) stay loads.0), loads.1 ∙ same)
+pub rounds_last : (reported reported' : Option (List File)) (names : RolesRead) (start cur next : FileTable) (ns : List (List ℕ)) (f f0 f' : ℕ)
+    → reported ≡ reported' → ns ≡ missing_of cur names → IfSome reported' (λ all. rounds_from all names cur ≡ rounds_from all names start) → f ≡ f0
+    → LoadsTo reported (λ all. with_inclusions all ns cur) f f' next → length next ≡ length cur → LoadsTo reported' (λ all. rounds_from all names start) f0 f' next
+rounds_last reported reported' names start cur next ns f f0 f' stay is inv same loads equal =
+    (by reported' inv (subst (λ t. IfSome t (λ all. with_inclusions all ns cur ≡ Ok next)) stay loads.0), loads.1 ∙ same)
   where
     by : (t : Option (List File)) → IfSome t (λ all. rounds_from all names cur ≡ rounds_from all names start) → IfSome t (λ all. with_inclusions all ns cur ≡ Ok next)
         → IfSome t (λ all. rounds_from all names start ≡ Ok next)
     by None h k = tt
     by (Some all) h k = sym h ∙ last_round all names cur next (subst (λ l. with_inclusions all l cur ≡ Ok next) is k) equal
 
-pub rounds_on : (told told' : Option (List File)) (names : RolesRead) (start cur next : FileTable) (ns : List (List ℕ)) (f f' : ℕ)
-    → told ≡ told' → ns ≡ missing_of cur names → IfSome told' (λ all. rounds_from all names cur ≡ rounds_from all names start)
-    → LoadsTo told (λ all. with_inclusions all ns cur) f f' next → (length next ≡ length cur → ⊥)
-    → IfSome told' (λ all. rounds_from all names next ≡ rounds_from all names start)
-rounds_on told told' names start cur next ns f f' stay is inv loads more = by told' inv (subst (λ t. IfSome t (λ all. with_inclusions all ns cur ≡ Ok next)) stay loads.0)
+pub rounds_on : (reported reported' : Option (List File)) (names : RolesRead) (start cur next : FileTable) (ns : List (List ℕ)) (f f' : ℕ)
+    → reported ≡ reported' → ns ≡ missing_of cur names → IfSome reported' (λ all. rounds_from all names cur ≡ rounds_from all names start)
+    → LoadsTo reported (λ all. with_inclusions all ns cur) f f' next → (length next ≡ length cur → ⊥)
+    → IfSome reported' (λ all. rounds_from all names next ≡ rounds_from all names start)
+rounds_on reported reported' names start cur next ns f f' stay is inv loads more = by reported' inv (subst (λ t. IfSome t (λ all. with_inclusions all ns cur ≡ Ok next)) stay loads.0)
   where
     by : (t : Option (List File)) → IfSome t (λ all. rounds_from all names cur ≡ rounds_from all names start) → IfSome t (λ all. with_inclusions all ns cur ≡ Ok next)
         → IfSome t (λ all. rounds_from all names next ≡ rounds_from all names start)
@@ -257,8 +257,8 @@ list_any-map f p [] = refl
 list_any-map f p (x ∷ xs) = ap (λ b. p (f x) || b) (list_any-map f p xs)
 
 -- one more name that the folder doesn't have
-pub absent_more : (told : Option (List File)) (b : Bool) (ks : List (Vec ℕ Global)) (k : Vec ℕ Global) → AreAbsent told (map (λ k. k.items) ks) → AreAbsent told (k.items ∷ [])
-    → AreAbsent told (map (λ k. k.items) (cond b ks (ks ++ k ∷ [])))
+pub absent_more : (reported : Option (List File)) (b : Bool) (ks : List (Vec ℕ Global)) (k : Vec ℕ Global) → AreAbsent reported (map (λ k. k.items) ks) → AreAbsent reported (k.items ∷ [])
+    → AreAbsent reported (map (λ k. k.items) (cond b ks (ks ++ k ∷ [])))
 absent_more None b ks k before this = tt
 absent_more (Some all) true ks k before this = before
 absent_more (Some all) false ks k before this =
@@ -273,8 +273,8 @@ absent_at all name (n ∷ ns) h e = by (bytes_eq name n) refl (absent_at all nam
     by false other rest = rest (subst (λ b. (b || list_any (bytes_eq name) ns) ≡ true) other e)
 
 -- a name that the folder doesn't have adds nothing
-pub absent_adds_none : (told : Option (List File)) (files : FileTable) (name : List ℕ) (names : List (List ℕ)) → AreAbsent told names → list_any (bytes_eq name) names ≡ true
-    → has_file files name ≡ false → is_name name ≡ true → IfSome told (λ all. with_inclusion all files name ≡ Ok files)
+pub absent_adds_none : (reported : Option (List File)) (files : FileTable) (name : List ℕ) (names : List (List ℕ)) → AreAbsent reported names → list_any (bytes_eq name) names ≡ true
+    → has_file files name ≡ false → is_name name ≡ true → IfSome reported (λ all. with_inclusion all files name ≡ Ok files)
 absent_adds_none None files name names h e absent named = tt
 absent_adds_none (Some all) files name names h e absent named =
     chosen (has_file files name) (is_name name) files (add_present files name (bytes_of all name)) absent named ∙ ap (add_present files name) (absent_at all name names h e)
@@ -364,29 +364,29 @@ grows_fits old new names g h =
 pub fits_both : (files : FileTable) (names : RolesRead) → is_there files names.web ≡ true → is_there_if_any files names.change ≡ true → fits files names ≡ true
 fits_both files names p q = both (is_there files names.web) (is_there_if_any files names.change) p q
 
--- the name that is told was asked for last
-pub asked_last : (old new : Option (List (List ℕ))) (name : List ℕ) (given : Ending) → new ≡ with_asked old name → IsEnding (Unreadable name) given → TellsLastAsked new given
+-- the name that is reported was asked for last
+pub asked_last : (old new : Option (List (List ℕ))) (name : List ℕ) (given : LoadEnd) → new ≡ with_asked old name → IsLoadEnd (Unreadable name) given → NamesLastAsked new given
 asked_last old new name given asks which = elim which [
-  | inl e ↦ subst (TellsLastAsked new) (sym e) (subst (λ n. TellsLastAsked n (Unreadable name)) (sym asks) (by old))
-  | inr e ↦ subst (TellsLastAsked new) (sym e) tt
+  | inl e ↦ subst (NamesLastAsked new) (sym e) (subst (λ n. NamesLastAsked n (Unreadable name)) (sym asks) (by old))
+  | inr e ↦ subst (NamesLastAsked new) (sym e) tt
 ]
   where
-    by : (old : Option (List (List ℕ))) → TellsLastAsked (with_asked old name) (Unreadable name)
+    by : (old : Option (List (List ℕ))) → NamesLastAsked (with_asked old name) (Unreadable name)
     by None = tt
     by (Some names) = (names, refl)
 
-told_refused : (asked : Option (List (List ℕ))) (name : List ℕ) (refusal : Refusal) → TellsLastAsked asked (refused_as name refusal)
-told_refused asked name NoRoom = tt
-told_refused asked name refusal = tt
+reported_refused : (asked : Option (List (List ℕ))) (name : List ℕ) (refusal : Refusal) → NamesLastAsked asked (refused_as name refusal)
+reported_refused asked name NoRoom = tt
+reported_refused asked name refusal = tt
 
-pub refused_last : (asked : Option (List (List ℕ))) (name : List ℕ) (refusal : Refusal) (given : Ending) → IsEnding (refused_as name refusal) given → TellsLastAsked asked given
+pub refused_last : (asked : Option (List (List ℕ))) (name : List ℕ) (refusal : Refusal) (given : LoadEnd) → IsLoadEnd (refused_as name refusal) given → NamesLastAsked asked given
 refused_last asked name refusal given which = elim which [
-  | inl e ↦ subst (TellsLastAsked asked) (sym e) (told_refused asked name refusal)
-  | inr e ↦ subst (TellsLastAsked asked) (sym e) tt
+  | inl e ↦ subst (NamesLastAsked asked) (sym e) (reported_refused asked name refusal)
+  | inr e ↦ subst (NamesLastAsked asked) (sym e) tt
 ]
 
 -- the names are file names
-pub loads_named : (told : Option (List File)) (roles names : RolesRead) (files : FileTable) → bad_name names ≡ None → roles ≡ names
-    → IfSome told (λ all. load_unless all roles None ≡ Ok files) → IfSome told (λ all. load_of all names ≡ Ok files)
+pub loads_named : (reported : Option (List File)) (roles names : RolesRead) (files : FileTable) → bad_name names ≡ None → roles ≡ names
+    → IfSome reported (λ all. load_unless all roles None ≡ Ok files) → IfSome reported (λ all. load_of all names ≡ Ok files)
 loads_named None roles names files fine same loads = tt
 loads_named (Some all) roles names files fine same loads = ap (load_unless all names) fine ∙ ap (λ r. load_unless all r None) (sym same) ∙ loads

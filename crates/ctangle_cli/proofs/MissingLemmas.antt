@@ -8,8 +8,8 @@ use Rattle.tangle_files.specs.Lines.{FileTable, cut}
 use Rattle.tangle_files.specs.Adding.{add_refusal, with_file, has_file, is_name}
 use Rattle.tangle_files.specs.Roles.{RolesRead}
 use Rattle.tangle_folders.specs.Folder.{File, bytes_of, file_limit}
-use Rattle.ctangle_cli.specs.Loading.{Grows, Loaded, add_bytes, add_present, after_round, and_then, bad_name, load_of, load_unless, missing_of, rounds_from, rounds_in, unless_refused, with_change, with_inclusion, with_inclusions, with_round, with_wanted}
-use Rattle.ctangle_cli.specs.Loading.Ending.{Unreadable}
+use Rattle.ctangle_cli.specs.Loading.{Grows, Loaded, add_bytes, add_present, after_round, and_then, bad_name, load_of, load_unless, missing_of, rounds_from, rounds_in, unless_refused, with_change, with_inclusion, with_inclusions, with_round, with_needed}
+use Rattle.ctangle_cli.specs.Loading.LoadEnd.{Unreadable}
 use Rattle.ctangle_cli.proofs.LoadLemmas.{grows_all, grows_one, longer}
 
 -- a table that has grown and is no longer is the same
@@ -100,7 +100,7 @@ after (Err ending) rest files e = absurd (cc)
 loaded_ended : (all : List File) (names : RolesRead) (files : FileTable) (o : Option (List ℕ)) → load_unless all names o ≡ Ok files → with_round all names files ≡ Ok files
 loaded_ended all names files (Some name) e = absurd (cc)
 loaded_ended all names files None e =
-    let first = after (with_wanted all [] names.web) (λ files. and_then (with_change all files names.change) (λ more. rounds_from all names more)) files e in
+    let first = after (with_needed all [] names.web) (λ files. and_then (with_change all files names.change) (λ more. rounds_from all names more)) files e in
     let second = after (with_change all first.0 names.change) (λ more. rounds_from all names more) files first.1 in
     ended all names (suc (256 - length second.0)) second.0 files (omega arith) second.1
 

@@ -15,8 +15,8 @@ use Rattle.tangle_files.specs.Roles.{RolesRead}
 use Rattle.tangle_streams.specs.Streams.{one_more_failure}
 use Rattle.tangle_folders.specs.declared.folder.FolderFault.TheVariants.{Missing}
 use Rattle.tangle_folders.specs.Folder.{File, Reads, bytes_of, with_asked}
-use Rattle.ctangle_cli.specs.Loading.{Ending, IsAskedLast, IsEnding, add_bytes, bad_name, missing_of, refused_as}
-use Rattle.ctangle_cli.specs.Loading.Ending.{Unreadable, Refuses, Memory}
+use Rattle.ctangle_cli.specs.Loading.{LoadEnd, IsAskedLast, IsLoadEnd, add_bytes, bad_name, missing_of, refused_as}
+use Rattle.ctangle_cli.specs.Loading.LoadEnd.{Unreadable, Refuses, Memory}
 use Rattle.ctangle_cli.specs.Questions.{AsksAll, AsksFront, AsksSome, AsksUntil, AsksUpTo, AsksWhole, FailsLast, StopsAmong, ask, ask_all, asked_in, asked_unless, file_if_there, files_under, named_in}
 use Rattle.ctangle_cli.specs.Tries.{EndsAmong, GoesOn, HasAsked, InRounds, IsAbout, Tries, is_tried, tried}
 use Rattle.ctangle_cli.proofs.AskLemmas.{TriesThis, added, behind_more, or_false, or_left, or_right}
@@ -83,8 +83,8 @@ nothing_yet : (all : List File) (before : List (List ℕ)) → HasAsked all befo
 nothing_yet all before = record { behind = ap (λ l. Some l) (sym (append-nil before)); same = λ name. refl; files = refl }
 
 -- the folder was asked for this name, and answered
-pub goes_asked : (told : Option (List File)) (old new : Tries) (name : List ℕ) → is_tried old name ≡ false → new.asked ≡ with_asked old.asked name → TriesThis old new name
-    → IfSome told (λ all. new.files ≡ old.files ++ file_if_there name (bytes_of all name)) → GoesOn told old new (name ∷ [])
+pub goes_asked : (reported : Option (List File)) (old new : Tries) (name : List ℕ) → is_tried old name ≡ false → new.asked ≡ with_asked old.asked name → TriesThis old new name
+    → IfSome reported (λ all. new.files ≡ old.files ++ file_if_there name (bytes_of all name)) → GoesOn reported old new (name ∷ [])
 goes_asked None old new name fresh asks this found = tt
 goes_asked (Some all) old new name fresh asks this found = λ before since h.
     subst (HasAsked all before new) (sym (ask_new since name (h.same name ∙ fresh))) (record {
@@ -95,56 +95,56 @@ goes_asked (Some all) old new name fresh asks this found = λ before since h.
           ∙ ap (λ t. files_under all since ++ t) (sym (append-nil (file_if_there name (bytes_of all name)))) ∙ sym (files_under-append all since (name ∷ []));
     })
 
-pub found_added : (told : Option (List File)) (files next : FileTable) (name : List ℕ) (bytes : Vec ℕ Global) → Reads told name (Ok bytes) → add_bytes files name bytes.items ≡ Ok next
-    → IfSome told (λ all. next ≡ files ++ file_if_there name (bytes_of all name))
+pub found_added : (reported : Option (List File)) (files next : FileTable) (name : List ℕ) (bytes : Vec ℕ Global) → Reads reported name (Ok bytes) → add_bytes files name bytes.items ≡ Ok next
+    → IfSome reported (λ all. next ≡ files ++ file_if_there name (bytes_of all name))
 found_added None files next name bytes h e = tt
 found_added (Some all) files next name bytes h e = sym (added files next name bytes.items e) ∙ ap (λ o. files ++ file_if_there name o) (sym h)
 
-pub found_none : (told : Option (List File)) (files : FileTable) (name : List ℕ) → Reads told name (Err Missing) → IfSome told (λ all. files ≡ files ++ file_if_there name (bytes_of all name))
+pub found_none : (reported : Option (List File)) (files : FileTable) (name : List ℕ) → Reads reported name (Err Missing) → IfSome reported (λ all. files ≡ files ++ file_if_there name (bytes_of all name))
 found_none None files name h = tt
 found_none (Some all) files name h = sym (append-nil files) ∙ ap (λ o. files ++ file_if_there name o) (sym h)
 
 -- the folder was not asked
-pub goes_none : (told : Option (List File)) (old : Tries) → GoesOn told old old []
+pub goes_none : (reported : Option (List File)) (old : Tries) → GoesOn reported old old []
 goes_none None old = tt
 goes_none (Some all) old = λ before since h. h
 
-pub goes_tried : (told : Option (List File)) (old : Tries) (name : List ℕ) → is_tried old name ≡ true → GoesOn told old old (name ∷ [])
+pub goes_tried : (reported : Option (List File)) (old : Tries) (name : List ℕ) → is_tried old name ≡ true → GoesOn reported old old (name ∷ [])
 goes_tried None old name e = tt
 goes_tried (Some all) old name e = λ before since h. subst (HasAsked all before old) (sym (ask_old since name (h.same name ∙ e))) h
 
 pub one_name : (name : List ℕ) → is_name name ≡ true → filter is_name (name ∷ []) ≡ name ∷ []
 one_name name e = ap (λ b. cond b (name ∷ []) []) e
 
-pub goes_skipped : (told : Option (List File)) (old : Tries) (name : List ℕ) → (has_file old.files name || not (is_name name)) ≡ true → GoesOn told old old (filter is_name (name ∷ []))
-goes_skipped told old name e = by (is_name name) e
+pub goes_skipped : (reported : Option (List File)) (old : Tries) (name : List ℕ) → (has_file old.files name || not (is_name name)) ≡ true → GoesOn reported old old (filter is_name (name ∷ []))
+goes_skipped reported old name e = by (is_name name) e
   where
-    by : (b : Bool) → (has_file old.files name || not b) ≡ true → GoesOn told old old (cond b (name ∷ []) [])
-    by false e = goes_none told old
-    by true e = goes_tried told old name (or_left (has_file old.files name) (list_any (bytes_eq name) old.absent) (sym (or_false (has_file old.files name)) ∙ e))
+    by : (b : Bool) → (has_file old.files name || not b) ≡ true → GoesOn reported old old (cond b (name ∷ []) [])
+    by false e = goes_none reported old
+    by true e = goes_tried reported old name (or_left (has_file old.files name) (list_any (bytes_eq name) old.absent) (sym (or_false (has_file old.files name)) ∙ e))
 
 -- loading ends at this name, or before it
-about_ending : (name : List ℕ) (given : Ending) → IsEnding (Unreadable name) given → IsAbout name given
+about_ending : (name : List ℕ) (given : LoadEnd) → IsLoadEnd (Unreadable name) given → IsAbout name given
 about_ending name given which = elim which [ inl e ↦ subst (IsAbout name) (sym e) refl | inr e ↦ subst (IsAbout name) (sym e) tt ]
 
 about_refusal : (name : List ℕ) (refusal : Refusal) → IsAbout name (refused_as name refusal)
 about_refusal name NoRoom = tt
 about_refusal name refusal = refl
 
-pub about_refused : (name : List ℕ) (refusal : Refusal) (given : Ending) → IsEnding (refused_as name refusal) given → IsAbout name given
+pub about_refused : (name : List ℕ) (refusal : Refusal) (given : LoadEnd) → IsLoadEnd (refused_as name refusal) given → IsAbout name given
 about_refused name refusal given which =
     elim which [ inl e ↦ subst (IsAbout name) (sym e) (about_refusal name refusal) | inr e ↦ subst (IsAbout name) (sym e) tt ]
 
-stops_last : (since before : List (List ℕ)) (asked : Option (List (List ℕ))) (name : List ℕ) (ending : Ending) → asked ≡ Some (before ++ (since ++ name ∷ [])) → IsAbout name ending
+stops_last : (since before : List (List ℕ)) (asked : Option (List (List ℕ))) (name : List ℕ) (ending : LoadEnd) → asked ≡ Some (before ++ (since ++ name ∷ [])) → IsAbout name ending
     → StopsAmong (since ++ name ∷ []) before asked ending
-stops_last since before asked name (Unreadable told) behind about =
+stops_last since before asked name (Unreadable reported) behind about =
     subst (AsksUpTo (since ++ name ∷ []) before asked) (sym about) (record { front = since; rest = []; split = refl; behind = behind })
-stops_last since before asked name (Refuses told refusal) behind about =
+stops_last since before asked name (Refuses reported refusal) behind about =
     subst (AsksUpTo (since ++ name ∷ []) before asked) (sym about) (record { front = since; rest = []; split = refl; behind = behind })
 stops_last since before asked name Memory behind about =
     record { front = since ++ name ∷ []; rest = []; split = sym (append-nil (since ++ name ∷ [])); behind = behind }
 
-stops_further : (names more before : List (List ℕ)) (asked : Option (List (List ℕ))) (ending : Ending) → StopsAmong names before asked ending → StopsAmong (names ++ more) before asked ending
+stops_further : (names more before : List (List ℕ)) (asked : Option (List (List ℕ))) (ending : LoadEnd) → StopsAmong names before asked ending → StopsAmong (names ++ more) before asked ending
 stops_further names more before asked (Unreadable name) s =
     record { front = s.front; rest = s.rest ++ more; split = ap (λ l. l ++ more) s.split ∙ append_assoc s.front (name ∷ s.rest) more; behind = s.behind }
 stops_further names more before asked (Refuses name refusal) s =
@@ -152,35 +152,35 @@ stops_further names more before asked (Refuses name refusal) s =
 stops_further names more before asked Memory s =
     record { front = s.front; rest = s.rest ++ more; split = ap (λ l. l ++ more) s.split ∙ append_assoc s.front s.rest more; behind = s.behind }
 
-pub ends_about : (told : Option (List File)) (old : Tries) (asked : Option (List (List ℕ))) (name : List ℕ) (ending : Ending) → is_tried old name ≡ false → asked ≡ with_asked old.asked name
-    → IsAbout name ending → EndsAmong told old asked (name ∷ []) ending
+pub ends_about : (reported : Option (List File)) (old : Tries) (asked : Option (List (List ℕ))) (name : List ℕ) (ending : LoadEnd) → is_tried old name ≡ false → asked ≡ with_asked old.asked name
+    → IsAbout name ending → EndsAmong reported old asked (name ∷ []) ending
 ends_about None old asked name ending fresh asks about = tt
 ends_about (Some all) old asked name ending fresh asks about = λ before since h.
     subst (λ l. StopsAmong l before asked ending) (sym (ask_new since name (h.same name ∙ fresh)))
     (stops_last since before asked name ending (behind_more before since old.asked asked name h.behind asks) about)
 
-pub ends_at : (told : Option (List File)) (old : Tries) (asked : Option (List (List ℕ))) (name : List ℕ) (ending : Ending) → is_tried old name ≡ false → asked ≡ with_asked old.asked name
-    → IsEnding (Unreadable name) ending → EndsAmong told old asked (name ∷ []) ending
-ends_at told old asked name ending fresh asks which = ends_about told old asked name ending fresh asks (about_ending name ending which)
+pub ends_at : (reported : Option (List File)) (old : Tries) (asked : Option (List (List ℕ))) (name : List ℕ) (ending : LoadEnd) → is_tried old name ≡ false → asked ≡ with_asked old.asked name
+    → IsLoadEnd (Unreadable name) ending → EndsAmong reported old asked (name ∷ []) ending
+ends_at reported old asked name ending fresh asks which = ends_about reported old asked name ending fresh asks (about_ending name ending which)
 
-pub ends_before : (told : Option (List File)) (old : Tries) (asked : Option (List (List ℕ))) (names : List (List ℕ)) → asked ≡ old.asked → EndsAmong told old asked names Memory
+pub ends_before : (reported : Option (List File)) (old : Tries) (asked : Option (List (List ℕ))) (names : List (List ℕ)) → asked ≡ old.asked → EndsAmong reported old asked names Memory
 ends_before None old asked names same = tt
 ends_before (Some all) old asked names same = λ before since h.
     let front = ask_all_front since names in
     record { front = since; rest = front.0; split = front.1; behind = same ∙ h.behind }
 
-pub ends_short : (told : Option (List File)) (old : Tries) (asked : Option (List (List ℕ))) (name : List ℕ) → is_tried old name ≡ false → (asked ≡ old.asked) ⊎ (asked ≡ with_asked old.asked name)
-    → EndsAmong told old asked (name ∷ []) Memory
-ends_short told old asked name fresh which =
-    elim which [ inl e ↦ ends_before told old asked (name ∷ []) e | inr e ↦ ends_about told old asked name Memory fresh e tt ]
+pub ends_short : (reported : Option (List File)) (old : Tries) (asked : Option (List (List ℕ))) (name : List ℕ) → is_tried old name ≡ false → (asked ≡ old.asked) ⊎ (asked ≡ with_asked old.asked name)
+    → EndsAmong reported old asked (name ∷ []) Memory
+ends_short reported old asked name fresh which =
+    elim which [ inl e ↦ ends_before reported old asked (name ∷ []) e | inr e ↦ ends_about reported old asked name Memory fresh e tt ]
 
 -- one after another
 abbrev pub OrderSoFar : Option (List File) → Tries → Tries → List (List ℕ) → List (List ℕ) → Type 0
-OrderSoFar told old now all rest =
-    IfSome told (λ files. (before since : List (List ℕ)) → HasAsked files before old since
+OrderSoFar reported old now all rest =
+    IfSome reported (λ files. (before since : List (List ℕ)) → HasAsked files before old since
     → (so_far : List (List ℕ)) × HasAsked files before now so_far × (ask_all so_far (filter is_name rest) ≡ ask_all since (filter is_name all)))
 
-pub order_begins : (told : Option (List File)) (old : Tries) (all : List (List ℕ)) → OrderSoFar told old old all all
+pub order_begins : (reported : Option (List File)) (old : Tries) (all : List (List ℕ)) → OrderSoFar reported old old all all
 order_begins None old all = tt
 order_begins (Some files) old all = λ before since h. (since, h, refl)
 
@@ -188,9 +188,9 @@ one_more : (so_far : List (List ℕ)) (name : List ℕ) (rest : List (List ℕ))
 one_more so_far name rest true = refl
 one_more so_far name rest false = refl
 
-pub order_next : (told told' : Option (List File)) (old now next : Tries) (all names : List (List ℕ)) (name : List ℕ) (rest : List (List ℕ)) → told' ≡ told → names ≡ name ∷ rest
-    → OrderSoFar told old now all names → GoesOn told' now next (filter is_name (name ∷ [])) → OrderSoFar told old next all rest
-order_next told told' old now next all names name rest stay is so_far goes = by told so_far (subst (λ t. GoesOn t now next (filter is_name (name ∷ []))) stay goes)
+pub order_next : (reported reported' : Option (List File)) (old now next : Tries) (all names : List (List ℕ)) (name : List ℕ) (rest : List (List ℕ)) → reported' ≡ reported → names ≡ name ∷ rest
+    → OrderSoFar reported old now all names → GoesOn reported' now next (filter is_name (name ∷ [])) → OrderSoFar reported old next all rest
+order_next reported reported' old now next all names name rest stay is so_far goes = by reported so_far (subst (λ t. GoesOn t now next (filter is_name (name ∷ []))) stay goes)
   where
     by : (t : Option (List File)) → OrderSoFar t old now all names → GoesOn t now next (filter is_name (name ∷ [])) → OrderSoFar t old next all rest
     by None so_far goes = tt
@@ -201,10 +201,10 @@ order_next told told' old now next all names name rest stay is so_far goes = by 
           one_more here.0 name (filter is_name rest) (is_name name) ∙ ap (λ l. ask_all here.0 (filter is_name l)) (sym is) ∙ here.2,
         )
 
-pub order_stops : (told told' : Option (List File)) (old now : Tries) (asked : Option (List (List ℕ))) (all names : List (List ℕ)) (name : List ℕ) (rest : List (List ℕ)) (ending : Ending)
-    → told' ≡ told → names ≡ name ∷ rest → OrderSoFar told old now all names → EndsAmong told' now asked (filter is_name (name ∷ [])) ending → EndsAmong told old asked (filter is_name all) ending
-order_stops told told' old now asked all names name rest ending stay is so_far ends =
-    by told so_far (subst (λ t. EndsAmong t now asked (filter is_name (name ∷ [])) ending) stay ends)
+pub order_stops : (reported reported' : Option (List File)) (old now : Tries) (asked : Option (List (List ℕ))) (all names : List (List ℕ)) (name : List ℕ) (rest : List (List ℕ)) (ending : LoadEnd)
+    → reported' ≡ reported → names ≡ name ∷ rest → OrderSoFar reported old now all names → EndsAmong reported' now asked (filter is_name (name ∷ [])) ending → EndsAmong reported old asked (filter is_name all) ending
+order_stops reported reported' old now asked all names name rest ending stay is so_far ends =
+    by reported so_far (subst (λ t. EndsAmong t now asked (filter is_name (name ∷ [])) ending) stay ends)
   where
     by : (t : Option (List File)) → OrderSoFar t old now all names → EndsAmong t now asked (filter is_name (name ∷ [])) ending → EndsAmong t old asked (filter is_name all) ending
     by None so_far ends = tt
@@ -216,7 +216,7 @@ order_stops told told' old now asked all names name rest ending stay is so_far e
         (sym more.1 ∙ one_more here.0 name (filter is_name rest) (is_name name) ∙ ap (λ l. ask_all here.0 (filter is_name l)) (sym is) ∙ here.2)
         (stops_further first more.0 before asked ending (ends before here.0 here.1))
 
-pub order_ends : (told : Option (List File)) (old now : Tries) (all rest : List (List ℕ)) → rest ≡ [] → OrderSoFar told old now all rest → GoesOn told old now (filter is_name all)
+pub order_ends : (reported : Option (List File)) (old now : Tries) (all rest : List (List ℕ)) → rest ≡ [] → OrderSoFar reported old now all rest → GoesOn reported old now (filter is_name all)
 order_ends None old now all rest is so_far = tt
 order_ends (Some files) old now all rest is so_far = λ before since h.
     let here = so_far before since h in
@@ -224,9 +224,9 @@ order_ends (Some files) old now all rest is so_far = λ before since h.
 
 -- round by round
 abbrev pub RoundsSoFar : Option (List File) → RolesRead → Tries → Tries → Type 0
-RoundsSoFar told roles start now = IfSome told (λ all. (before : List (List ℕ)) → InRounds all roles before start → InRounds all roles before now)
+RoundsSoFar reported roles start now = IfSome reported (λ all. (before : List (List ℕ)) → InRounds all roles before start → InRounds all roles before now)
 
-pub rounds_begin : (told : Option (List File)) (roles : RolesRead) (start : Tries) → RoundsSoFar told roles start start
+pub rounds_begin : (reported : Option (List File)) (roles : RolesRead) (start : Tries) → RoundsSoFar reported roles start start
 rounds_begin None roles start = tt
 rounds_begin (Some all) roles start = λ before r. r
 
@@ -234,9 +234,9 @@ this_round : (all : List File) (roles : RolesRead) (before : List (List ℕ)) (o
     → ask_all (asked_in all roles r.0) (filter is_name missed) ≡ asked_in all roles (suc r.0)
 this_round all roles before old missed r is = ap (λ l. ask_all (asked_in all roles r.0) (filter is_name l)) (is ∙ ap (λ t. missing_of t roles) r.1.files)
 
-pub rounds_go_on : (told told' : Option (List File)) (roles : RolesRead) (start old new : Tries) (missed : List (List ℕ)) → told' ≡ told → missed ≡ missing_of old.files roles
-    → RoundsSoFar told roles start old → GoesOn told' old new (filter is_name missed) → RoundsSoFar told roles start new
-rounds_go_on told told' roles start old new missed stay is so_far goes = by told so_far (subst (λ t. GoesOn t old new (filter is_name missed)) stay goes)
+pub rounds_go_on : (reported reported' : Option (List File)) (roles : RolesRead) (start old new : Tries) (missed : List (List ℕ)) → reported' ≡ reported → missed ≡ missing_of old.files roles
+    → RoundsSoFar reported roles start old → GoesOn reported' old new (filter is_name missed) → RoundsSoFar reported roles start new
+rounds_go_on reported reported' roles start old new missed stay is so_far goes = by reported so_far (subst (λ t. GoesOn t old new (filter is_name missed)) stay goes)
   where
     by : (t : Option (List File)) → RoundsSoFar t roles start old → GoesOn t old new (filter is_name missed) → RoundsSoFar t roles start new
     by None so_far goes = tt
@@ -244,10 +244,10 @@ rounds_go_on told told' roles start old new missed stay is so_far goes = by told
         let here = so_far before r in
         (suc here.0, subst (HasAsked all before new) (this_round all roles before old missed here is) (goes before (asked_in all roles here.0) here.1))
 
-pub rounds_are_all : (told told' : Option (List File)) (roles : RolesRead) (start old new : Tries) (missed : List (List ℕ)) → told' ≡ told → missed ≡ missing_of old.files roles
-    → new.files ≡ old.files → RoundsSoFar told roles start old → GoesOn told' old new (filter is_name missed)
-    → IfSome told (λ all. (before : List (List ℕ)) → InRounds all roles before start → AsksWhole all roles before new.asked)
-rounds_are_all told told' roles start old new missed stay is same so_far goes = by told so_far (subst (λ t. GoesOn t old new (filter is_name missed)) stay goes)
+pub rounds_are_all : (reported reported' : Option (List File)) (roles : RolesRead) (start old new : Tries) (missed : List (List ℕ)) → reported' ≡ reported → missed ≡ missing_of old.files roles
+    → new.files ≡ old.files → RoundsSoFar reported roles start old → GoesOn reported' old new (filter is_name missed)
+    → IfSome reported (λ all. (before : List (List ℕ)) → InRounds all roles before start → AsksWhole all roles before new.asked)
+rounds_are_all reported reported' roles start old new missed stay is same so_far goes = by reported so_far (subst (λ t. GoesOn t old new (filter is_name missed)) stay goes)
   where
     by : (t : Option (List File)) → RoundsSoFar t roles start old → GoesOn t old new (filter is_name missed)
         → IfSome t (λ all. (before : List (List ℕ)) → InRounds all roles before start → AsksWhole all roles before new.asked)
@@ -264,13 +264,13 @@ rounds_are_all told told' roles start old new missed stay is same so_far goes = 
               ∙ ask_again (asked_in all roles here.0) (filter is_name (missing_of (files_under all (asked_in all roles here.0)) roles));
         }
 
-abbrev pub RoundsStop : Option (List File) → RolesRead → Tries → Option (List (List ℕ)) → Ending → Type 0
-RoundsStop told roles start asked ending =
-    IfSome told (λ all. (before : List (List ℕ)) → InRounds all roles before start → (rounds : ℕ) × StopsAmong (asked_in all roles rounds) before asked ending)
+abbrev pub RoundsStop : Option (List File) → RolesRead → Tries → Option (List (List ℕ)) → LoadEnd → Type 0
+RoundsStop reported roles start asked ending =
+    IfSome reported (λ all. (before : List (List ℕ)) → InRounds all roles before start → (rounds : ℕ) × StopsAmong (asked_in all roles rounds) before asked ending)
 
-pub rounds_stop_among : (told told' : Option (List File)) (roles : RolesRead) (start old : Tries) (asked : Option (List (List ℕ))) (missed : List (List ℕ)) (ending : Ending) → told' ≡ told
-    → missed ≡ missing_of old.files roles → RoundsSoFar told roles start old → EndsAmong told' old asked (filter is_name missed) ending → RoundsStop told roles start asked ending
-rounds_stop_among told told' roles start old asked missed ending stay is so_far ends = by told so_far (subst (λ t. EndsAmong t old asked (filter is_name missed) ending) stay ends)
+pub rounds_stop_among : (reported reported' : Option (List File)) (roles : RolesRead) (start old : Tries) (asked : Option (List (List ℕ))) (missed : List (List ℕ)) (ending : LoadEnd) → reported' ≡ reported
+    → missed ≡ missing_of old.files roles → RoundsSoFar reported roles start old → EndsAmong reported' old asked (filter is_name missed) ending → RoundsStop reported roles start asked ending
+rounds_stop_among reported reported' roles start old asked missed ending stay is so_far ends = by reported so_far (subst (λ t. EndsAmong t old asked (filter is_name missed) ending) stay ends)
   where
     by : (t : Option (List File)) → RoundsSoFar t roles start old → EndsAmong t old asked (filter is_name missed) ending → RoundsStop t roles start asked ending
     by None so_far ends = tt
@@ -278,7 +278,7 @@ rounds_stop_among told told' roles start old asked missed ending stay is so_far 
         let here = so_far before r in
         (suc here.0, subst (λ l. StopsAmong l before asked ending) (this_round all roles before old missed here is) (ends before (asked_in all roles here.0) here.1))
 
-pub rounds_stop_here : (told : Option (List File)) (roles : RolesRead) (start old : Tries) → RoundsSoFar told roles start old → RoundsStop told roles start old.asked Memory
+pub rounds_stop_here : (reported : Option (List File)) (roles : RolesRead) (start old : Tries) → RoundsSoFar reported roles start old → RoundsStop reported roles start old.asked Memory
 rounds_stop_here None roles start old so_far = tt
 rounds_stop_here (Some all) roles start old so_far = λ before r.
     let here = so_far before r in
@@ -286,34 +286,34 @@ rounds_stop_here (Some all) roles start old so_far = λ before r.
 
 -- from the web on
 abbrev pub Begun : Option (List File) → Option (List (List ℕ)) → RolesRead → Tries → Type 0
-Begun told asked roles now = IfSome told (λ all. IfSome asked (λ before. InRounds all roles before now))
+Begun reported asked roles now = IfSome reported (λ all. IfSome asked (λ before. InRounds all roles before now))
 
-pub begins_rounds : (told : Option (List File)) (asked : Option (List (List ℕ))) (roles : RolesRead) (mid now : Tries) → GoesOn told (tried asked [] []) mid (roles.web ∷ [])
-    → GoesOn told mid now (named_in roles.change) → Begun told asked roles now
+pub begins_rounds : (reported : Option (List File)) (asked : Option (List (List ℕ))) (roles : RolesRead) (mid now : Tries) → GoesOn reported (tried asked [] []) mid (roles.web ∷ [])
+    → GoesOn reported mid now (named_in roles.change) → Begun reported asked roles now
 begins_rounds None asked roles mid now first second = tt
 begins_rounds (Some all) None roles mid now first second = tt
 begins_rounds (Some all) (Some before) roles mid now first second =
     (zero, second before (ask_all [] (roles.web ∷ [])) (first before [] (nothing_yet all before)))
 
-pub all_asked : (told : Option (List File)) (asked now : Option (List (List ℕ))) (roles : RolesRead) (start : Tries) → Begun told asked roles start
-    → IfSome told (λ all. (before : List (List ℕ)) → InRounds all roles before start → AsksWhole all roles before now) → AsksAll told roles asked now
+pub all_asked : (reported : Option (List File)) (asked now : Option (List (List ℕ))) (roles : RolesRead) (start : Tries) → Begun reported asked roles start
+    → IfSome reported (λ all. (before : List (List ℕ)) → InRounds all roles before start → AsksWhole all roles before now) → AsksAll reported roles asked now
 all_asked None asked now roles start begun whole = tt
 all_asked (Some all) None now roles start begun whole = tt
 all_asked (Some all) (Some before) now roles start begun whole = whole before begun
 
-pub some_until : (told : Option (List File)) (roles : RolesRead) (before now : Option (List (List ℕ))) (ending : Ending) → AsksSome told roles before now ending → AsksUntil told roles before now ending
-some_until told roles before now (Unreadable name) h = h
-some_until told roles before now (Refuses name refusal) h = inr h
-some_until told roles before now Memory h = h
+pub some_until : (reported : Option (List File)) (roles : RolesRead) (before now : Option (List (List ℕ))) (ending : LoadEnd) → AsksSome reported roles before now ending → AsksUntil reported roles before now ending
+some_until reported roles before now (Unreadable name) h = h
+some_until reported roles before now (Refuses name refusal) h = inr h
+some_until reported roles before now Memory h = h
 
-some_of : (told : Option (List File)) (roles : RolesRead) (asked now : Option (List (List ℕ))) (ending : Ending) → bad_name roles ≡ None
-    → IfSome told (λ all. IfSome asked (λ before. (rounds : ℕ) × StopsAmong (asked_in all roles rounds) before now ending)) → AsksUntil told roles asked now ending
-some_of told roles asked now ending fine h =
-    some_until told roles asked now ending (subst (λ o. IfSome told (λ all. IfSome asked (λ before. (rounds : ℕ) × StopsAmong (asked_unless all roles o rounds) before now ending))) (sym fine) h)
+some_of : (reported : Option (List File)) (roles : RolesRead) (asked now : Option (List (List ℕ))) (ending : LoadEnd) → bad_name roles ≡ None
+    → IfSome reported (λ all. IfSome asked (λ before. (rounds : ℕ) × StopsAmong (asked_in all roles rounds) before now ending)) → AsksUntil reported roles asked now ending
+some_of reported roles asked now ending fine h =
+    some_until reported roles asked now ending (subst (λ o. IfSome reported (λ all. IfSome asked (λ before. (rounds : ℕ) × StopsAmong (asked_unless all roles o rounds) before now ending))) (sym fine) h)
 
-pub until_first : (told : Option (List File)) (asked now : Option (List (List ℕ))) (roles : RolesRead) (ending : Ending) → EndsAmong told (tried asked [] []) now (roles.web ∷ []) ending
-    → bad_name roles ≡ None → AsksUntil told roles asked now ending
-until_first told asked now roles ending ends fine = some_of told roles asked now ending fine (by told asked ends)
+pub until_first : (reported : Option (List File)) (asked now : Option (List (List ℕ))) (roles : RolesRead) (ending : LoadEnd) → EndsAmong reported (tried asked [] []) now (roles.web ∷ []) ending
+    → bad_name roles ≡ None → AsksUntil reported roles asked now ending
+until_first reported asked now roles ending ends fine = some_of reported roles asked now ending fine (by reported asked ends)
   where
     by : (t : Option (List File)) (a : Option (List (List ℕ))) → EndsAmong t (tried a [] []) now (roles.web ∷ []) ending
         → IfSome t (λ all. IfSome a (λ before. (rounds : ℕ) × StopsAmong (asked_in all roles rounds) before now ending))
@@ -324,9 +324,9 @@ until_first told asked now roles ending ends fine = some_of told roles asked now
         let more = ask_all_front first (named_in roles.change) in
         (zero, subst (λ l. StopsAmong l before now ending) (sym more.1) (stops_further first more.0 before now ending (ends before [] (nothing_yet all before))))
 
-pub until_second : (told : Option (List File)) (asked now : Option (List (List ℕ))) (roles : RolesRead) (mid : Tries) (ending : Ending) → GoesOn told (tried asked [] []) mid (roles.web ∷ [])
-    → EndsAmong told mid now (named_in roles.change) ending → bad_name roles ≡ None → AsksUntil told roles asked now ending
-until_second told asked now roles mid ending first ends fine = some_of told roles asked now ending fine (by told asked first ends)
+pub until_second : (reported : Option (List File)) (asked now : Option (List (List ℕ))) (roles : RolesRead) (mid : Tries) (ending : LoadEnd) → GoesOn reported (tried asked [] []) mid (roles.web ∷ [])
+    → EndsAmong reported mid now (named_in roles.change) ending → bad_name roles ≡ None → AsksUntil reported roles asked now ending
+until_second reported asked now roles mid ending first ends fine = some_of reported roles asked now ending fine (by reported asked first ends)
   where
     by : (t : Option (List File)) (a : Option (List (List ℕ))) → GoesOn t (tried a [] []) mid (roles.web ∷ []) → EndsAmong t mid now (named_in roles.change) ending
         → IfSome t (λ all. IfSome a (λ before. (rounds : ℕ) × StopsAmong (asked_in all roles rounds) before now ending))
@@ -334,9 +334,9 @@ until_second told asked now roles mid ending first ends fine = some_of told role
     by (Some all) None first ends = tt
     by (Some all) (Some before) first ends = (zero, ends before (ask_all [] (roles.web ∷ [])) (first before [] (nothing_yet all before)))
 
-pub until_rounds : (told : Option (List File)) (asked now : Option (List (List ℕ))) (roles : RolesRead) (start : Tries) (ending : Ending) → Begun told asked roles start
-    → RoundsStop told roles start now ending → bad_name roles ≡ None → AsksUntil told roles asked now ending
-until_rounds told asked now roles start ending begun stops fine = some_of told roles asked now ending fine (by told asked begun stops)
+pub until_rounds : (reported : Option (List File)) (asked now : Option (List (List ℕ))) (roles : RolesRead) (start : Tries) (ending : LoadEnd) → Begun reported asked roles start
+    → RoundsStop reported roles start now ending → bad_name roles ≡ None → AsksUntil reported roles asked now ending
+until_rounds reported asked now roles start ending begun stops fine = some_of reported roles asked now ending fine (by reported asked begun stops)
   where
     by : (t : Option (List File)) (a : Option (List (List ℕ))) → Begun t a roles start → RoundsStop t roles start now ending
         → IfSome t (λ all. IfSome a (λ before. (rounds : ℕ) × StopsAmong (asked_in all roles rounds) before now ending))
@@ -348,18 +348,18 @@ until_rounds told asked now roles start ending begun stops fine = some_of told r
 none_of : (names before : List (List ℕ)) → AsksFront names before (Some before)
 none_of names before = record { front = []; rest = names; split = refl; behind = ap (λ l. Some l) (sym (append-nil before)) }
 
-pub until_none : (told : Option (List File)) (asked : Option (List (List ℕ))) (roles : RolesRead) → AsksUntil told roles asked asked Memory
+pub until_none : (reported : Option (List File)) (asked : Option (List (List ℕ))) (roles : RolesRead) → AsksUntil reported roles asked asked Memory
 until_none None asked roles = tt
 until_none (Some all) None roles = tt
 until_none (Some all) (Some before) roles = (zero, none_of (asked_unless all roles (bad_name roles) zero) before)
 
-pub until_bad : (told : Option (List File)) (asked : Option (List (List ℕ))) (roles : RolesRead) (name : List ℕ) (refusal : Refusal) (given : Ending) → bad_name roles ≡ Some name
-    → IsEnding (refused_as name refusal) given → AsksUntil told roles asked asked given
-until_bad told asked roles name refusal given bad which =
-    elim which [ inl e ↦ subst (AsksUntil told roles asked asked) (sym e) (by refusal) | inr e ↦ subst (AsksUntil told roles asked asked) (sym e) (until_none told asked roles) ]
+pub until_bad : (reported : Option (List File)) (asked : Option (List (List ℕ))) (roles : RolesRead) (name : List ℕ) (refusal : Refusal) (given : LoadEnd) → bad_name roles ≡ Some name
+    → IsLoadEnd (refused_as name refusal) given → AsksUntil reported roles asked asked given
+until_bad reported asked roles name refusal given bad which =
+    elim which [ inl e ↦ subst (AsksUntil reported roles asked asked) (sym e) (by refusal) | inr e ↦ subst (AsksUntil reported roles asked asked) (sym e) (until_none reported asked roles) ]
   where
-    by : (r : Refusal) → AsksUntil told roles asked asked (refused_as name r)
-    by NoRoom = until_none told asked roles
+    by : (r : Refusal) → AsksUntil reported roles asked asked (refused_as name r)
+    by NoRoom = until_none reported asked roles
     by r = inl (bad, refl)
 
 -- the folder did not fail, or at the last name
@@ -379,17 +379,17 @@ fails_since asked failed now failed' n m n' same counted h =
     subst (λ k. FailsLast asked failed failed' k n') counted (subst (λ l. FailsLast asked l failed' m n') same h)
 
 -- the name is a file name
-pub named_goes : (told : Option (List File)) (old new : Tries) (name : List ℕ) → is_name name ≡ true → GoesOn told old new (name ∷ []) → GoesOn told old new (filter is_name (name ∷ []))
-named_goes told old new name named h = subst (GoesOn told old new) (sym (one_name name named)) h
+pub named_goes : (reported : Option (List File)) (old new : Tries) (name : List ℕ) → is_name name ≡ true → GoesOn reported old new (name ∷ []) → GoesOn reported old new (filter is_name (name ∷ []))
+named_goes reported old new name named h = subst (GoesOn reported old new) (sym (one_name name named)) h
 
-pub named_ends : (told : Option (List File)) (old : Tries) (asked : Option (List (List ℕ))) (name : List ℕ) (ending : Ending) → is_name name ≡ true → EndsAmong told old asked (name ∷ []) ending
-    → EndsAmong told old asked (filter is_name (name ∷ [])) ending
-named_ends told old asked name ending named h = subst (λ l. EndsAmong told old asked l ending) (sym (one_name name named)) h
+pub named_ends : (reported : Option (List File)) (old : Tries) (asked : Option (List (List ℕ))) (name : List ℕ) (ending : LoadEnd) → is_name name ≡ true → EndsAmong reported old asked (name ∷ []) ending
+    → EndsAmong reported old asked (filter is_name (name ∷ [])) ending
+named_ends reported old asked name ending named h = subst (λ l. EndsAmong reported old asked l ending) (sym (one_name name named)) h
 
 -- by the same names
-pub until_same : (told : Option (List File)) (before now : Option (List (List ℕ))) (ending : Ending) (roles names : RolesRead) → roles ≡ names → AsksUntil told roles before now ending
-    → AsksUntil told names before now ending
-until_same told before now ending roles names same h = subst (λ (r : RolesRead). AsksUntil told r before now ending) same h
+pub until_same : (reported : Option (List File)) (before now : Option (List (List ℕ))) (ending : LoadEnd) (roles names : RolesRead) → roles ≡ names → AsksUntil reported roles before now ending
+    → AsksUntil reported names before now ending
+until_same reported before now ending roles names same h = subst (λ (r : RolesRead). AsksUntil reported r before now ending) same h
 
-pub all_same : (told : Option (List File)) (before now : Option (List (List ℕ))) (roles names : RolesRead) → roles ≡ names → AsksAll told roles before now → AsksAll told names before now
-all_same told before now roles names same h = subst (λ (r : RolesRead). AsksAll told r before now) same h
+pub all_same : (reported : Option (List File)) (before now : Option (List (List ℕ))) (roles names : RolesRead) → roles ≡ names → AsksAll reported roles before now → AsksAll reported names before now
+all_same reported before now roles names same h = subst (λ (r : RolesRead). AsksAll reported r before now) same h

@@ -51,13 +51,13 @@ distinct_three a b c ea eb ec zero (suc (suc (suc k))) d e lj lk h = absurd (ome
 distinct_three a b c ea eb ec (suc zero) (suc (suc (suc k))) d e lj lk h = absurd (omega arith)
 distinct_three a b c ea eb ec (suc (suc zero)) (suc (suc (suc k))) d e lj lk h = absurd (omega arith)
 
-pub value_is : (c : Command) (a : App) (m : ArgMatches) (words : List Text) (id : Text) → app_of c ≡ a → is_simple a ≡ true → HasMatchesOf (app_of c) words m
-    → first_of id (matches_of a words) ≡ first_value (found_of m) id
-value_is c a m words id app simple has =
-    ap (λ x. first_of id (matches_of x words)) (sym app) ∙ (ap (first_of id) (sym (has (ap is_simple app ∙ simple)).0) ∙ sym (first_value-rows (found_of m) id))
+pub value_is : (c : Command) (a : App) (m : ArgMatches) (arguments : List Text) (id : Text) → app_of c ≡ a → is_simple a ≡ true → HasMatchesOf (app_of c) arguments m
+    → first_of id (matches_of a arguments) ≡ first_value (found_of m) id
+value_is c a m arguments id app simple has =
+    ap (λ x. first_of id (matches_of x arguments)) (sym app) ∙ (ap (first_of id) (sym (has (ap is_simple app ∙ simple)).0) ∙ sym (first_value-rows (found_of m) id))
 
-pub takes_is : (c : Command) (a : App) (words : List Text) → app_of c ≡ a → takes a words ≡ true → takes (app_of c) words ≡ true
-takes_is c a words app taken = ap (λ x. takes x words) app ∙ taken
+pub takes_is : (c : Command) (a : App) (arguments : List Text) → app_of c ≡ a → takes a arguments ≡ true → takes (app_of c) arguments ≡ true
+takes_is c a arguments app taken = ap (λ x. takes x arguments) app ∙ taken
 
 pub err_gives : {T E : Type 0} (r : Result T E) (P Q : E → Type 0) → IsErrAnd r P → ((e : E) → P e → Q e) → IfErr r Q
 err_gives (Ok x) P Q h f = tt

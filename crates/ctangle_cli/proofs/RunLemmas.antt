@@ -2,11 +2,11 @@
 use Rattle.std.proofs.Common.{◌≡◌, ◌∙◌, ◌⊎◌, inl, inr, ℕ, ◌+◌, ◌<◌, ◌≤◌, List, [], ◌∷◌, ◌++◌, Result, Ok, Err, ap, subst, sym, refl, length, take, suc, length-append, arith, append_assoc, append-nil}
 use Rattle.std.proofs.lemmas.List.{take-append-le}
 use Rattle.tangle_streams.proofs.StreamLemmas.{Appends-append, Appends-none}
-use Rattle.tangle_streams.specs.Streams.{Stream, Failed, PutsOut}
+use Rattle.tangle_streams.specs.Streams.{Stream, Failed, IsWritten}
 use Rattle.tangle_streams.specs.declared.failures.WriteFault.{WriteFault}
 use Rattle.std.proofs.Common.{zero, ◌≢◌, slice_index_or, drop}
 use Rattle.std.proofs.lemmas.List.{take-append-drop}
-use Rattle.tangle_lines.specs.Faults.{Finding}
+use Rattle.tangle_lines.specs.Faults.{FaultRead}
 use Rattle.tangle_lines.specs.FaultText.{fault_line}
 use Rattle.tangle_files.specs.Lines.{FileTable}
 use Rattle.tangle_files.specs.Roles.{RolesRead}
@@ -44,47 +44,47 @@ cut_more a b xs ys p =
     let within : p.0 ≤ length xs = omega arith in
     (p.0, omega (arith, length-append xs ys), rw take-append-le p.2, p.3)
 
-pub whole_from : (a b : Stream) (n : ℕ) (text : List ℕ) → PutsOut a b text (Ok n) → TakesAll a b text
+pub whole_from : (a b : Stream) (n : ℕ) (text : List ℕ) → IsWritten a b text (Ok n) → TakesAll a b text
 whole_from a b n text h = (h.1, h.2)
 
-pub cut_from : (a b : Stream) (e : WriteFault) (text : List ℕ) → PutsOut a b text (Err e) → TakesFront a b text
+pub cut_from : (a b : Stream) (e : WriteFault) (text : List ℕ) → IsWritten a b text (Err e) → TakesFront a b text
 cut_from a b e text h = (e.0, h.0, h.1, h.2)
 
-pub tries_from : (a b : Stream) (r : Result ℕ WriteFault) (text : List ℕ) → PutsOut a b text r → TakesAll a b text ⊎ TakesFront a b text
+pub tries_from : (a b : Stream) (r : Result ℕ WriteFault) (text : List ℕ) → IsWritten a b text r → TakesAll a b text ⊎ TakesFront a b text
 tries_from a b (Ok n) text h = inl (h.1, h.2)
 tries_from a b (Err e) text h = inr (e.0, h.0, h.1, h.2)
 
 -- one more fault
-lines_next : (xs : List Finding) (i : ℕ) (f : Finding) → i < length xs → f ≡ slice_index_or xs i f → fault_lines (take (suc i) xs) ≡ fault_lines (take i xs) ++ fault_line f
+lines_next : (xs : List FaultRead) (i : ℕ) (f : FaultRead) → i < length xs → f ≡ slice_index_or xs i f → fault_lines (take (suc i) xs) ≡ fault_lines (take i xs) ++ fault_line f
 lines_next [] i f lt e = absurd (omega arith)
 lines_next (x ∷ xs) zero f lt e = append-nil (fault_line x) ∙ ap fault_line (sym e)
 lines_next (x ∷ xs) (suc i) f lt e =
     let less : i < length xs = omega arith in
     ap (λ l. fault_line x ++ l) (lines_next xs i f less e) ∙ sym (append_assoc (fault_line x) (fault_lines (take i xs)) (fault_line f))
 
-lines-append : (xs ys : List Finding) → fault_lines (xs ++ ys) ≡ fault_lines xs ++ fault_lines ys
+lines-append : (xs ys : List FaultRead) → fault_lines (xs ++ ys) ≡ fault_lines xs ++ fault_lines ys
 lines-append [] ys = refl
 lines-append (x ∷ xs) ys = ap (λ l. fault_line x ++ l) (lines-append xs ys) ∙ sym (append_assoc (fault_line x) (fault_lines xs) (fault_lines ys))
 
-pub faults_more : (a b c : Stream) (n : ℕ) (xs : List Finding) (i : ℕ) (x : Finding) → i < length xs → x ≡ slice_index_or xs i x
-    → TakesAll a b (fault_lines (take i xs)) → PutsOut b c (fault_line x) (Ok n) → TakesAll a c (fault_lines (take (i + 1) xs))
+pub faults_more : (a b c : Stream) (n : ℕ) (xs : List FaultRead) (i : ℕ) (x : FaultRead) → i < length xs → x ≡ slice_index_or xs i x
+    → TakesAll a b (fault_lines (take i xs)) → IsWritten b c (fault_line x) (Ok n) → TakesAll a c (fault_lines (take (i + 1) xs))
 faults_more a b c n xs i x lt e p q =
     let one : i + 1 ≡ suc i = omega arith in
     subst (TakesAll a c) (sym (ap (λ k. fault_lines (take k xs)) one ∙ lines_next xs i x lt e)) (whole_then_whole a b c _ (fault_line x) p (whole_from b c n (fault_line x) q))
 
-pub faults_cut : (a b c : Stream) (d : WriteFault) (xs : List Finding) (i : ℕ) (x : Finding) → i < length xs → x ≡ slice_index_or xs i x
-    → TakesAll a b (fault_lines (take i xs)) → PutsOut b c (fault_line x) (Err d) → TakesFront a c (fault_lines xs)
+pub faults_cut : (a b c : Stream) (d : WriteFault) (xs : List FaultRead) (i : ℕ) (x : FaultRead) → i < length xs → x ≡ slice_index_or xs i x
+    → TakesAll a b (fault_lines (take i xs)) → IsWritten b c (fault_line x) (Err d) → TakesFront a c (fault_lines xs)
 faults_cut a b c d xs i x lt e p q =
     let whole : (fault_lines (take i xs) ++ fault_line x) ++ fault_lines (drop (suc i) xs) ≡ fault_lines xs =
     ap (λ l. l ++ fault_lines (drop (suc i) xs)) (sym (lines_next xs i x lt e)) ∙ sym (lines-append (take (suc i) xs) (drop (suc i) xs)) ∙ ap fault_lines (take-append-drop (suc i) xs) in
     subst (TakesFront a c) whole (cut_more a c _ (fault_lines (drop (suc i) xs)) (whole_then_cut a b c _ (fault_line x) p (cut_from b c d (fault_line x) q)))
 
--- writing stopped for want of memory, or because the folder failed
+-- writing stopped for lack of memory, or because the folder failed
 pub tangled_stops : (t : Tangling) (old new : Moment) (mid : Stream) (name : List ℕ) (fault : FolderFault) (r : Result ℕ WriteFault)
     → StopsAt t.outputs old.created new.created name fault → (fault ≢ NoMemory → Failed old.folder_failures new.folder_failures)
-    → (fault ≡ NoMemory → new.folder_failures ≡ old.folder_failures) → TakesAll old.stream mid (fault_lines t.faults) → PutsOut mid new.stream (unwritten_line fault name) r
+    → (fault ≡ NoMemory → new.folder_failures ≡ old.folder_failures) → TakesAll old.stream mid (fault_lines t.faults) → IsWritten mid new.stream (unwritten_line fault name) r
     → TangledEnds t old new 3
-tangled_stops t old new mid name fault r stops why calm told put = IsUnwritten (record {
+tangled_stops t old new mid name fault r stops why calm reported put = IsUnwritten (record {
   name = name;
   stops = stops;
   fault = fault;
@@ -92,15 +92,15 @@ tangled_stops t old new mid name fault r stops why calm told put = IsUnwritten (
   no_failure = calm;
   between = record old { stream = mid };
   nothing_yet = refl;
-  faults_told = told;
-  output_told = tries_from mid new.stream r (unwritten_line fault name) put;
+  faults_reported = reported;
+  output_reported = tries_from mid new.stream r (unwritten_line fault name) put;
 }) refl
 
 -- the tangling of which these are the faults
-abbrev pub tangling_with : FileTable → RolesRead → List Finding → Tangling
+abbrev pub tangling_with : FileTable → RolesRead → List FaultRead → Tangling
 tangling_with files names faults = record { faults = faults; outputs = outputs_of files names }
 
-pub ends_with_faults : (files : FileTable) (names : RolesRead) (faults : List Finding) (old new : Moment) (status : ℕ) → AreFaultsOf files names faults → AsksNothing old new
+pub ends_with_faults : (files : FileTable) (names : RolesRead) (faults : List FaultRead) (old new : Moment) (status : ℕ) → AreFaultsOf files names faults → AsksNothing old new
     → TangledEnds (tangling_with files names faults) old new status → SessionEnds files names old new status
 ends_with_faults files names faults old new status are unasked ends = record {
   tangling = tangling_with files names faults;

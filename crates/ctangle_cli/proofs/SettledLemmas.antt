@@ -11,30 +11,30 @@ use Rattle.tangle_lines.specs.declared.changes.ChangePhase.{ChangePhase}
 use Rattle.tangle_lines.specs.declared.changes.ChangePhase.TheVariants.{Outside, InOld, InNew}
 use Rattle.tangle_lines.specs.declared.changes.LineKind.{LineKind}
 use Rattle.tangle_lines.specs.declared.changes.LineKind.TheVariants.{BeginsChange, BeginsNew, EndsChange, IsText}
-use Rattle.tangle_lines.specs.Faults.{Finding, Spot, fault_at, fault_counting}
+use Rattle.tangle_lines.specs.Faults.{FaultRead, PlaceRead, fault_at, fault_counting}
 use Rattle.tangle_lines.specs.Inclusion.{included_name}
 use Rattle.tangle_lines.specs.Change.{Change}
 use Rattle.tangle_lines.specs.Changes.{Found, before, changes_from, closed_by, kind_of, next_phase, old_ended}
 use Rattle.tangle_files.specs.Lines.{FileTable, file_number, lines_at, name_at, number_of}
 use Rattle.tangle_files.specs.Adding.{has_file}
-use Rattle.tangle_lines.specs.Reading.{WaitingLine, after, begins, change_here, change_lines, change_number, change_spot, change_step, changes_in, depth_limit, included, line_limit, line_step, mismatch_faults, named, plain_step, reads_in, unequal_lines, waiting_lines}
+use Rattle.tangle_lines.specs.Reading.{WaitingLine, after, begins, change_here, change_lines, change_number, change_place, change_step, changes_in, depth_limit, included, line_limit, line_step, mismatch_faults, named, plain_step, reads_in, unequal_lines, waiting_lines}
 use Rattle.tangle_lines.specs.Reading.Step.{Ends, Goes}
 use Rattle.tangle_files.specs.Roles.{RolesRead}
 use Rattle.ctangle_cli.specs.Loading.{IsSettled, is_missing_kind, misses_file, misses_name, missed_in, missing_of}
 use Rattle.ctangle_cli.proofs.LoadLemmas.{there_as_has}
 
-missed_in-append : (xs ys : List Finding) → missed_in (xs ++ ys) ≡ missed_in xs ++ missed_in ys
+missed_in-append : (xs ys : List FaultRead) → missed_in (xs ++ ys) ≡ missed_in xs ++ missed_in ys
 missed_in-append xs ys =
-    ap (map (λ (f : Finding). f.subject)) (filter-append (λ (f : Finding). is_missing_kind f.kind) xs ys)
-    ∙ map-append (λ (f : Finding). f.subject) (filter (λ (f : Finding). is_missing_kind f.kind) xs) (filter (λ (f : Finding). is_missing_kind f.kind) ys)
+    ap (map (λ (f : FaultRead). f.subject)) (filter-append (λ (f : FaultRead). is_missing_kind f.kind) xs ys)
+    ∙ map-append (λ (f : FaultRead). f.subject) (filter (λ (f : FaultRead). is_missing_kind f.kind) xs) (filter (λ (f : FaultRead). is_missing_kind f.kind) ys)
 
-both_miss_none : (xs ys : List Finding) → missed_in xs ≡ [] → missed_in ys ≡ [] → missed_in (xs ++ ys) ≡ []
+both_miss_none : (xs ys : List FaultRead) → missed_in xs ≡ [] → missed_in ys ≡ [] → missed_in (xs ++ ys) ≡ []
 both_miss_none xs ys h k = missed_in-append xs ys ∙ ap (λ l. l ++ missed_in ys) h ∙ k
 
-mismatch_misses_none : (spot : Spot) (n : ℕ) → missed_in (mismatch_faults spot n) ≡ []
-mismatch_misses_none spot n = by (n == 0)
+mismatch_misses_none : (named_place : PlaceRead) (n : ℕ) → missed_in (mismatch_faults named_place n) ≡ []
+mismatch_misses_none named_place n = by (n == 0)
   where
-    by : (b : Bool) → missed_in (cond b [] (fault_counting ChangeMismatch spot n ∷ [])) ≡ []
+    by : (b : Bool) → missed_in (cond b [] (fault_counting ChangeMismatch named_place n ∷ [])) ≡ []
     by true = refl
     by false = refl
 
@@ -140,8 +140,8 @@ module _ (files : FileTable) (settled : IsSettled files) where
             ∙ or_from _ _ (lines_settled m w.changed (w.depth + 1) 1 (lines_at files m) ∙ settled m) none
 
         by : (b : Bool)
-            → missed_in (after files file (Goes (record { lines = []; faults = (cond {A = List WaitingLine × List Finding} b (waiting_lines m w.changed (w.depth + 1) 1 (lines_at files m), []) ([], fault_at IncludeTooDeep (named files w.place) ∷ [])).1 })
-            (record { waiting = (cond {A = List WaitingLine × List Finding} b (waiting_lines m w.changed (w.depth + 1) 1 (lines_at files m), []) ([], fault_at IncludeTooDeep (named files w.place) ∷ [])).0 ++ ws; changes = cs; taken = t + 1 }))
+            → missed_in (after files file (Goes (record { lines = []; faults = (cond {A = List WaitingLine × List FaultRead} b (waiting_lines m w.changed (w.depth + 1) 1 (lines_at files m), []) ([], fault_at IncludeTooDeep (named files w.place) ∷ [])).1 })
+            (record { waiting = (cond {A = List WaitingLine × List FaultRead} b (waiting_lines m w.changed (w.depth + 1) 1 (lines_at files m), []) ([], fault_at IncludeTooDeep (named files w.place) ∷ [])).0 ++ ws; changes = cs; taken = t + 1 }))
             (λ s. reads_in files file n s)).faults ≡ []
         by true = rest (t + 1) cs _ changes more
         by false = rest (t + 1) cs ws changes none
@@ -160,8 +160,8 @@ module _ (files : FileTable) (settled : IsSettled files) where
         → missed_in (after files file (change_step files file c cs w ws t) (λ s. reads_in files file n s)).faults ≡ []
     change_misses_none n rest c w ws cs t here changes none =
         let count = min (length c.old_lines) (length (w ∷ ws)) in
-        both_miss_none (mismatch_faults (change_spot files file c) (unequal_lines (drop 1 c.old_lines) ws)) _
-        (mismatch_misses_none (change_spot files file c) (unequal_lines (drop 1 c.old_lines) ws))
+        both_miss_none (mismatch_faults (change_place files file c) (unequal_lines (drop 1 c.old_lines) ws)) _
+        (mismatch_misses_none (change_place files file c) (unequal_lines (drop 1 c.old_lines) ws))
         (rest (t + count) cs (change_lines file w.depth c.new_lines ++ drop count (w ∷ ws)) changes
         (list_any-append misses_waiting (change_lines file w.depth c.new_lines) (drop count (w ∷ ws))
         ∙ or_from _ _ (change_lines_settled file w.depth c.new_lines ∙ here) (none_behind misses_waiting count (w ∷ ws) none)))

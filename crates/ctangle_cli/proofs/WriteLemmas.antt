@@ -156,7 +156,7 @@ wrote_next outputs old mid new name names next is = record {
   names_are = next.names_are;
 }
 
--- writing stopped at the next output: for want of memory, or because the folder failed
+-- writing stopped at the next output: for lack of memory, or because the folder failed
 stops_without : (outputs : List File) (old mid new : Option (List File)) (name : List ℕ) (names : List (List ℕ)) (fault : FolderFault) → IsNext outputs old mid name names
     → new ≡ mid → StopsAt outputs old new name fault
 stops_without outputs old mid new name names fault next nothing = record {

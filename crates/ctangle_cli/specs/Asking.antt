@@ -7,28 +7,28 @@ use Rattle.tangle_files.specs.Lines.{FileTable}
 use Rattle.tangle_files.specs.Roles.{RolesRead}
 use Rattle.ctangle_cli.specs.Loading.{missing_of}
 
--- behind the names asked for before stand others, no two of them the same
+-- behind the names asked for before are others, no two of them the same
 pub record AsksSince (names : List (List ℕ)) (now : Option (List (List ℕ))) : Type 0 where
   pub asked : List (List ℕ)
   pub behind : now ≡ Some (names ++ asked)
   pub once : IsDistinct bytes_eq asked
 
--- no name was asked for twice since, where the folder tells what it was asked for
+-- no name was asked for twice since, where the folder reports what it was asked for
 abbrev pub AsksOnce : Option (List (List ℕ)) → Option (List (List ℕ)) → Type 0
 AsksOnce before now = IfSome before (λ names. AsksSince names now)
 
 -- the web, the change file, or a name that the reading of the first so many files misses
-abbrev pub IsWanted : FileTable → RolesRead → List ℕ → Type 0
-IsWanted files roles name =
+abbrev pub IsNeeded : FileTable → RolesRead → List ℕ → Type 0
+IsNeeded files roles name =
     (name ≡ roles.web) ⊎ ((roles.change ≡ Some name) ⊎ ((n : ℕ) × (n ≤ length files) × Contains (missing_of (take n files) roles) name))
 
--- Each name asked for since, until the files were loaded: it was asked for once, and was wanted. Among them are the names of
+-- Each name asked for since, until the files were loaded: it was asked for once, and was needed. Among them are the names of
 -- all files, and each file name that their reading still misses.
 pub record AsksFor (names : List (List ℕ)) (now : Option (List (List ℕ))) (files : FileTable) (roles : RolesRead) : Type 0 where
   pub asked : List (List ℕ)
   pub behind : now ≡ Some (names ++ asked)
   pub once : IsDistinct bytes_eq asked
-  pub wanted : All (IsWanted files roles) asked
+  pub needed : All (IsNeeded files roles) asked
   pub loaded : (name : List ℕ) → has_file files name ≡ true → Contains asked name
   pub missing : (name : List ℕ) → Contains (missing_of files roles) name → is_name name ≡ true → Contains asked name
 

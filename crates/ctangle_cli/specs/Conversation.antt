@@ -5,7 +5,7 @@ use Rattle.std.specs.Global.{Global}
 use Rattle.std.specs.List.{list_any}
 use Rattle.std.specs.Option.{option_map}
 use Rattle.std.specs.declared.vec.Vec.{Vec}
-use Rattle.tangle_lines.specs.Faults.{Finding, is_error}
+use Rattle.tangle_lines.specs.Faults.{FaultRead, is_error}
 use Rattle.tangle_files.specs.declared.edits.Edit.{Edit}
 use Rattle.tangle_files.specs.declared.edits.Edit.TheVariants as edit
 use Rattle.tangle_files.specs.declared.marks.MarkMode.{MarkMode}
@@ -137,14 +137,14 @@ shown name None = codes "no NoOutput\n"
 shown name (Some bytes) = codes "= " ++ name ++ codes " " ++ decimal (length bytes) ++ codes "\n" ++ bytes
 
 -- how many faults there are, and their lines
-abbrev pub listed_faults : List Finding → List ℕ
+abbrev pub listed_faults : List FaultRead → List ℕ
 listed_faults faults =
     codes "faults " ++ decimal (length faults) ++ codes "\n" ++ fault_lines faults
 
 -- the faults of the files are listed
 abbrev pub ListsFaults : SessionRead → List ℕ → Type 0
 ListsFaults s text =
-    (faults : List Finding) × AreFaultsOf s.files s.roles faults × (text ≡ listed_faults faults)
+    (faults : List FaultRead) × AreFaultsOf s.files s.roles faults × (text ≡ listed_faults faults)
 
 -- This text answers the request, and the other conversation is the one after it. Questions are
 -- answered from the session, whether a list is open or not, and change nothing.
@@ -170,5 +170,5 @@ answers s BadCommand text t = IsBad s text t
 -- whether an error is among the faults of the files
 abbrev pub HasError : ConversationRead → Bool → Type 0
 HasError s error =
-    (faults : List Finding) × AreFaultsOf s.session.files s.session.roles faults
+    (faults : List FaultRead) × AreFaultsOf s.session.files s.session.roles faults
     × (error ≡ list_any is_error faults)

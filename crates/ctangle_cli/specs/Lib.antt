@@ -1,5 +1,5 @@
-pub mod Words
-pub mod RetangleWords
+pub mod Arguments
+pub mod RetangleArguments
 pub mod Writing
 pub mod Loading
 pub mod Messages

@@ -4,7 +4,7 @@ use Rattle.tangle_files.specs.declared.refusal.Refusal.{Refusal}
 use Rattle.tangle_files.specs.declared.refusal.Refusal.TheVariants.{BadName, NoMemory as NoRoom}
 use Rattle.tangle_lines.specs.declared.faults.FaultKind.{FaultKind}
 use Rattle.tangle_lines.specs.declared.faults.FaultKind.TheVariants.{IncludeMissing}
-use Rattle.tangle_lines.specs.Faults.{Finding}
+use Rattle.tangle_lines.specs.Faults.{FaultRead}
 use Rattle.std.specs.List.{list_any}
 use Rattle.tangle_files.specs.Lines.{FileTable, lines_at}
 use Rattle.tangle_lines.specs.Inclusion.{included_name}
@@ -16,15 +16,15 @@ use Rattle.tangle_folders.specs.Folder.{File, bytes_of, file_limit}
 use Rattle.ctangle_cli.specs.declared.loading.LoadFault.{LoadFault}
 use Rattle.ctangle_cli.specs.declared.loading.LoadFault.TheVariants.{CannotRead, Refused, NoMemory}
 
--- why loading ends without its files: a file can't be read, or is refused, or memory is wanting
-pub data Ending : Type 0 where
-  Unreadable : List ℕ → Ending
-  Refuses : List ℕ → Refusal → Ending
-  Memory : Ending
+-- why loading ends without its files: a file can't be read, or is refused, or memory runs out
+pub data LoadEnd : Type 0 where
+  Unreadable : List ℕ → LoadEnd
+  Refuses : List ℕ → Refusal → LoadEnd
+  Memory : LoadEnd
 
 -- the files loaded, or why there are none
 abbrev pub Loaded : Type 0
-Loaded = Result FileTable Ending
+Loaded = Result FileTable LoadEnd
 
 abbrev pub and_then : Loaded → (FileTable → Loaded) → Loaded
 and_then (Ok files) rest = rest files
@@ -40,9 +40,9 @@ add_bytes files name bytes =
     if nat_lt file_limit (length bytes) then Err (Unreadable name) else unless_refused files name bytes (add_refusal files name bytes)
 
 -- a file that has to be there
-abbrev pub add_wanted : FileTable → List ℕ → Option (List ℕ) → Loaded
-add_wanted files name None = Err (Unreadable name)
-add_wanted files name (Some bytes) = add_bytes files name bytes
+abbrev pub add_needed : FileTable → List ℕ → Option (List ℕ) → Loaded
+add_needed files name None = Err (Unreadable name)
+add_needed files name (Some bytes) = add_bytes files name bytes
 
 -- a file that may be missing
 abbrev pub add_present : FileTable → List ℕ → Option (List ℕ) → Loaded
@@ -54,7 +54,7 @@ is_missing_kind IncludeMissing = true
 is_missing_kind _ = false
 
 -- the names that inclusions miss, in the order of the faults of reading
-abbrev pub missed_in : List Finding → List (List ℕ)
+abbrev pub missed_in : List FaultRead → List (List ℕ)
 missed_in faults = map (λ f. f.subject) (filter (λ f. is_missing_kind f.kind) faults)
 
 unfoldable pub missing_of : FileTable → RolesRead → List (List ℕ)
@@ -80,13 +80,13 @@ after_round files (Ok next) rest = if length next == length files then Ok next e
 -- all are the files of the folder
 module _ (all : List File) where
   -- the web, or the change file
-  abbrev pub with_wanted : FileTable → List ℕ → Loaded
-  with_wanted files name = add_wanted files name (bytes_of all name)
+  abbrev pub with_needed : FileTable → List ℕ → Loaded
+  with_needed files name = add_needed files name (bytes_of all name)
 
   -- no change file, or one that is in the table already
   abbrev pub with_change : FileTable → Option (List ℕ) → Loaded
   with_change files None = Ok files
-  with_change files (Some name) = if has_file files name then Ok files else with_wanted files name
+  with_change files (Some name) = if has_file files name then Ok files else with_needed files name
 
   -- a missing inclusion: the folder isn't asked for a name that is no file name, nor for a file that is in the table
   abbrev pub with_inclusion : FileTable → List ℕ → Loaded
@@ -123,7 +123,7 @@ bad_name names =
 abbrev pub load_unless : List File → RolesRead → Option (List ℕ) → Loaded
 load_unless all names (Some name) = Err (Refuses name BadName)
 load_unless all names None =
-    and_then (with_wanted all [] names.web) (λ files. and_then (with_change all files names.change) (λ more. rounds_from all names more))
+    and_then (with_needed all [] names.web) (λ files. and_then (with_change all files names.change) (λ more. rounds_from all names more))
 
 -- What loading by these names gives, of a folder with these files: the web, then the change file, and then in
 -- rounds the files that inclusions miss.
@@ -136,43 +136,43 @@ pub record Grows (old new : FileTable) : Type 0 where
   pub is : new ≡ old ++ more
   pub within : 0 < length more → length new ≤ 256
 
--- the files of a folder that tells them load so, and the folder did not fail
+-- the files of a folder that reports them load so, and the folder did not fail
 abbrev pub LoadsTo : Option (List File) → (List File → Loaded) → ℕ → ℕ → FileTable → Type 0
-LoadsTo told loads failures failures' files = IfSome told (λ all. loads all ≡ Ok files) × (failures' ≡ failures)
+LoadsTo reported loads failures failures' files = IfSome reported (λ all. loads all ≡ Ok files) × (failures' ≡ failures)
 
--- why a loading stopped: by what the folder has, or because it failed, or for want of memory
-abbrev pub StopsFor : Option (List File) → (List File → Loaded) → ℕ → ℕ → Ending → Type 0
-StopsFor told loads failures failures' (Unreadable name) =
-    (IfSome told (λ all. loads all ≡ Err (Unreadable name)) × (failures' ≡ failures)) ⊎ Failed failures failures'
-StopsFor told loads failures failures' (Refuses name refusal) =
-    IfSome told (λ all. loads all ≡ Err (Refuses name refusal)) × (failures' ≡ failures)
-StopsFor told loads failures failures' Memory = ⊤
+-- why a loading stopped: by what the folder has, or because it failed, or for lack of memory
+abbrev pub StopsFor : Option (List File) → (List File → Loaded) → ℕ → ℕ → LoadEnd → Type 0
+StopsFor reported loads failures failures' (Unreadable name) =
+    (IfSome reported (λ all. loads all ≡ Err (Unreadable name)) × (failures' ≡ failures)) ⊎ Failed failures failures'
+StopsFor reported loads failures failures' (Refuses name refusal) =
+    IfSome reported (λ all. loads all ≡ Err (Refuses name refusal)) × (failures' ≡ failures)
+StopsFor reported loads failures failures' Memory = ⊤
 
--- the name that the folder was asked for last, where it tells what it was asked for
+-- the name that the folder was asked for last, where it reports what it was asked for
 abbrev pub IsAskedLast : Option (List (List ℕ)) → List ℕ → Type 0
 IsAskedLast asked name = IfSome asked (λ names. (before : List (List ℕ)) × (names ≡ before ++ name ∷ []))
 
 -- A file that can't be read is the one that the folder was asked for last. So where the folder failed, the name is that of
 -- the file at which it failed.
-abbrev pub TellsLastAsked : Option (List (List ℕ)) → Ending → Type 0
-TellsLastAsked asked (Unreadable name) = IsAskedLast asked name
-TellsLastAsked asked (Refuses name refusal) = ⊤
-TellsLastAsked asked Memory = ⊤
+abbrev pub NamesLastAsked : Option (List (List ℕ)) → LoadEnd → Type 0
+NamesLastAsked asked (Unreadable name) = IsAskedLast asked name
+NamesLastAsked asked (Refuses name refusal) = ⊤
+NamesLastAsked asked Memory = ⊤
 
--- the folder, where it tells its files, has none of these names
+-- the folder, where it reports its files, has none of these names
 abbrev pub AreAbsent : Option (List File) → List (List ℕ) → Type 0
-AreAbsent told names = IfSome told (λ all. All (λ name. bytes_of all name ≡ None) names)
+AreAbsent reported names = IfSome reported (λ all. All (λ name. bytes_of all name ≡ None) names)
 
--- a refusal ends a loading, and want of memory does
-abbrev pub refused_as : List ℕ → Refusal → Ending
+-- a refusal ends a loading, and lack of memory does
+abbrev pub refused_as : List ℕ → Refusal → LoadEnd
 refused_as name NoRoom = Memory
 refused_as name refusal = Refuses name refusal
 
 -- this ending, unless memory was short
-abbrev pub IsEnding : Ending → Ending → Type 0
-IsEnding wanted given = (given ≡ wanted) ⊎ (given ≡ Memory)
+abbrev pub IsLoadEnd : LoadEnd → LoadEnd → Type 0
+IsLoadEnd expected given = (given ≡ expected) ⊎ (given ≡ Memory)
 
-abbrev pub ending_of : LoadFault → Ending
+abbrev pub ending_of : LoadFault → LoadEnd
 ending_of (CannotRead name) = Unreadable name.items
 ending_of (Refused name refusal) = Refuses name.items refusal
 ending_of NoMemory = Memory

@@ -3,13 +3,13 @@ use Rattle.std.specs.Prelude.{◌≡◌, ◌<◌, length, take, ℕ, List, [], �
 use Rattle.std.specs.Io.KnownBytes.{Appends}
 use Rattle.tangle_files.specs.declared.refusal.Refusal.{Refusal}
 use Rattle.tangle_files.specs.declared.refusal.Refusal.TheVariants.{BadName, FileExists, TooManyFiles, LineTooLong, TooManyLines, NoMemory, UnknownFile, NoSuchLine, BadLine, NoWeb, NoChange, RoleFile, NoOutput, WriteFault}
-use Rattle.tangle_lines.specs.Faults.{Finding, is_error}
+use Rattle.tangle_lines.specs.Faults.{FaultRead, is_error}
 use Rattle.tangle_lines.specs.FaultText.{fault_line}
 use Rattle.tangle_streams.specs.Streams.{Stream, Failed}
 use Rattle.tangle_folders.specs.declared.folder.FolderFault.{FolderFault}
 use Rattle.tangle_folders.specs.declared.folder.FolderFault.TheVariants.{Missing, TooBig, Failed as IsFailed, NoMemory as NoRoom}
-use Rattle.ctangle_cli.specs.Loading.{Ending}
-use Rattle.ctangle_cli.specs.Loading.Ending.{Unreadable, Refuses, Memory}
+use Rattle.ctangle_cli.specs.Loading.{LoadEnd}
+use Rattle.ctangle_cli.specs.Loading.LoadEnd.{Unreadable, Refuses, Memory}
 
 abbrev pub usage_line : List ℕ
 usage_line = codes "usage: ctangle [flags] web [change [out]]\n"
@@ -31,7 +31,7 @@ refusal_name NoOutput = codes "NoOutput"
 refusal_name (WriteFault n) = codes "WriteFault"
 
 -- the line of a loading that ended without its files, behind the program's name
-abbrev pub ending_line : List ℕ → Ending → List ℕ
+abbrev pub ending_line : List ℕ → LoadEnd → List ℕ
 ending_line program (Unreadable name) = program ++ codes ": cannot read " ++ name ++ codes "\n"
 ending_line program (Refuses name refusal) = program ++ codes ": " ++ name ++ codes ": " ++ refusal_name refusal ++ codes "\n"
 ending_line program Memory = program ++ codes ": NoMemory\n"
@@ -58,11 +58,11 @@ abbrev pub TakesFront : Stream → Stream → List ℕ → Type 0
 TakesFront old new text = (n : ℕ) × (n < length text) × Appends old.taken new.taken (take n text) × Failed old.failures new.failures
 
 -- the lines of the faults
-abbrev pub fault_lines : List Finding → List ℕ
+abbrev pub fault_lines : List FaultRead → List ℕ
 fault_lines [] = []
 fault_lines (f ∷ fs) = fault_line f ++ fault_lines fs
 
 -- 1 where a fault is an error, else 0
-abbrev pub status_of : List Finding → ℕ
-status_of [] = 0
-status_of (f ∷ fs) = if is_error f then 1 else status_of fs
+abbrev pub faults_status : List FaultRead → ℕ
+faults_status [] = 0
+faults_status (f ∷ fs) = if is_error f then 1 else faults_status fs

@@ -7,8 +7,8 @@ use Rattle.tangle_files.specs.Lines.{FileTable, cut}
 use Rattle.tangle_files.specs.Roles.{RolesRead}
 use Rattle.tangle_streams.specs.Streams.{one_more_failure}
 use Rattle.tangle_folders.specs.Folder.{File, bytes_of, with_asked}
-use Rattle.ctangle_cli.specs.Loading.{Ending, IsAskedLast, bad_name, missing_of}
-use Rattle.ctangle_cli.specs.Loading.Ending.{Unreadable, Refuses, Memory}
+use Rattle.ctangle_cli.specs.Loading.{LoadEnd, IsAskedLast, bad_name, missing_of}
+use Rattle.ctangle_cli.specs.Loading.LoadEnd.{Unreadable, Refuses, Memory}
 
 -- one name more is asked for, unless it was asked for before
 abbrev pub ask : List (List ℕ) → List ℕ → List (List ℕ)
@@ -69,27 +69,27 @@ pub record AsksFront (names before : List (List ℕ)) (now : Option (List (List 
   pub split : names ≡ front ++ rest
   pub behind : now ≡ Some (before ++ front)
 
--- the name that an ending tells is the one at which the asking stopped
-abbrev pub StopsAmong : List (List ℕ) → List (List ℕ) → Option (List (List ℕ)) → Ending → Type 0
+-- the name that an ending reports is the one at which the asking stopped
+abbrev pub StopsAmong : List (List ℕ) → List (List ℕ) → Option (List (List ℕ)) → LoadEnd → Type 0
 StopsAmong names before now (Unreadable name) = AsksUpTo names before now name
 StopsAmong names before now (Refuses name refusal) = AsksUpTo names before now name
 StopsAmong names before now Memory = AsksFront names before now
 
--- A folder that tells its files and what it is asked for was asked for just the names of loading.
+-- A folder that reports its files and what it is asked for was asked for just the names of loading.
 abbrev pub AsksAll : Option (List File) → RolesRead → Option (List (List ℕ)) → Option (List (List ℕ)) → Type 0
-AsksAll told roles before now = IfSome told (λ all. IfSome before (λ names. AsksWhole all roles names now))
+AsksAll reported roles before now = IfSome reported (λ all. IfSome before (λ names. AsksWhole all roles names now))
 
 -- Where loading ended without its files, it was asked for some of these names from the first on.
-abbrev pub AsksSome : Option (List File) → RolesRead → Option (List (List ℕ)) → Option (List (List ℕ)) → Ending → Type 0
-AsksSome told roles before now ending =
-    IfSome told (λ all. IfSome before (λ names. (rounds : ℕ) × StopsAmong (asked_unless all roles (bad_name roles) rounds) names now ending))
+abbrev pub AsksSome : Option (List File) → RolesRead → Option (List (List ℕ)) → Option (List (List ℕ)) → LoadEnd → Type 0
+AsksSome reported roles before now ending =
+    IfSome reported (λ all. IfSome before (λ names. (rounds : ℕ) × StopsAmong (asked_unless all roles (bad_name roles) rounds) names now ending))
 
 -- A name that is refused is the last of these, or it is one of the three, and nothing was asked for.
-abbrev pub AsksUntil : Option (List File) → RolesRead → Option (List (List ℕ)) → Option (List (List ℕ)) → Ending → Type 0
-AsksUntil told roles before now (Unreadable name) = AsksSome told roles before now (Unreadable name)
-AsksUntil told roles before now (Refuses name refusal) =
-    ((bad_name roles ≡ Some name) × (now ≡ before)) ⊎ AsksSome told roles before now (Refuses name refusal)
-AsksUntil told roles before now Memory = AsksSome told roles before now Memory
+abbrev pub AsksUntil : Option (List File) → RolesRead → Option (List (List ℕ)) → Option (List (List ℕ)) → LoadEnd → Type 0
+AsksUntil reported roles before now (Unreadable name) = AsksSome reported roles before now (Unreadable name)
+AsksUntil reported roles before now (Refuses name refusal) =
+    ((bad_name roles ≡ Some name) × (now ≡ before)) ⊎ AsksSome reported roles before now (Refuses name refusal)
+AsksUntil reported roles before now Memory = AsksSome reported roles before now Memory
 
 -- A folder failed at no file that it was asked for, or at the last alone; so nothing was asked for after a failure.
 abbrev pub FailsLast : Option (List (List ℕ)) → Option (List (List ℕ)) → Option (List (List ℕ)) → ℕ → ℕ → Type 0

@@ -1,4 +1,4 @@
--- How a run of ctangle ends, by what the folder and the error stream tell before and after it.
+-- How a run of ctangle ends, by what the folder and the error stream report before and after it.
 use Rattle.std.specs.Prelude.{◌≡◌, ◌≢◌, ◌⊎◌, ℕ, List, [], ◌∷◌, ◌++◌, codes, Option, None, Some}
 use Rattle.tangle_streams.specs.Streams.{Stream, Failed}
 use Rattle.tangle_files.specs.Lines.{FileTable}
@@ -8,10 +8,10 @@ use Rattle.tangle_folders.specs.declared.folder.FolderFault.{FolderFault}
 use Rattle.tangle_folders.specs.declared.folder.FolderFault.TheVariants.{NoMemory}
 use Rattle.tangle_folders.specs.Folder.{File, with_created}
 use Rattle.ctangle_cli.specs.Writing.{IsPart}
-use Rattle.ctangle_cli.specs.Words.{names_of}
-use Rattle.ctangle_cli.specs.Loading.{Ending, LoadsTo, StopsFor, TellsLastAsked, load_of}
+use Rattle.ctangle_cli.specs.Arguments.{names_of}
+use Rattle.ctangle_cli.specs.Loading.{LoadEnd, LoadsTo, StopsFor, NamesLastAsked, load_of}
 use Rattle.ctangle_cli.specs.Questions.{AsksAll, AsksUntil, FailsLast}
-use Rattle.ctangle_cli.specs.Messages.{TakesAll, TakesFront, usage_line, ending_line, no_memory_line, unwritten_line, fault_lines, status_of}
+use Rattle.ctangle_cli.specs.Messages.{TakesAll, TakesFront, usage_line, ending_line, no_memory_line, unwritten_line, fault_lines, faults_status}
 
 -- What is known of the folder and of the error stream at a moment: the folder's files, those created in it, the names that
 -- it was asked for, those at which it failed, and how often it failed; the bytes that the stream took, and how often it failed.
@@ -58,14 +58,14 @@ pub record Loads (names : RolesRead) (old new : Moment) (files : FileTable) : Ty
 
 -- Loading ended without its files: why; for which names the folder was asked until then, of which the last is the one that
 -- can't be read; and that it failed at none before that one.
-pub record StopsLoading (names : RolesRead) (old new : Moment) (ending : Ending) : Type 0 where
+pub record StopsLoading (names : RolesRead) (old new : Moment) (ending : LoadEnd) : Type 0 where
   pub why : StopsFor old.files (λ all. load_of all names) old.folder_failures new.folder_failures ending
   pub asks : AsksUntil old.files names old.asked new.asked ending
-  pub told : TellsLastAsked new.asked ending
+  pub reported : NamesLastAsked new.asked ending
   pub fails : FailsLast new.asked old.failed new.failed old.folder_failures new.folder_failures
 
 -- The outputs before the one of this name are created whole, and of that one this part: no file, or a front of its bytes; where
--- memory was wanting, no file. No output after it is created.
+-- memory ran out, no file. No output after it is created.
 pub record StopsAt (outputs : List File) (old new : Option (List File)) (name : List ℕ) (fault : FolderFault) : Type 0 where
   pub before : List File
   pub bytes : List ℕ
@@ -76,7 +76,7 @@ pub record StopsAt (outputs : List File) (old new : Option (List File)) (name : 
   pub no_part : fault ≡ NoMemory → part ≡ []
   pub created : new ≡ with_created old (before ++ part)
 
--- Writing the outputs stopped at one of them: the folder failed, or a growth was refused. The lines of the faults were
+-- Writing the outputs stopped at one of them: the folder failed, or an allocation failed. The lines of the faults were
 -- written before, and then the line of that output, or a front of it.
 pub record IsStopped (tangling : Tangling) (old new : Moment) : Type 0 where
   pub name : List ℕ
@@ -87,14 +87,14 @@ pub record IsStopped (tangling : Tangling) (old new : Moment) : Type 0 where
   -- when the lines of the faults are written, and no file is created yet
   pub between : Moment
   pub nothing_yet : CreatesNothing old between
-  pub faults_told : Writes old between (fault_lines tangling.faults)
-  pub output_told : TriesToWrite between new (unwritten_line fault name)
+  pub faults_reported : Writes old between (fault_lines tangling.faults)
+  pub output_reported : TriesToWrite between new (unwritten_line fault name)
 
 -- how a run ends that has tangled
 pub data TangledEnds (tangling : Tangling) (old new : Moment) (status : ℕ) : Type 0 where
   -- 0 or 1: the lines of the faults are written, and the outputs and no other files are created
   IsDone : Writes old new (fault_lines tangling.faults) → new.created ≡ with_created old.created tangling.outputs
-      → new.folder_failures ≡ old.folder_failures → status ≡ status_of tangling.faults → TangledEnds tangling old new status
+      → new.folder_failures ≡ old.folder_failures → status ≡ faults_status tangling.faults → TangledEnds tangling old new status
   -- 3: the error stream fails at the lines of the faults, and no file is created
   IsUnheard : IsCutOff old new (fault_lines tangling.faults) → LeavesFolder old new → status ≡ 3 → TangledEnds tangling old new status
   -- 3: an output can't be written
@@ -107,12 +107,12 @@ pub record SessionEnds (files : FileTable) (names : RolesRead) (old new : Moment
   pub ends : TangledEnds tangling old new status
   pub asks_nothing : AsksNothing old new
 
--- how a run ends whose words give these names
+-- how a run ends whose arguments give these names
 pub data NamedEnds (names : RolesRead) (old new : Moment) (status : ℕ) : Type 0 where
-  -- 3: a file can't be read, or is refused, or memory is wanting
-  IsUnloaded : (ending : Ending) → StopsLoading names old new ending → TriesToWrite old new (ending_line (codes "ctangle") ending)
+  -- 3: a file can't be read, or is refused, or memory runs out
+  IsUnloaded : (ending : LoadEnd) → StopsLoading names old new ending → TriesToWrite old new (ending_line (codes "ctangle") ending)
       → CreatesNothing old new → status ≡ 3 → NamedEnds names old new status
-  -- 3: the files are loaded, and memory is wanting to tangle them
+  -- 3: the files are loaded, and memory runs out to tangle them
   IsUntangled : (files : FileTable) (loaded : Moment) → Loads names old loaded files → TriesToWrite loaded new no_memory_line
       → LeavesFolder loaded new → status ≡ 3 → NamedEnds names old new status
   -- they are loaded, and the session is started that tangles them: 0, 1 or 3
@@ -120,15 +120,15 @@ pub data NamedEnds (names : RolesRead) (old new : Moment) (status : ℕ) : Type 
       → NamedEnds names old new status
 
 -- how a run ends
-pub data RunEnds (words : List (List ℕ)) (old new : Moment) (status : ℕ) : Type 0 where
-  -- 2: there is no name among the words, or more than three
-  IsMisused : names_of words ≡ None → Writes old new usage_line → LeavesFolder old new → status ≡ 2 → RunEnds words old new status
+pub data RunEnds (arguments : List (List ℕ)) (old new : Moment) (status : ℕ) : Type 0 where
+  -- 2: there is no name among the arguments, or more than three
+  IsMisused : names_of arguments ≡ None → Writes old new usage_line → LeavesFolder old new → status ≡ 2 → RunEnds arguments old new status
   -- 3: the same, and the error stream fails
-  IsMisusedUnheard : names_of words ≡ None → IsCutOff old new usage_line → LeavesFolder old new → status ≡ 3 → RunEnds words old new status
-  -- 3: memory is wanting to read the words
-  IsUnnamed : TriesToWrite old new no_memory_line → LeavesFolder old new → status ≡ 3 → RunEnds words old new status
-  -- the words give names
-  IsNamed : (names : RolesRead) → names_of words ≡ Some names → NamedEnds names old new status → RunEnds words old new status
+  IsMisusedUnheard : names_of arguments ≡ None → IsCutOff old new usage_line → LeavesFolder old new → status ≡ 3 → RunEnds arguments old new status
+  -- 3: memory runs out while the arguments are read
+  IsUnnamed : TriesToWrite old new no_memory_line → LeavesFolder old new → status ≡ 3 → RunEnds arguments old new status
+  -- the arguments give names
+  IsNamed : (names : RolesRead) → names_of arguments ≡ Some names → NamedEnds names old new status → RunEnds arguments old new status
 
 -- nothing was read, created, asked for or written, and nothing failed
 abbrev pub quiet : Moment

@@ -6,12 +6,12 @@ use Rattle.tangle_files.specs.Adding.{has_file, is_name}
 use Rattle.tangle_files.specs.Lines.{FileTable}
 use Rattle.tangle_files.specs.Roles.{RolesRead}
 use Rattle.tangle_folders.specs.Folder.{File}
-use Rattle.ctangle_cli.specs.Asking.{AsksOnce, IsWanted}
-use Rattle.ctangle_cli.specs.Loading.{Ending}
-use Rattle.ctangle_cli.specs.Loading.Ending.{Unreadable, Refuses, Memory}
+use Rattle.ctangle_cli.specs.Asking.{AsksOnce, IsNeeded}
+use Rattle.ctangle_cli.specs.Loading.{LoadEnd}
+use Rattle.ctangle_cli.specs.Loading.LoadEnd.{Unreadable, Refuses, Memory}
 use Rattle.ctangle_cli.specs.Questions.{StopsAmong, ask_all, asked_in, files_under}
 
--- the names asked for so far, where the folder tells them, the files in the table, and the names that the folder doesn't have
+-- the names asked for so far, where the folder reports them, the files in the table, and the names that the folder doesn't have
 pub record Tries : Type 0 where
   pub asked : Option (List (List ℕ))
   pub files : FileTable
@@ -24,24 +24,24 @@ abbrev pub is_tried : Tries → List ℕ → Bool
 is_tried now name = has_file now.files name || list_any (bytes_eq name) now.absent
 
 -- what was asked for since, each once, is what was tried, and each is among these
-pub record TriesSince (names : List (List ℕ)) (now : Tries) (wanted : List (List ℕ)) : Type 0 where
+pub record TriesSince (names : List (List ℕ)) (now : Tries) (needed : List (List ℕ)) : Type 0 where
   pub asked : List (List ℕ)
   pub behind : now.asked ≡ Some (names ++ asked)
   pub once : IsDistinct bytes_eq asked
   pub same : (name : List ℕ) → list_any (bytes_eq name) asked ≡ is_tried now name
-  pub only : All (Contains wanted) asked
+  pub only : All (Contains needed) asked
 
 abbrev pub TriesOnce : Option (List (List ℕ)) → Tries → List (List ℕ) → Type 0
-TriesOnce before now wanted = IfSome before (λ names. TriesSince names now wanted)
+TriesOnce before now needed = IfSome before (λ names. TriesSince names now needed)
 
 -- from one to the other of these names alone some are asked for, and none twice
 abbrev pub AsksOn : Tries → Tries → List (List ℕ) → Type 0
 AsksOn old new names =
-    (before : Option (List (List ℕ))) (wanted : List (List ℕ)) → All (Contains wanted) names → TriesOnce before old wanted → TriesOnce before new wanted
+    (before : Option (List (List ℕ))) (needed : List (List ℕ)) → All (Contains needed) names → TriesOnce before old needed → TriesOnce before new needed
 
 -- none was asked for twice where loading ends
 abbrev pub StopsAsking : Tries → Option (List (List ℕ)) → Type 0
-StopsAsking old asked = (before : Option (List (List ℕ))) (wanted : List (List ℕ)) → TriesOnce before old wanted → AsksOnce before asked
+StopsAsking old asked = (before : Option (List (List ℕ))) (needed : List (List ℕ)) → TriesOnce before old needed → AsksOnce before asked
 
 abbrev pub IsTriedIn : Tries → List ℕ → Type 0
 IsTriedIn now name = is_name name ≡ true → is_tried now name ≡ true
@@ -54,9 +54,9 @@ pub record TriesAll (old new : Tries) (names : List (List ℕ)) : Type 0 where
   pub stay : TriesStay old new
   pub all : All (IsTriedIn new) names
 
--- what was asked for since, each once, was wanted, and is what was tried
+-- what was asked for since, each once, was needed, and is what was tried
 abbrev pub RoundsOnce : Option (List (List ℕ)) → Tries → RolesRead → Type 0
-RoundsOnce before now roles = (wanted : List (List ℕ)) × All (IsWanted now.files roles) wanted × TriesOnce before now wanted
+RoundsOnce before now roles = (needed : List (List ℕ)) × All (IsNeeded now.files roles) needed × TriesOnce before now needed
 
 -- these names, one after another, were asked for since, and the table has the files that the folder has under them
 pub record HasAsked (all : List File) (before : List (List ℕ)) (now : Tries) (names : List (List ℕ)) : Type 0 where
@@ -66,18 +66,18 @@ pub record HasAsked (all : List File) (before : List (List ℕ)) (now : Tries) (
 
 -- from one to the other these names were asked for, in this order, but for those that were asked for before
 abbrev pub GoesOn : Option (List File) → Tries → Tries → List (List ℕ) → Type 0
-GoesOn told old new names =
-    IfSome told (λ all. (before since : List (List ℕ)) → HasAsked all before old since → HasAsked all before new (ask_all since names))
+GoesOn reported old new names =
+    IfSome reported (λ all. (before since : List (List ℕ)) → HasAsked all before old since → HasAsked all before new (ask_all since names))
 
--- and where loading ends some of them, up to the one that the ending tells
-abbrev pub EndsAmong : Option (List File) → Tries → Option (List (List ℕ)) → List (List ℕ) → Ending → Type 0
-EndsAmong told old asked names ending =
-    IfSome told (λ all. (before since : List (List ℕ)) → HasAsked all before old since → StopsAmong (ask_all since names) before asked ending)
+-- and where loading ends some of them, up to the one that the ending reports
+abbrev pub EndsAmong : Option (List File) → Tries → Option (List (List ℕ)) → List (List ℕ) → LoadEnd → Type 0
+EndsAmong reported old asked names ending =
+    IfSome reported (λ all. (before since : List (List ℕ)) → HasAsked all before old since → StopsAmong (ask_all since names) before asked ending)
 
--- an ending that tells this name, or none
-abbrev pub IsAbout : List ℕ → Ending → Type 0
-IsAbout name (Unreadable told) = told ≡ name
-IsAbout name (Refuses told refusal) = told ≡ name
+-- an ending that reports this name, or none
+abbrev pub IsAbout : List ℕ → LoadEnd → Type 0
+IsAbout name (Unreadable reported) = reported ≡ name
+IsAbout name (Refuses reported refusal) = reported ≡ name
 IsAbout name Memory = ⊤
 
 -- since the beginning of loading so many rounds were made

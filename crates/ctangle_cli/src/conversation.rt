@@ -6,7 +6,7 @@ ghost use Rattle.tangle_files.specs.declared.edits.Edit.{Edit as EditRead};
 ghost use Rattle.tangle_files.specs.declared.refusal.Refusal.TheVariants.{NoMemory as no_memory};
 ghost use Rattle.tangle_streams.specs.Streams.{Stream};
 ghost use Rattle.tangle_lines.specs.Faults.{is_error};
-ghost use Rattle.tangle_script.specs.Endings.{TalkEnds};
+ghost use Rattle.tangle_script.specs.Endings.{ConversationEnds};
 ghost use Rattle.tangle_script.specs.Requests.{is_edit};
 ghost use Rattle.tangle_script.specs.Requests.Request.{Begin as begin_request};
 ghost use Rattle.tangle_script.specs.Requests.Request.{Cancel as cancel_request};
@@ -14,7 +14,7 @@ ghost use Rattle.tangle_script.specs.Requests.Request.{Commit as commit_request}
 ghost use Rattle.tangle_script.specs.Requests.Request.{Create as create, Discard as discard};
 ghost use Rattle.tangle_script.specs.Requests.Request.{Insert as insert, Remove as remove};
 ghost use Rattle.tangle_script.specs.Requests.Request.{Replace as replace};
-ghost use Rattle.tangle_script.specs.Script.{Replies, WritesText, talk};
+ghost use Rattle.tangle_script.specs.Script.{Replies, WritesText, conversation};
 ghost use Rattle.tangle_session.specs.Tangle.{output_at};
 ghost use Rattle.ctangle_cli.specs.Conversation.{HasError, answers, edit_number};
 ghost use Rattle.ctangle_cli.specs.Conversation.{in_conversation, list_line, listed_faults};
@@ -177,8 +177,8 @@ fn list_faults<S: Sink>(faults: &[Fault], sink: &mut S) -> Result<(), SinkFailed
         (listed_faults faults.now) result }
 {
     let mut digits = Buffer::new();
-    let word = say(sink, Ok(()), b"faults ");
-    let counted = say(sink, word, digits.format(faults.len()).as_bytes());
+    let argument = say(sink, Ok(()), b"faults ");
+    let counted = say(sink, argument, digits.format(faults.len()).as_bytes());
     let line = say(sink, counted, b"\n");
     say_lines(faults, line, sink)
 }
@@ -189,8 +189,8 @@ fn say_work<S: Sink>(work: u64, sink: &mut S) -> Result<(), SinkFailed>
         (codes "work " ++ decimal work ++ codes "\n") result }
 {
     let mut digits = Buffer::new();
-    let word = say(sink, Ok(()), b"work ");
-    let counted = say(sink, word, digits.format(work).as_bytes());
+    let argument = say(sink, Ok(()), b"work ");
+    let counted = say(sink, argument, digits.format(work).as_bytes());
     say(sink, counted, b"\n")
 }
 
@@ -411,18 +411,18 @@ impl Project for Conversation {
 }
 
 /// Answers a script of edits and questions: the status that the program ends with. While a list of
-/// edits is open, edits are held, and questions are answered from the session. At the end of the run
-/// an open list is dropped.
+/// edits is open, edits are held, and questions are answered from the session. At the end of the
+/// run an open list is dropped.
 pub fn run_retangle<R: Feed, W: Sink>(
     alloc: Global,
     session: &mut Session,
     r: &mut R,
     w: &mut W,
 ) -> u8
-    ensures { (draft : Option (List EditRead)) × TalkEnds answers HasError
-        (talk (record { session = session.old; draft = None })
+    ensures { (draft : Option (List EditRead)) × ConversationEnds answers HasError
+        (conversation (record { session = session.old; draft = None })
         (W.stream w.old) (R.coming r.old) (R.failures r.old))
-        (talk (record { session = session.new; draft = draft })
+        (conversation (record { session = session.new; draft = draft })
         (W.stream w.new) (R.coming r.new) (R.failures r.new)) result }
 {
     let mut draft = None;

@@ -1,5 +1,7 @@
-//! Laws of loading, which hold of each folder that tells its files, of the names of outputs, and of scripts.
-ghost use Rattle.std.specs.Prelude.{◌≡◌, ◌≢◌, ◌⊎◌, ◌++◌, ℕ, List, None, Ok, Err, Contains, length, map, false};
+//! Laws of loading, which hold of each folder that reports its files, of the names of outputs, and
+//! of scripts.
+ghost use Rattle.std.specs.Prelude.{◌≡◌, ◌≢◌, ◌⊎◌, ◌++◌, ℕ, List, None, Ok, Err, Contains, length};
+ghost use Rattle.std.specs.Prelude.{map, false};
 ghost use Rattle.tangle_folders.specs.Folder.{File, bytes_of};
 ghost use Rattle.tangle_files.specs.Adding.{has_file, is_name};
 ghost use Rattle.tangle_files.specs.Lines.{FileTable};
@@ -12,25 +14,29 @@ ghost use Rattle.tangle_session.specs.Headline.{Call, History};
 ghost use Rattle.tangle_session.specs.Tangle.{outputs_of};
 ghost use Rattle.ctangle_cli.specs.Conversation.{ConversationRead, answers};
 ghost use Rattle.ctangle_cli.specs.Histories.{AreCallsOf};
-ghost use Rattle.ctangle_cli.specs.Loading.{Ending, load_of, missing_of, rounds_from, with_round};
+ghost use Rattle.ctangle_cli.specs.Loading.{LoadEnd, load_of, missing_of, rounds_from, with_round};
 
 use tangle_session::outputs_are_found_by_their_names;
 
-/// Loading goes round by round: a round that adds a file is followed by the rounds from there, one that adds none is the
-/// last, and where one ends loading, it ends so. So the bound on the rounds is no part of what loading gives.
+/// Loading goes round by round: a round that adds a file is followed by the rounds from there, one
+/// that adds none is the last, and where one ends loading, it ends so. So the bound on the rounds
+/// is no part of what loading gives.
 pub fn loading_goes_round_by_round()
-    ensures further { (all : List File) (names : RolesRead) (files next : FileTable) → with_round all names files ≡ Ok next
+    ensures further { (all : List File) (names : RolesRead) (files next : FileTable)
+        → with_round all names files ≡ Ok next
         → length next ≢ length files → rounds_from all names files ≡ rounds_from all names next }
-    ensures last { (all : List File) (names : RolesRead) (files next : FileTable) → with_round all names files ≡ Ok next
+    ensures last { (all : List File) (names : RolesRead) (files next : FileTable)
+        → with_round all names files ≡ Ok next
         → length next ≡ length files → rounds_from all names files ≡ Ok next }
-    ensures stopped { (all : List File) (names : RolesRead) (files : FileTable) (ending : Ending)
+    ensures stopped { (all : List File) (names : RolesRead) (files : FileTable) (ending : LoadEnd)
         → with_round all names files ≡ Err ending → rounds_from all names files ≡ Err ending }
 {}
 
-/// Where the files are loaded, a name that their reading misses, and that is not the name of one of them, is no file
-/// name, or the folder has no such file.
+/// Where the files are loaded, a name that their reading misses, and that is not the name of one of
+/// them, is no file name, or the folder has no such file.
 pub fn missing_names_are_not_there()
-    ensures { (all : List File) (names : RolesRead) (files : FileTable) → load_of all names ≡ Ok files
+    ensures { (all : List File) (names : RolesRead) (files : FileTable) → load_of all names
+        ≡ Ok files
         → (name : List ℕ) → Contains (missing_of files names) name → has_file files name ≡ false
         → (is_name name ≡ false) ⊎ (bytes_of all name ≡ None) }
 {}
@@ -44,9 +50,9 @@ pub fn output_names_differ()
 }
 
 /// Where commands of a script are answered, one after another, the history of the session goes on:
-/// each edit that is handed over, and each list of edits, is one call more, with the answer that was
-/// written; held edits and questions change nothing, nor does an edit for which memory ran out. So
-/// the headline holds at each line of a script.
+/// each edit that is handed over, and each list of edits, is one call more, with the answer that
+/// was written; held edits and questions change nothing, nor does an edit for which memory ran out.
+/// So the headline holds at each line of a script.
 pub fn the_answers_of_a_script_are_a_history()
     ensures { (files : FileTable) (roles : RolesRead) (calls : List Call)
         (old new : ConversationRead) (commands : List Command) (text : List ℕ)

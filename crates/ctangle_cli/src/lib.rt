@@ -1,18 +1,21 @@
-//! What a program does between its `main` and the layers below: words, loading, messages, a run.
+//! What a program does between its `main` and the layers below: arguments, loading, messages, a
+//! run.
 //!
-//! [`run_ctangle`] is a whole run of `ctangle` over a [`Folder`] and an error stream: it starts a session and writes what
-//! that answers. The folders are those of `tangle_folders`, handed on. [`run_retangle`] answers a script of edits and questions over a session.
+//! [`run_ctangle`] is a whole run of `ctangle` over a [`Folder`] and an error stream: it starts a
+//! session and writes what that answers. The folders are those of `tangle_folders`, handed on.
+//! [`run_retangle`] answers a script of edits and questions over a session.
 #![tactic(auto)]
 
+mod arguments;
 mod conversation;
 mod laws;
 mod loading;
 mod messages;
-mod retangle_words;
+mod retangle_arguments;
 mod run;
-mod words;
 mod writing;
 
+pub use arguments::{WordFault, Words, read_words};
 pub use conversation::run_retangle;
 pub use laws::{
     loading_goes_round_by_round, missing_names_are_not_there, output_names_differ,
@@ -20,9 +23,8 @@ pub use laws::{
 };
 pub use loading::{LoadFault, load};
 pub use messages::write_load;
-pub use retangle_words::{RetangleFault, read_retangle};
+pub use retangle_arguments::{RetangleFault, read_retangle};
 pub use run::{Ended, run_ctangle, run_keeping_session, silence_is_no_failure};
 pub use tangle_folders::{
     CreatedFile, Disk, FILE_LIMIT, Folder, FolderFault, MemoryFolder, MemorySink,
 };
-pub use words::{WordFault, Words, read_words};

@@ -1,5 +1,7 @@
 //! Loading: the files that a run reads.
-ghost use Rattle.std.specs.Prelude.{◌≡◌, ◌≤◌, ◌∷◌, ◌||◌, ℕ, List, [], filter, length, map, true, false, Option, unwrap_or, IfOk, IfErr, IfSome, OnOk, OnErr, None};
+ghost use Rattle.std.specs.Prelude.{◌≡◌, ◌≤◌, ◌∷◌, ◌||◌, ℕ, List, [], filter, length, map, true};
+ghost use Rattle.std.specs.Prelude.{false, Option, unwrap_or, IfOk, IfErr, IfSome, OnOk, OnErr};
+ghost use Rattle.std.specs.Prelude.{None};
 ghost use Rattle.std.specs.List.{list_any};
 ghost use Rattle.std.specs.Option.{option_copied};
 ghost use Rattle.std.specs.Str.{bytes_eq};
@@ -8,12 +10,19 @@ ghost use Rattle.tangle_files.specs.Adding.{has_file, is_name};
 ghost use Rattle.tangle_files.specs.Roles.{fits, is_there, is_there_if_any};
 ghost use Rattle.tangle_files.specs.Lines.{FileTable};
 ghost use Rattle.ctangle_cli.specs.Asking.{AsksForAll, AsksOnce};
-ghost use Rattle.ctangle_cli.specs.Questions.{AsksAll, AsksUntil, AsksWhole, FailsLast, StopsAmong, asked_in, named_in};
-ghost use Rattle.ctangle_cli.specs.Tries.{AsksOn, EndsAmong, GoesOn, InRounds, IsAbout, RoundsOnce, StopsAsking, TriesAll, tried};
-ghost use Rattle.ctangle_cli.specs.Loading.{AreAbsent, Grows, IsEnding, IsSettled, LoadsTo, StopsFor, TellsLastAsked, add_bytes, bad_name, ending_of, is_missing_kind, load_of, load_unless, misses_file, missed_in, missing_of, refused_as, rounds_from, with_change, with_inclusion, with_inclusions, with_wanted};
-ghost use Rattle.ctangle_cli.specs.Loading.Ending.{Unreadable};
+ghost use Rattle.ctangle_cli.specs.Questions.{AsksAll, AsksUntil, AsksWhole, FailsLast, StopsAmong};
+ghost use Rattle.ctangle_cli.specs.Questions.{asked_in, named_in};
+ghost use Rattle.ctangle_cli.specs.Tries.{AsksOn, EndsAmong, GoesOn, InRounds, IsAbout, RoundsOnce};
+ghost use Rattle.ctangle_cli.specs.Tries.{StopsAsking, TriesAll, tried};
+ghost use Rattle.ctangle_cli.specs.Loading.{AreAbsent, Grows, IsLoadEnd, IsSettled, LoadsTo};
+ghost use Rattle.ctangle_cli.specs.Loading.{StopsFor, NamesLastAsked, add_bytes, bad_name};
+ghost use Rattle.ctangle_cli.specs.Loading.{ending_of, is_missing_kind, load_of, load_unless};
+ghost use Rattle.ctangle_cli.specs.Loading.{misses_file, missed_in, missing_of, refused_as};
+ghost use Rattle.ctangle_cli.specs.Loading.{rounds_from, with_change, with_inclusion};
+ghost use Rattle.ctangle_cli.specs.Loading.{with_inclusions, with_needed};
+ghost use Rattle.ctangle_cli.specs.Loading.LoadEnd.{Unreadable};
 
-use crate::words::Words;
+use crate::arguments::Words;
 use indexmap::IndexSet;
 use std::alloc::Global;
 use std::marker::Model;
@@ -26,13 +35,13 @@ use tangle_lines::{
 /// Why the files of a run are not loaded.
 #[derive(Debug, Drop)]
 pub enum LoadFault {
-    /// The file of this name can't be read: a web or change file that is missing, a file over the limit, or one
-    /// at which the folder failed.
+    /// The file of this name can't be read: a web or change file that is missing, a file over the
+    /// limit, or one at which the folder failed.
     CannotRead(Vec<u8>),
-    /// The table of files refuses this name or its file: `BadName`, `TooManyFiles`, `LineTooLong` or
-    /// `TooManyLines`.
+    /// The table of files refuses this name or its file: `BadName`, `TooManyFiles`, `LineTooLong`
+    /// or `TooManyLines`.
     Refused(Vec<u8>, Refusal),
-    /// A growth was refused.
+    /// An allocation failed.
     NoMemory,
 }
 
@@ -76,8 +85,8 @@ impl Absent {
     }
 
     fn insert(&mut self, alloc: Global, name: &[u8]) -> Result<(), NoMemory>
-        ensures absent { OnOk result ((told : Option _) → AreAbsent told self.old
-            → AreAbsent told (name.now ∷ []) → AreAbsent told self.new) }
+        ensures absent { OnOk result ((reported : Option _) → AreAbsent reported self.old
+            → AreAbsent reported (name.now ∷ []) → AreAbsent reported self.new) }
         ensures holds { OnOk result ((other : List ℕ) → list_any (bytes_eq other) self.new
             ≡ (list_any (bytes_eq other) self.old || bytes_eq other name.now)) }
     {
@@ -89,7 +98,7 @@ impl Absent {
 
 // `CannotRead` with this name, unless memory is short.
 fn cannot_read(alloc: Global, name: &[u8]) -> LoadFault
-    ensures { IsEnding (Unreadable name.now) (ending_of result) }
+    ensures { IsLoadEnd (Unreadable name.now) (ending_of result) }
 {
     match Vec::from_slice(alloc, name) {
         Ok(name) => LoadFault::CannotRead(name),
@@ -99,7 +108,7 @@ fn cannot_read(alloc: Global, name: &[u8]) -> LoadFault
 
 // `Refused` with this name, unless memory is short.
 fn refused(alloc: Global, name: &[u8], refusal: Refusal) -> LoadFault
-    ensures { IsEnding (refused_as name.now refusal) (ending_of result) }
+    ensures { IsLoadEnd (refused_as name.now refusal) (ending_of result) }
 {
     if refusal == Refusal::NoMemory {
         return LoadFault::NoMemory;
@@ -122,9 +131,10 @@ fn add_file(alloc: Global, files: &mut Files, name: &[u8], bytes: Vec<u8>) -> Re
     ensures ok { OnOk result (add_bytes files.old name.now bytes.items ≡ Ok files.new) }
     ensures grows { OnOk result (Grows files.old files.new) }
     ensures there { OnOk result (is_there files.new name.now ≡ true) }
-    ensures err { IfErr result (λ fault. (told : Option _) (n : ℕ)
-        → StopsFor told (λ _. add_bytes files.old name.now bytes.items) n n (ending_of fault)) }
-    ensures told { IfErr result (λ fault. (asked : Option _) → TellsLastAsked asked (ending_of fault)) }
+    ensures err { IfErr result (λ fault. (reported : Option _) (n : ℕ)
+        → StopsFor reported (λ _. add_bytes files.old name.now bytes.items) n n (ending_of fault)) }
+    ensures reported { IfErr result
+        (λ fault. (asked : Option _) → NamesLastAsked asked (ending_of fault)) }
     ensures about { IfErr result (λ fault. IsAbout name.now (ending_of fault)) }
 {
     match files.add_owned(name, bytes) {
@@ -134,29 +144,37 @@ fn add_file(alloc: Global, files: &mut Files, name: &[u8], bytes: Vec<u8>) -> Re
 }
 
 // Reads a file that has to be there.
-fn read_wanted<F: Folder>(
+fn read_needed<F: Folder>(
     alloc: Global,
     folder: &mut F,
     files: &mut Files,
     name: &[u8],
 ) -> Result<(), LoadFault>
     requires { has_file files.old name.now ≡ false }
-    ensures ok { OnOk result (LoadsTo (F.files folder.old) (λ all. with_wanted all files.old name.now)
+    ensures ok { OnOk result (LoadsTo (F.files folder.old)
+        (λ all. with_needed all files.old name.now)
         (F.failures folder.old) (F.failures folder.new) files.new) }
-    ensures err { IfErr result (λ fault. StopsFor (F.files folder.old) (λ all. with_wanted all files.old name.now)
+    ensures err { IfErr result
+        (λ fault. StopsFor (F.files folder.old) (λ all. with_needed all files.old name.now)
         (F.failures folder.old) (F.failures folder.new) (ending_of fault)) }
     ensures grows { OnOk result (Grows files.old files.new) }
     ensures there { OnOk result (is_there files.new name.now ≡ true) }
-    ensures told { IfErr result (λ fault. TellsLastAsked (F.asked folder.new) (ending_of fault)) }
-    ensures asks { OnOk result (AsksOn (tried (F.asked folder.old) files.old []) (tried (F.asked folder.new) files.new [])
+    ensures reported { IfErr result
+        (λ fault. NamesLastAsked (F.asked folder.new) (ending_of fault)) }
+    ensures asks { OnOk result
+        (AsksOn (tried (F.asked folder.old) files.old []) (tried (F.asked folder.new) files.new [])
         (name.now ∷ [])) }
-    ensures stops { OnErr result (StopsAsking (tried (F.asked folder.old) files.old []) (F.asked folder.new)) }
-    ensures order { OnOk result (GoesOn (F.files folder.old) (tried (F.asked folder.old) files.old [])
+    ensures stops { OnErr result
+        (StopsAsking (tried (F.asked folder.old) files.old []) (F.asked folder.new)) }
+    ensures order { OnOk result
+        (GoesOn (F.files folder.old) (tried (F.asked folder.old) files.old [])
         (tried (F.asked folder.new) files.new []) (name.now ∷ [])) }
-    ensures ends { IfErr result (λ fault. EndsAmong (F.files folder.old) (tried (F.asked folder.old) files.old [])
+    ensures ends { IfErr result
+        (λ fault. EndsAmong (F.files folder.old) (tried (F.asked folder.old) files.old [])
         (F.asked folder.new) (name.now ∷ []) (ending_of fault)) }
     ensures unfailed { OnOk result (F.failed folder.new ≡ F.failed folder.old) }
-    ensures fails { OnErr result (FailsLast (F.asked folder.new) (F.failed folder.old) (F.failed folder.new)
+    ensures fails { OnErr result
+        (FailsLast (F.asked folder.new) (F.failed folder.old) (F.failed folder.new)
         (F.failures folder.old) (F.failures folder.new)) }
     ensures files_stay { F.files folder.new ≡ F.files folder.old }
     ensures created_stay { F.created folder.new ≡ F.created folder.old }
@@ -177,23 +195,30 @@ fn read_change<F: Folder>(
     files: &mut Files,
     change: Option<&[u8]>,
 ) -> Result<(), LoadFault>
-    ensures ok { OnOk result (LoadsTo (F.files folder.old) (λ all. with_change all files.old (option_copied change.entry))
+    ensures ok { OnOk result (LoadsTo (F.files folder.old)
+        (λ all. with_change all files.old (option_copied change.entry))
         (F.failures folder.old) (F.failures folder.new) files.new) }
     ensures err { IfErr result (λ fault. StopsFor (F.files folder.old)
         (λ all. with_change all files.old (option_copied change.entry))
         (F.failures folder.old) (F.failures folder.new) (ending_of fault)) }
     ensures grows { OnOk result (Grows files.old files.new) }
     ensures there { OnOk result (is_there_if_any files.new (option_copied change.entry) ≡ true) }
-    ensures told { IfErr result (λ fault. TellsLastAsked (F.asked folder.new) (ending_of fault)) }
-    ensures asks { OnOk result (AsksOn (tried (F.asked folder.old) files.old []) (tried (F.asked folder.new) files.new [])
+    ensures reported { IfErr result
+        (λ fault. NamesLastAsked (F.asked folder.new) (ending_of fault)) }
+    ensures asks { OnOk result
+        (AsksOn (tried (F.asked folder.old) files.old []) (tried (F.asked folder.new) files.new [])
         (named_in (option_copied change.entry))) }
-    ensures stops { OnErr result (StopsAsking (tried (F.asked folder.old) files.old []) (F.asked folder.new)) }
-    ensures order { OnOk result (GoesOn (F.files folder.old) (tried (F.asked folder.old) files.old [])
+    ensures stops { OnErr result
+        (StopsAsking (tried (F.asked folder.old) files.old []) (F.asked folder.new)) }
+    ensures order { OnOk result
+        (GoesOn (F.files folder.old) (tried (F.asked folder.old) files.old [])
         (tried (F.asked folder.new) files.new []) (named_in (option_copied change.entry))) }
-    ensures ends { IfErr result (λ fault. EndsAmong (F.files folder.old) (tried (F.asked folder.old) files.old [])
+    ensures ends { IfErr result
+        (λ fault. EndsAmong (F.files folder.old) (tried (F.asked folder.old) files.old [])
         (F.asked folder.new) (named_in (option_copied change.entry)) (ending_of fault)) }
     ensures unfailed { OnOk result (F.failed folder.new ≡ F.failed folder.old) }
-    ensures fails { OnErr result (FailsLast (F.asked folder.new) (F.failed folder.old) (F.failed folder.new)
+    ensures fails { OnErr result
+        (FailsLast (F.asked folder.new) (F.failed folder.old) (F.failed folder.new)
         (F.failures folder.old) (F.failures folder.new)) }
     ensures files_stay { F.files folder.new ≡ F.files folder.old }
     ensures created_stay { F.created folder.new ≡ F.created folder.old }
@@ -204,12 +229,13 @@ fn read_change<F: Folder>(
             if has(files, name) {
                 return Ok(());
             }
-            read_wanted(alloc, folder, files, name)
+            read_needed(alloc, folder, files, name)
         }
     }
 }
 
-// Reads a file that an inclusion misses. It stays missing where the folder has none, or its name is no file name.
+// Reads a file that an inclusion misses. It stays missing where the folder has none, or its name is
+// no file name.
 fn read_inclusion<F: Folder>(
     alloc: Global,
     folder: &mut F,
@@ -218,24 +244,31 @@ fn read_inclusion<F: Folder>(
     name: &[u8],
 ) -> Result<(), LoadFault>
     requires { AreAbsent (F.files folder.old) absent.old }
-    ensures ok { OnOk result (LoadsTo (F.files folder.old) (λ all. with_inclusion all files.old name.now)
+    ensures ok { OnOk result (LoadsTo (F.files folder.old)
+        (λ all. with_inclusion all files.old name.now)
         (F.failures folder.old) (F.failures folder.new) files.new) }
-    ensures err { IfErr result (λ fault. StopsFor (F.files folder.old) (λ all. with_inclusion all files.old name.now)
+    ensures err { IfErr result
+        (λ fault. StopsFor (F.files folder.old) (λ all. with_inclusion all files.old name.now)
         (F.failures folder.old) (F.failures folder.new) (ending_of fault)) }
     ensures grows { OnOk result (Grows files.old files.new) }
     ensures absent { OnOk result (AreAbsent (F.files folder.old) absent.new) }
-    ensures told { IfErr result (λ fault. TellsLastAsked (F.asked folder.new) (ending_of fault)) }
+    ensures reported { IfErr result
+        (λ fault. NamesLastAsked (F.asked folder.new) (ending_of fault)) }
     ensures asks { OnOk result (AsksOn (tried (F.asked folder.old) files.old absent.old)
         (tried (F.asked folder.new) files.new absent.new) (name.now ∷ [])) }
     ensures tries { OnOk result (TriesAll (tried (F.asked folder.old) files.old absent.old)
         (tried (F.asked folder.new) files.new absent.new) (name.now ∷ [])) }
-    ensures stops { OnErr result (StopsAsking (tried (F.asked folder.old) files.old absent.old) (F.asked folder.new)) }
-    ensures order { OnOk result (GoesOn (F.files folder.old) (tried (F.asked folder.old) files.old absent.old)
+    ensures stops { OnErr result
+        (StopsAsking (tried (F.asked folder.old) files.old absent.old) (F.asked folder.new)) }
+    ensures order { OnOk result
+        (GoesOn (F.files folder.old) (tried (F.asked folder.old) files.old absent.old)
         (tried (F.asked folder.new) files.new absent.new) (filter is_name (name.now ∷ []))) }
-    ensures ends { IfErr result (λ fault. EndsAmong (F.files folder.old) (tried (F.asked folder.old) files.old absent.old)
+    ensures ends { IfErr result
+        (λ fault. EndsAmong (F.files folder.old) (tried (F.asked folder.old) files.old absent.old)
         (F.asked folder.new) (filter is_name (name.now ∷ [])) (ending_of fault)) }
     ensures unfailed { OnOk result (F.failed folder.new ≡ F.failed folder.old) }
-    ensures fails { OnErr result (FailsLast (F.asked folder.new) (F.failed folder.old) (F.failed folder.new)
+    ensures fails { OnErr result
+        (FailsLast (F.asked folder.new) (F.failed folder.old) (F.failed folder.new)
         (F.failures folder.old) (F.failures folder.new)) }
     ensures files_stay { F.files folder.new ≡ F.files folder.old }
     ensures created_stay { F.created folder.new ≡ F.created folder.old }
@@ -273,25 +306,31 @@ fn read_inclusions<F: Folder>(
     faults: &[Fault],
 ) -> Result<(), LoadFault>
     requires { AreAbsent (F.files folder.old) absent.old }
-    ensures ok { OnOk result (LoadsTo (F.files folder.old) (λ all. with_inclusions all (missed_in faults.now) files.old)
+    ensures ok { OnOk result (LoadsTo (F.files folder.old)
+        (λ all. with_inclusions all (missed_in faults.now) files.old)
         (F.failures folder.old) (F.failures folder.new) files.new) }
     ensures err { IfErr result (λ fault. StopsFor (F.files folder.old)
         (λ all. with_inclusions all (missed_in faults.now) files.old)
         (F.failures folder.old) (F.failures folder.new) (ending_of fault)) }
     ensures grows { OnOk result (Grows files.old files.new) }
     ensures absent { OnOk result (AreAbsent (F.files folder.old) absent.new) }
-    ensures told { IfErr result (λ fault. TellsLastAsked (F.asked folder.new) (ending_of fault)) }
+    ensures reported { IfErr result
+        (λ fault. NamesLastAsked (F.asked folder.new) (ending_of fault)) }
     ensures asks { OnOk result (AsksOn (tried (F.asked folder.old) files.old absent.old)
         (tried (F.asked folder.new) files.new absent.new) (missed_in faults.now)) }
     ensures tries { OnOk result (TriesAll (tried (F.asked folder.old) files.old absent.old)
         (tried (F.asked folder.new) files.new absent.new) (missed_in faults.now)) }
-    ensures stops { OnErr result (StopsAsking (tried (F.asked folder.old) files.old absent.old) (F.asked folder.new)) }
-    ensures order { OnOk result (GoesOn (F.files folder.old) (tried (F.asked folder.old) files.old absent.old)
+    ensures stops { OnErr result
+        (StopsAsking (tried (F.asked folder.old) files.old absent.old) (F.asked folder.new)) }
+    ensures order { OnOk result
+        (GoesOn (F.files folder.old) (tried (F.asked folder.old) files.old absent.old)
         (tried (F.asked folder.new) files.new absent.new) (filter is_name (missed_in faults.now))) }
-    ensures ends { IfErr result (λ fault. EndsAmong (F.files folder.old) (tried (F.asked folder.old) files.old absent.old)
+    ensures ends { IfErr result
+        (λ fault. EndsAmong (F.files folder.old) (tried (F.asked folder.old) files.old absent.old)
         (F.asked folder.new) (filter is_name (missed_in faults.now)) (ending_of fault)) }
     ensures unfailed { OnOk result (F.failed folder.new ≡ F.failed folder.old) }
-    ensures fails { OnErr result (FailsLast (F.asked folder.new) (F.failed folder.old) (F.failed folder.new)
+    ensures fails { OnErr result
+        (FailsLast (F.asked folder.new) (F.failed folder.old) (F.failed folder.new)
         (F.failures folder.old) (F.failures folder.new)) }
     ensures files_stay { F.files folder.new ≡ F.files folder.old }
     ensures created_stay { F.created folder.new ≡ F.created folder.old }
@@ -338,8 +377,9 @@ fn is_settled(files: &Files) -> bool
     true
 }
 
-// The faults of reading these files, for the inclusions that are missing. Where all that lines include is there, a look at the front of
-// each line tells that none is, and the session alone reads the sources.
+// The faults of reading these files, for the inclusions that are missing. Where all that lines
+// include is there, a look at the front of each line reports that none is, and the session alone
+// reads the sources.
 fn faults_of(alloc: Global, files: &Files, roles: &Roles) -> Result<Vec<Fault>, NoMemory>
     requires { fits files.now roles.now ≡ true }
     ensures { IfOk result (λ faults. missed_in faults.items ≡ missing_of files.now roles.now) }
@@ -359,24 +399,31 @@ fn read_rounds<F: Folder>(
     roles: &Roles,
 ) -> Result<(), LoadFault>
     requires { fits files.old roles.now ≡ true }
-    ensures ok { OnOk result (LoadsTo (F.files folder.old) (λ all. rounds_from all roles.now files.old)
+    ensures ok { OnOk result (LoadsTo (F.files folder.old)
+        (λ all. rounds_from all roles.now files.old)
         (F.failures folder.old) (F.failures folder.new) files.new) }
-    ensures err { IfErr result (λ fault. StopsFor (F.files folder.old) (λ all. rounds_from all roles.now files.old)
+    ensures err { IfErr result
+        (λ fault. StopsFor (F.files folder.old) (λ all. rounds_from all roles.now files.old)
         (F.failures folder.old) (F.failures folder.new) (ending_of fault)) }
     ensures fits { OnOk result (fits files.new roles.now ≡ true) }
-    ensures told { IfErr result (λ fault. TellsLastAsked (F.asked folder.new) (ending_of fault)) }
-    ensures asks { OnOk result ((before : Option _) → RoundsOnce before (tried (F.asked folder.old) files.old []) roles.now
+    ensures reported { IfErr result
+        (λ fault. NamesLastAsked (F.asked folder.new) (ending_of fault)) }
+    ensures asks { OnOk result
+        ((before : Option _) → RoundsOnce before (tried (F.asked folder.old) files.old []) roles.now
         → AsksForAll before (F.asked folder.new) files.new roles.now) }
-    ensures stops { OnErr result ((before : Option _) → RoundsOnce before (tried (F.asked folder.old) files.old []) roles.now
+    ensures stops { OnErr result
+        ((before : Option _) → RoundsOnce before (tried (F.asked folder.old) files.old []) roles.now
         → AsksOnce before (F.asked folder.new)) }
     ensures order { OnOk result (IfSome (F.files folder.old) (λ all. (before : List _)
         → InRounds all roles.now before (tried (F.asked folder.old) files.old [])
         → AsksWhole all roles.now before (F.asked folder.new))) }
     ensures ends { IfErr result (λ fault. IfSome (F.files folder.old) (λ all. (before : List _)
         → InRounds all roles.now before (tried (F.asked folder.old) files.old [])
-        → (rounds : ℕ) × StopsAmong (asked_in all roles.now rounds) before (F.asked folder.new) (ending_of fault))) }
+        → (rounds : ℕ) × StopsAmong (asked_in all roles.now rounds) before (F.asked folder.new)
+        (ending_of fault))) }
     ensures unfailed { OnOk result (F.failed folder.new ≡ F.failed folder.old) }
-    ensures fails { OnErr result (FailsLast (F.asked folder.new) (F.failed folder.old) (F.failed folder.new)
+    ensures fails { OnErr result
+        (FailsLast (F.asked folder.new) (F.failed folder.old) (F.failed folder.new)
         (F.failures folder.old) (F.failures folder.new)) }
     ensures files_stay { F.files folder.new ≡ F.files folder.old }
     ensures created_stay { F.created folder.new ≡ F.created folder.old }
@@ -393,94 +440,110 @@ fn read_rounds<F: Folder>(
 }
 
 // The first of the names that is no file name.
-fn first_bad(words: &Words) -> Option<&[u8]>
-    ensures { option_copied result ≡ bad_name words.now }
+fn first_bad(arguments: &Words) -> Option<&[u8]>
+    ensures { option_copied result ≡ bad_name arguments.now }
 {
-    if !is_file_name(words.web()) {
-        return Some(words.web());
+    if !is_file_name(arguments.web()) {
+        return Some(arguments.web());
     }
-    match words.change() {
+    match arguments.change() {
         Some(name) if !is_file_name(name) => return Some(name),
         _ => {}
     }
-    if !is_file_name(words.out()) {
-        return Some(words.out());
+    if !is_file_name(arguments.out()) {
+        return Some(arguments.out());
     }
     None
 }
 
 // Loads the files of roles whose names are all file names.
 fn load_files<F: Folder>(alloc: Global, roles: &Roles, folder: &mut F) -> Result<Files, LoadFault>
-    ensures ok { IfOk result (λ files. LoadsTo (F.files folder.old) (λ all. load_unless all roles.now None)
+    ensures ok { IfOk result (λ files. LoadsTo (F.files folder.old)
+        (λ all. load_unless all roles.now None)
         (F.failures folder.old) (F.failures folder.new) files) }
-    ensures err { IfErr result (λ fault. StopsFor (F.files folder.old) (λ all. load_unless all roles.now None)
+    ensures err { IfErr result
+        (λ fault. StopsFor (F.files folder.old) (λ all. load_unless all roles.now None)
         (F.failures folder.old) (F.failures folder.new) (ending_of fault)) }
     ensures fits { IfOk result (λ files. fits files roles.now ≡ true) }
-    ensures told { IfErr result (λ fault. TellsLastAsked (F.asked folder.new) (ending_of fault)) }
-    ensures asks { IfOk result (λ files. AsksForAll (F.asked folder.old) (F.asked folder.new) files roles.now) }
+    ensures reported { IfErr result
+        (λ fault. NamesLastAsked (F.asked folder.new) (ending_of fault)) }
+    ensures asks { IfOk result
+        (λ files. AsksForAll (F.asked folder.old) (F.asked folder.new) files roles.now) }
     ensures once { AsksOnce (F.asked folder.old) (F.asked folder.new) }
-    ensures order { OnOk result (AsksAll (F.files folder.old) roles.now (F.asked folder.old) (F.asked folder.new)) }
+    ensures order { OnOk result
+        (AsksAll (F.files folder.old) roles.now (F.asked folder.old) (F.asked folder.new)) }
     ensures ends { IfErr result (λ fault. bad_name roles.now ≡ None
-        → AsksUntil (F.files folder.old) roles.now (F.asked folder.old) (F.asked folder.new) (ending_of fault)) }
+        → AsksUntil (F.files folder.old) roles.now (F.asked folder.old) (F.asked folder.new)
+        (ending_of fault)) }
     ensures unfailed { OnOk result (F.failed folder.new ≡ F.failed folder.old) }
-    ensures fails { OnErr result (FailsLast (F.asked folder.new) (F.failed folder.old) (F.failed folder.new)
+    ensures fails { OnErr result
+        (FailsLast (F.asked folder.new) (F.failed folder.old) (F.failed folder.new)
         (F.failures folder.old) (F.failures folder.new)) }
     ensures files_stay { F.files folder.new ≡ F.files folder.old }
     ensures created_stay { F.created folder.new ≡ F.created folder.old }
 {
     let mut files = Files::new(alloc);
-    read_wanted(alloc, folder, &mut files, roles.web())?;
+    read_needed(alloc, folder, &mut files, roles.web())?;
     read_change(alloc, folder, &mut files, roles.change())?;
     read_rounds(alloc, folder, &mut files, roles)?;
     Ok(files)
 }
 
-/// Loads the files of a run: the web, then the change file, and then in rounds those that inclusions miss.
+/// Loads the files of a run: the web, then the change file, and then in rounds those that
+/// inclusions miss.
 ///
-/// The three names are tested first, the web's, the change file's, the main file's. In a round the sources are read,
-/// and each file that an inclusion misses is read, in the order of the faults; the last round adds none. A file that
-/// the folder calls missing, or whose name is no file name, stays missing and keeps its fault; the folder is asked
-/// once for each name. A web or change file that is missing, and any other failure, is a fault of loading.
+/// The three names are tested first, the web's, the change file's, the main file's. In a round the
+/// sources are read, and each file that an inclusion misses is read, in the order of the faults;
+/// the last round adds none. A file that the folder calls missing, or whose name is no file name,
+/// stays missing and keeps its fault; the folder is asked once for each name. A web or change file
+/// that is missing, and any other failure, is a fault of loading.
 ///
-/// The words are those of `read_words`: of CTANGLE's command line they have the three names, their extensions and `-`
-/// for no change file, and no flag has an effect (`docs/programs.md`).
+/// The arguments are those of `read_words`: of CTANGLE's command line they have the three names,
+/// their extensions and `-` for no change file, and no flag has an effect (`docs/programs.md`).
 ///
 /// # Errors
 ///
-/// `CannotRead` with the name of a web or change file that is missing, of a file over the limit, or of one at which
-/// the folder failed. `Refused` with a name and `BadName` where one of the three names is no file name, and with
-/// `TooManyFiles`, `LineTooLong` or `TooManyLines` where the table of files refuses a file. `NoMemory` where a growth
-/// is refused.
+/// `CannotRead` with the name of a web or change file that is missing, of a file over the limit, or
+/// of one at which the folder failed. `Refused` with a name and `BadName` where one of the three
+/// names is no file name, and with `TooManyFiles`, `LineTooLong` or `TooManyLines` where the table
+/// of files refuses a file. `NoMemory` where an allocation is refused.
 pub fn load<F: Folder>(
     alloc: Global,
-    words: &Words,
+    arguments: &Words,
     folder: &mut F,
 ) -> Result<(Files, Roles), LoadFault>
-    ensures ok { IfOk result (λ r. LoadsTo (F.files folder.old) (λ all. load_of all words.now)
+    ensures ok { IfOk result (λ r. LoadsTo (F.files folder.old) (λ all. load_of all arguments.now)
         (F.failures folder.old) (F.failures folder.new) r.0) }
-    ensures roles { IfOk result (λ r. r.1 ≡ words.now) }
+    ensures roles { IfOk result (λ r. r.1 ≡ arguments.now) }
     ensures fits { IfOk result (λ r. fits r.0 r.1 ≡ true) }
-    ensures err { IfErr result (λ fault. StopsFor (F.files folder.old) (λ all. load_of all words.now)
+    ensures err { IfErr result
+        (λ fault. StopsFor (F.files folder.old) (λ all. load_of all arguments.now)
         (F.failures folder.old) (F.failures folder.new) (ending_of fault)) }
-    ensures told { IfErr result (λ fault. TellsLastAsked (F.asked folder.new) (ending_of fault)) }
+    ensures reported { IfErr result
+        (λ fault. NamesLastAsked (F.asked folder.new) (ending_of fault)) }
     ensures asks { IfOk result (λ r. AsksForAll (F.asked folder.old) (F.asked folder.new) r.0 r.1) }
     ensures once { AsksOnce (F.asked folder.old) (F.asked folder.new) }
-    ensures order { OnOk result (AsksAll (F.files folder.old) words.now (F.asked folder.old) (F.asked folder.new)) }
-    ensures ends { IfErr result (λ fault. AsksUntil (F.files folder.old) words.now (F.asked folder.old) (F.asked folder.new)
+    ensures order { OnOk result
+        (AsksAll (F.files folder.old) arguments.now (F.asked folder.old) (F.asked folder.new)) }
+    ensures ends { IfErr result
+        (λ fault. AsksUntil (F.files folder.old) arguments.now (F.asked folder.old)
+        (F.asked folder.new)
         (ending_of fault)) }
     ensures unfailed { OnOk result (F.failed folder.new ≡ F.failed folder.old) }
-    ensures fails { OnErr result (FailsLast (F.asked folder.new) (F.failed folder.old) (F.failed folder.new)
+    ensures fails { OnErr result
+        (FailsLast (F.asked folder.new) (F.failed folder.old) (F.failed folder.new)
         (F.failures folder.old) (F.failures folder.new)) }
     ensures files_stay { F.files folder.new ≡ F.files folder.old }
     ensures created_stay { F.created folder.new ≡ F.created folder.old }
 {
-    if let Some(name) = first_bad(words) {
+    if let Some(name) = first_bad(arguments) {
         return Err(refused(alloc, name, Refusal::BadName));
     }
-    let Ok(mut roles) = Roles::new(alloc, words.web(), words.change(), words.out()) else {
+    let Ok(mut roles) = Roles::new(alloc, arguments.web(), arguments.change(), arguments.out())
+    else {
         return Err(LoadFault::NoMemory);
     };
-    roles.set_marks(words.marks());
+    roles.set_marks(arguments.marks());
     let files = load_files(alloc, &roles, folder)?;
     Ok((files, roles))
 }

@@ -1,9 +1,10 @@
 //! The lines that the programs write on the error stream.
 ghost use Rattle.std.specs.Prelude.{◌≡◌, ℕ, List, codes, OnOk, OnErr};
-ghost use Rattle.tangle_streams.specs.Streams.{PutsOut};
+ghost use Rattle.tangle_streams.specs.Streams.{IsWritten};
 ghost use Rattle.ctangle_cli.specs.Loading.{ending_of};
-ghost use Rattle.ctangle_cli.specs.Loading.Ending.{Memory, Refuses, Unreadable};
-ghost use Rattle.ctangle_cli.specs.Messages.{TakesAll, TakesFront, cannot_write_line, ending_line, fault_lines, refusal_name, unwritten_line, usage_line};
+ghost use Rattle.ctangle_cli.specs.Loading.LoadEnd.{Memory, Refuses, Unreadable};
+ghost use Rattle.ctangle_cli.specs.Messages.{TakesAll, TakesFront, cannot_write_line, ending_line};
+ghost use Rattle.ctangle_cli.specs.Messages.{fault_lines, refusal_name, unwritten_line, usage_line};
 
 use crate::loading::LoadFault;
 use tangle_folders::FolderFault;
@@ -32,11 +33,12 @@ pub fn name_of(refusal: Refusal) -> &'static [u8]
 }
 
 fn write_cannot_read<E: Sink>(program: &[u8], name: &[u8], err: &mut E) -> Result<u128, WriteFault>
-    ensures { PutsOut (E.stream err.old) (E.stream err.new) (ending_line program.now (Unreadable name.now)) result }
+    ensures { IsWritten (E.stream err.old) (E.stream err.new)
+        (ending_line program.now (Unreadable name.now)) result }
 {
     let front = put(err, Ok(0), program);
-    let told = put(err, front, b": cannot read ");
-    let named = put(err, told, name);
+    let reported = put(err, front, b": cannot read ");
+    let named = put(err, reported, name);
     put(err, named, b"\n")
 }
 
@@ -46,24 +48,27 @@ fn write_refused<E: Sink>(
     refusal: Refusal,
     err: &mut E,
 ) -> Result<u128, WriteFault>
-    ensures { PutsOut (E.stream err.old) (E.stream err.new) (ending_line program.now (Refuses name.now refusal)) result }
+    ensures { IsWritten (E.stream err.old) (E.stream err.new)
+        (ending_line program.now (Refuses name.now refusal)) result }
 {
     let front = put(err, Ok(0), program);
-    let told = put(err, front, b": ");
-    let named = put(err, told, name);
+    let reported = put(err, front, b": ");
+    let named = put(err, reported, name);
     let colon = put(err, named, b": ");
     let why = put(err, colon, name_of(refusal));
     put(err, why, b"\n")
 }
 
 fn write_no_memory<E: Sink>(program: &[u8], err: &mut E) -> Result<u128, WriteFault>
-    ensures { PutsOut (E.stream err.old) (E.stream err.new) (ending_line program.now Memory) result }
+    ensures { IsWritten (E.stream err.old) (E.stream err.new) (ending_line program.now Memory)
+        result }
 {
     let front = put(err, Ok(0), program);
     put(err, front, b": NoMemory\n")
 }
 
-/// Writes the line of a loading that ended without its files, behind the program's name, and gives its length.
+/// Writes the line of a loading that ended without its files, behind the program's name, and gives
+/// its length.
 ///
 /// # Errors
 ///
@@ -73,7 +78,8 @@ pub fn write_load<E: Sink>(
     fault: &LoadFault,
     err: &mut E,
 ) -> Result<u128, WriteFault>
-    ensures { PutsOut (E.stream err.old) (E.stream err.new) (ending_line program.now (ending_of fault.now)) result }
+    ensures { IsWritten (E.stream err.old) (E.stream err.new)
+        (ending_line program.now (ending_of fault.now)) result }
 {
     match fault {
         LoadFault::CannotRead(name) => write_cannot_read(program, name.as_slice(), err),
@@ -84,16 +90,16 @@ pub fn write_load<E: Sink>(
 
 /// Writes the line that says how `ctangle` is used, and gives its length.
 pub fn write_usage<E: Sink>(err: &mut E) -> Result<u128, WriteFault>
-    ensures { PutsOut (E.stream err.old) (E.stream err.new) usage_line result }
+    ensures { IsWritten (E.stream err.old) (E.stream err.new) usage_line result }
 {
     put(err, Ok(0), b"usage: ctangle [flags] web [change [out]]\n")
 }
 
 fn write_cannot_write<E: Sink>(name: &[u8], err: &mut E) -> Result<u128, WriteFault>
-    ensures { PutsOut (E.stream err.old) (E.stream err.new) (cannot_write_line name.now) result }
+    ensures { IsWritten (E.stream err.old) (E.stream err.new) (cannot_write_line name.now) result }
 {
-    let told = put(err, Ok(0), b"ctangle: cannot write ");
-    let named = put(err, told, name);
+    let reported = put(err, Ok(0), b"ctangle: cannot write ");
+    let named = put(err, reported, name);
     put(err, named, b"\n")
 }
 
@@ -103,7 +109,8 @@ pub fn write_unwritten<E: Sink>(
     fault: FolderFault,
     err: &mut E,
 ) -> Result<u128, WriteFault>
-    ensures { PutsOut (E.stream err.old) (E.stream err.new) (unwritten_line fault name.now) result }
+    ensures { IsWritten (E.stream err.old) (E.stream err.new) (unwritten_line fault name.now)
+        result }
 {
     match fault {
         FolderFault::NoMemory => write_no_memory(b"ctangle", err),
@@ -119,8 +126,10 @@ pub struct StreamFailed;
 
 /// Writes the lines of the faults, and says whether the stream took them.
 pub fn write_faults<E: Sink>(faults: &[Fault], err: &mut E) -> Result<(), StreamFailed>
-    ensures whole { OnOk result (TakesAll (E.stream err.old) (E.stream err.new) (fault_lines faults.now)) }
-    ensures cut { OnErr result (TakesFront (E.stream err.old) (E.stream err.new) (fault_lines faults.now)) }
+    ensures whole { OnOk result
+        (TakesAll (E.stream err.old) (E.stream err.new) (fault_lines faults.now)) }
+    ensures cut { OnErr result
+        (TakesFront (E.stream err.old) (E.stream err.new) (fault_lines faults.now)) }
 {
     for fault in faults {
         match write_fault(fault, err) {

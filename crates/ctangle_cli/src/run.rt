@@ -1,12 +1,12 @@
 //! A run of `ctangle`.
 ghost use Rattle.std.specs.Prelude.{◌≡◌, ℕ, List, IfOk, map};
-ghost use Rattle.ctangle_cli.specs.Messages.{status_of};
+ghost use Rattle.ctangle_cli.specs.Messages.{faults_status};
 ghost use Rattle.ctangle_cli.specs.Run.{Loads, Moment, NamedEnds, RunEnds, SessionEnds, quiet};
 
+use crate::arguments::{WordFault, Words, read_words};
 use crate::laws::output_names_differ;
 use crate::loading::{LoadFault, load};
 use crate::messages::{write_faults, write_load, write_unwritten, write_usage};
-use crate::words::{WordFault, Words, read_words};
 use crate::writing::write_outputs;
 use std::alloc::Global;
 use tangle_folders::Folder;
@@ -14,7 +14,7 @@ use tangle_lines::{Fault, Files, NoMemory, Roles, Sink};
 use tangle_session::Session;
 
 fn status(faults: &[Fault]) -> u8
-    ensures { result ≡ status_of faults.now }
+    ensures { result ≡ faults_status faults.now }
 {
     for fault in faults {
         if fault.is_error() {
@@ -63,7 +63,8 @@ fn run_session<F: Folder, E: Sink>(
     }
 }
 
-// A session of these files. They have the web and the change file that is named, so memory alone can be wanting.
+// A session of these files. They have the web and the change file that is named, so only memory can
+// run out.
 fn started(alloc: Global, files: Files, roles: Roles) -> Result<Session, NoMemory>
     ensures files { IfOk result (λ session. session.files ≡ files) }
     ensures roles { IfOk result (λ session. session.roles ≡ roles) }
@@ -134,8 +135,13 @@ fn run_loaded<F: Folder, E: Sink>(
 }
 
 // Loads the files of these names, and starts a session of them.
-fn run_named<F: Folder, E: Sink>(alloc: Global, words: &Words, folder: &mut F, err: &mut E) -> Ended
-    ensures { NamedEnds words.now
+fn run_named<F: Folder, E: Sink>(
+    alloc: Global,
+    arguments: &Words,
+    folder: &mut F,
+    err: &mut E,
+) -> Ended
+    ensures { NamedEnds arguments.now
         (record {
           files = F.files folder.old;
           created = F.created folder.old;
@@ -153,7 +159,7 @@ fn run_named<F: Folder, E: Sink>(alloc: Global, words: &Words, folder: &mut F, e
           stream = E.stream err.new;
         }) result.status }
 {
-    match load(alloc, words, folder) {
+    match load(alloc, arguments, folder) {
         Err(fault) => {
             let _ = write_load(b"ctangle", &fault, err);
             unstarted()
@@ -162,15 +168,15 @@ fn run_named<F: Folder, E: Sink>(alloc: Global, words: &Words, folder: &mut F, e
     }
 }
 
-/// Runs `ctangle` as [`run_ctangle`] does, and gives the session besides. A program that ends behind
-/// the run need not free it: the system takes all memory back at once.
+/// Runs `ctangle` as [`run_ctangle`] does, and gives the session besides. A program that ends
+/// behind the run need not free it: the system takes all memory back at once.
 pub fn run_keeping_session<F: Folder, E: Sink>(
     alloc: Global,
-    words: &[&[u8]],
+    arguments: &[&[u8]],
     folder: &mut F,
     err: &mut E,
 ) -> Ended
-    ensures { RunEnds (map (λ w. w.now) words.now)
+    ensures { RunEnds (map (λ w. w.now) arguments.now)
         (record {
           files = F.files folder.old;
           created = F.created folder.old;
@@ -188,7 +194,7 @@ pub fn run_keeping_session<F: Folder, E: Sink>(
           stream = E.stream err.new;
         }) result.status }
 {
-    match read_words(alloc, words) {
+    match read_words(alloc, arguments) {
         Err(WordFault::Usage) => match write_usage(err) {
             Ok(_) => Ended {
                 status: 2,
@@ -200,26 +206,27 @@ pub fn run_keeping_session<F: Folder, E: Sink>(
             let _ = write_load(b"ctangle", &LoadFault::NoMemory, err);
             unstarted()
         }
-        Ok(words) => run_named(alloc, &words, folder, err),
+        Ok(arguments) => run_named(alloc, &arguments, folder, err),
     }
 }
 
-/// Runs `ctangle` with these words, in a folder and with an error stream, and gives its status.
+/// Runs `ctangle` with these arguments, in a folder and with an error stream, and gives its status.
 ///
-/// It loads the files, starts a session of them, writes the line of each fault on the error stream, and then each output
-/// into the folder, the main file first. The status is 0, or 1 where an error is among the faults. It is 2 where the words give no names,
-/// with the usage line. It is 3, with a line that says why, where a file can't be read or written or is refused, or
-/// memory is wanting, and where the error stream fails.
+/// It loads the files, starts a session of them, writes the line of each fault on the error stream,
+/// and then each output into the folder, the main file first. The status is 0, or 1 where an error
+/// is among the faults. It is 2 where the arguments give no names, with the usage line. It is 3,
+/// with a line that says why, where a file can't be read or written or is refused, or memory runs
+/// out, and where the error stream fails.
 ///
-/// Of CTANGLE's command line it has the three names, their extensions and `-` for no change file; flags are taken
-/// and have no effect (`docs/programs.md`).
+/// Of CTANGLE's command line it has the three names, their extensions and `-` for no change file;
+/// flags are taken and have no effect (`docs/programs.md`).
 pub fn run_ctangle<F: Folder, E: Sink>(
     alloc: Global,
-    words: &[&[u8]],
+    arguments: &[&[u8]],
     folder: &mut F,
     err: &mut E,
 ) -> u8
-    ensures { RunEnds (map (λ w. w.now) words.now)
+    ensures { RunEnds (map (λ w. w.now) arguments.now)
         (record {
           files = F.files folder.old;
           created = F.created folder.old;
@@ -237,12 +244,13 @@ pub fn run_ctangle<F: Folder, E: Sink>(
           stream = E.stream err.new;
         }) result }
 {
-    let ended = run_keeping_session(alloc, words, folder, err);
+    let ended = run_keeping_session(alloc, arguments, folder, err);
     ended.status
 }
 
-/// A run that writes nothing, and in which nothing fails, does not end with status 3: over a folder that tells that it
-/// has no files, and a stream that tells its bytes, `RunEnds` can't be met by it.
+/// A run that writes nothing, and in which nothing fails, does not end with status 3: over a folder
+/// that reports that it has no files, and a stream that reports its bytes, `RunEnds` can't be met
+/// by it.
 pub fn silence_is_no_failure()
-    ensures { (words : List (List ℕ)) → RunEnds words quiet quiet 3 → ⊥ }
+    ensures { (arguments : List (List ℕ)) → RunEnds arguments quiet quiet 3 → ⊥ }
 {}

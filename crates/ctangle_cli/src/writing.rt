@@ -13,7 +13,8 @@ use std::alloc::Global;
 use tangle_folders::{Folder, FolderFault};
 use tangle_session::Session;
 
-// Creates the output of this name, at this index among the names. Its writer is closed also where it failed.
+// Creates the output of this name, at this index among the names. Its writer is closed also where
+// it failed.
 fn write_file<F: Folder>(
     alloc: Global,
     session: &Session,
@@ -23,13 +24,17 @@ fn write_file<F: Folder>(
 ) -> Result<(), FolderFault>
     requires { IsSome (output_at session.now.files session.now.roles name.now) }
     ensures whole { OnOk result (F.created folder.new
-        ≡ with_created (F.created folder.old) (output_file session.now.files session.now.roles name.now ∷ [])) }
+        ≡ with_created (F.created folder.old)
+        (output_file session.now.files session.now.roles name.now ∷ [])) }
     ensures unfailed { OnOk result (F.failures folder.new ≡ F.failures folder.old) }
     ensures part { OnErr result (AddsPart (F.created folder.old) (F.created folder.new)
         (output_file session.now.files session.now.roles name.now)) }
-    ensures nothing { IfErr result (λ fault. fault ≡ NoMemory → F.created folder.new ≡ F.created folder.old) }
-    ensures failed { IfErr result (λ fault. fault ≢ NoMemory → Failed (F.failures folder.old) (F.failures folder.new)) }
-    ensures unfailed_memory { IfErr result (λ fault. fault ≡ NoMemory → F.failures folder.new ≡ F.failures folder.old) }
+    ensures nothing { IfErr result
+        (λ fault. fault ≡ NoMemory → F.created folder.new ≡ F.created folder.old) }
+    ensures failed { IfErr result
+        (λ fault. fault ≢ NoMemory → Failed (F.failures folder.old) (F.failures folder.new)) }
+    ensures unfailed_memory { IfErr result
+        (λ fault. fault ≡ NoMemory → F.failures folder.new ≡ F.failures folder.old) }
     ensures asked_stay { F.asked folder.new ≡ F.asked folder.old }
     ensures failed_stay { F.failed folder.new ≡ F.failed folder.old }
     ensures files_stay { F.files folder.new ≡ F.files folder.old }
@@ -50,21 +55,24 @@ pub struct FileStop<'a> {
     pub fault: FolderFault,
 }
 
-/// Creates the outputs in order, up to the first that can't be written. No two of them have one name,
-/// so none is written over another, and each is found where its name is.
+/// Creates the outputs in order, up to the first that can't be written. No two of them have one
+/// name, so none is written over another, and each is found where its name is.
 pub fn write_outputs<'a, F: Folder>(
     alloc: Global,
     session: &'a Session,
     folder: &mut F,
 ) -> Result<(), FileStop<'a>>
-    requires { IsDistinct bytes_eq (map (λ output. output.0) (outputs_of session.now.files session.now.roles)) }
+    requires { IsDistinct bytes_eq
+        (map (λ output. output.0) (outputs_of session.now.files session.now.roles)) }
     ensures whole { OnOk result (F.created folder.new
         ≡ with_created (F.created folder.old) (outputs_of session.now.files session.now.roles)) }
     ensures unfailed { OnOk result (F.failures folder.new ≡ F.failures folder.old) }
     ensures stopped { IfErr result (λ stop. StopsAt (outputs_of session.now.files session.now.roles)
         (F.created folder.old) (F.created folder.new) stop.name.now stop.fault) }
-    ensures failed { IfErr result (λ stop. stop.fault ≢ NoMemory → Failed (F.failures folder.old) (F.failures folder.new)) }
-    ensures unfailed_memory { IfErr result (λ stop. stop.fault ≡ NoMemory → F.failures folder.new ≡ F.failures folder.old) }
+    ensures failed { IfErr result
+        (λ stop. stop.fault ≢ NoMemory → Failed (F.failures folder.old) (F.failures folder.new)) }
+    ensures unfailed_memory { IfErr result
+        (λ stop. stop.fault ≡ NoMemory → F.failures folder.new ≡ F.failures folder.old) }
     ensures asked_stay { F.asked folder.new ≡ F.asked folder.old }
     ensures failed_stay { F.failed folder.new ≡ F.failed folder.old }
 {

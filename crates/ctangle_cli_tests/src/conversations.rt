@@ -1,4 +1,4 @@
-//! A conversation whose writer fails: an edit that was accepted by then stands.
+//! A conversation whose writer fails: an edit that was accepted by then is.
 use crate::support::AMPLE;
 use ctangle_cli::run_retangle;
 use std::alloc::Global;

@@ -1,12 +1,14 @@
 //! The tests of the runs: what no clause of theirs says.
 //!
-//! They stand in a crate of their own, since a crate that has tests is proved once more for them.
+//! They are in a crate of their own, since a crate that has tests is proved once more for them.
 #![tactic(auto)]
 
 #[cfg(test)]
-mod conversations;
+mod allocations;
 #[cfg(test)]
-mod growths;
+mod arguments;
+#[cfg(test)]
+mod conversations;
 #[cfg(test)]
 mod loads;
 #[cfg(test)]
@@ -15,5 +17,3 @@ mod real_folder;
 mod stops;
 #[cfg(test)]
 mod support;
-#[cfg(test)]
-mod words;

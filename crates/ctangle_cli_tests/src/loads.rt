@@ -21,12 +21,12 @@ fn lines_asked(alloc: Global, folder: &MemoryFolder) -> Result<Vec<u8>, Fail> {
 fn check_asked(
     rt: &impl Abort,
     alloc: Global,
-    words: &[u8],
+    arguments: &[u8],
     files: &[(&[u8], &[u8])],
     names: &[u8],
 ) -> Result<(), Fail> {
     let mut folder = folder_with(alloc, files)?;
-    run(alloc, words, &mut folder)?;
+    run(alloc, arguments, &mut folder)?;
     assert!(rt; lines_asked(alloc, &folder)?.as_slice() == names);
     Ok(())
 }
@@ -65,7 +65,8 @@ fn each_name_is_asked_for_once(rt: HostRuntime) -> Result<(), Fail> {
         ],
         b"a.w\nnone.w\nb.w\nc.w\n",
     )?;
-    // A file that the table has is not loaded again: one that includes itself, a web that is its own change file.
+    // A file that the table has is not loaded again: one that includes itself, a web that is its
+    // own change file.
     check_asked(
         &rt,
         alloc,
@@ -82,7 +83,8 @@ fn each_name_is_asked_for_once(rt: HostRuntime) -> Result<(), Fail> {
     )
 }
 
-// A run over a web that includes a name of so many bytes: its status, and how many names the folder was asked for.
+// A run over a web that includes a name of so many bytes: its status, and how many names the folder
+// was asked for.
 fn run_with_a_name_of(alloc: Global, length: u16) -> Result<(u8, usize), Fail> {
     let mut web = Vec::from_slice(alloc, b"@i ")?;
     web.resize(3 + usize::from(length), b'n')?;
@@ -99,7 +101,8 @@ fn long_name_of_an_inclusion_is_not_asked_for(rt: HostRuntime) -> Result<(), Fai
     Ok(())
 }
 
-// Puts 256 files into a folder, the last one only if all are wanted, and the web `a.w`, which includes them all.
+// Puts 256 files into a folder, the last one only if all are to be read, and the web `a.w`, which
+// includes them all.
 fn put_many(alloc: Global, folder: &mut MemoryFolder, all: bool) -> Result<(), Fail> {
     let mut web = Vec::new(alloc);
     for number in 0..=255u8 {
@@ -118,8 +121,8 @@ fn put_many(alloc: Global, folder: &mut MemoryFolder, all: bool) -> Result<(), F
 fn load_many(alloc: Global, all: bool) -> Result<Result<usize, LoadFault>, Fail> {
     let mut folder = MemoryFolder::new(alloc, AMPLE);
     put_many(alloc, &mut folder, all)?;
-    let words = read_words(alloc, &[b"a"])?;
-    Ok(load(alloc, &words, &mut folder).map(|(files, _)| files.count()))
+    let arguments = read_words(alloc, &[b"a"])?;
+    Ok(load(alloc, &arguments, &mut folder).map(|(files, _)| files.count()))
 }
 
 // The line of this fault is these bytes.

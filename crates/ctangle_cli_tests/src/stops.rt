@@ -1,4 +1,4 @@
-//! Runs that end with status 2 or 3: the line on standard error, and the files that stand.
+//! Runs that end with status 2 or 3: the line on standard error, and the files that are.
 use crate::support::{check_only_output, folder_with, run, run_with_room};
 use std::alloc::Global;
 use std::process::Abort;
@@ -12,12 +12,12 @@ const WEB: &[u8] = b"@ A.\n@c\nint x;\n";
 fn check_stop(
     rt: &impl Abort,
     alloc: Global,
-    words: &[u8],
+    arguments: &[u8],
     mut folder: MemoryFolder,
     line: &[u8],
     status: u8,
 ) -> Result<(), Fail> {
-    let (answer, err) = run(alloc, words, &mut folder)?;
+    let (answer, err) = run(alloc, arguments, &mut folder)?;
     assert!(rt; err.bytes() == line);
     assert_eq!(rt; (answer, folder.created().len()), (status, 0));
     Ok(())
@@ -69,24 +69,24 @@ fn files_that_the_folder_fails_to_read(rt: HostRuntime) -> Result<(), Fail> {
 #[test]
 fn names_are_tested_before_files_are_read(rt: HostRuntime) -> Result<(), Fail> {
     let alloc = rt.alloc();
-    let mut words = Vec::from_slice(alloc, b"none b.c ")?;
+    let mut arguments = Vec::from_slice(alloc, b"none b.c ")?;
     let mut line = Vec::from_slice(alloc, b"ctangle: ")?;
     for _ in 0..254 {
-        words.push(b'n')?;
+        arguments.push(b'n')?;
         line.push(b'n')?;
     }
     line.extend_from_slice(b".c: BadName\n")?;
     check_stop(
         &rt,
         alloc,
-        words.as_slice(),
+        arguments.as_slice(),
         folder_with(alloc, &[])?,
         line.as_slice(),
         3,
     )
 }
 
-// A run over this folder tells that `a.c` cannot be written, and leaves these bytes of it.
+// A run over this folder reports that `a.c` cannot be written, and leaves these bytes of it.
 fn check_cut_short(
     rt: &impl Abort,
     alloc: Global,
@@ -125,17 +125,17 @@ fn output_on_a_full_disk(rt: HostRuntime) -> Result<(), Fail> {
     check_cut_short(&rt, alloc, folder, b"/*1:*/\n")
 }
 
-// A run whose error stream takes three bytes ends with 3, has told these, and creates no file.
+// A run whose error stream takes three bytes ends with 3, has reported these, and creates no file.
 fn check_short_stream(
     rt: &impl Abort,
     alloc: Global,
-    words: &[u8],
-    told: &[u8],
+    arguments: &[u8],
+    reported: &[u8],
 ) -> Result<(), Fail> {
     let change = b"@x\nint x;\nint c;\n@y\nint z;\n@z\n";
     let mut folder = folder_with(alloc, &[(b"a.w", WEB), (b"a.ch", change)])?;
-    let (status, err) = run_with_room(alloc, words, &mut folder, 3)?;
-    assert!(rt; err.bytes() == told);
+    let (status, err) = run_with_room(alloc, arguments, &mut folder, 3)?;
+    assert!(rt; err.bytes() == reported);
     assert_eq!(rt; (status, folder.created().len()), (3, 0));
     Ok(())
 }

@@ -17,30 +17,30 @@ pub(crate) fn folder_with(alloc: Global, files: &[(&[u8], &[u8])]) -> Result<Mem
     Ok(folder)
 }
 
-/// The words of a text, which stand between single spaces.
-pub(crate) fn words_in<'a>(alloc: Global, text: &'a [u8]) -> Result<Vec<&'a [u8]>, Fail> {
+/// The arguments of a text, which are between single spaces.
+pub(crate) fn arguments_in<'a>(alloc: Global, text: &'a [u8]) -> Result<Vec<&'a [u8]>, Fail> {
     Ok(text.split(|b| *b == b' ').collect(alloc)?)
 }
 
-/// Runs `ctangle` with these words, and gives its status and what it wrote on standard error.
+/// Runs `ctangle` with these arguments, and gives its status and what it wrote on standard error.
 pub(crate) fn run(
     alloc: Global,
-    words: &[u8],
+    arguments: &[u8],
     folder: &mut MemoryFolder,
 ) -> Result<(u8, MemorySink), Fail> {
-    run_with_room(alloc, words, folder, AMPLE)
+    run_with_room(alloc, arguments, folder, AMPLE)
 }
 
 /// The same, where standard error takes so many bytes.
 pub(crate) fn run_with_room(
     alloc: Global,
-    words: &[u8],
+    arguments: &[u8],
     folder: &mut MemoryFolder,
     room: usize,
 ) -> Result<(u8, MemorySink), Fail> {
     let mut err = MemorySink::new(alloc, room);
-    let words = words_in(alloc, words)?;
-    let status = run_ctangle(alloc, words.as_slice(), folder, &mut err);
+    let arguments = arguments_in(alloc, arguments)?;
+    let status = run_ctangle(alloc, arguments.as_slice(), folder, &mut err);
     Ok((status, err))
 }
 

@@ -33,9 +33,9 @@ search_says graph flags found n row result range h e only flagged exact yes_when
 
 -- a node that reaches one that contains itself, by flags that say which do
 pub cycles_reached : (graph : Graph) (flags found : List Bool) → length flags ≡ length graph → FlagsJust graph flags (ContainsItself (HasUse graph)) → FlagsJust graph found (ReachesFlagged graph flags) → FlagsJust graph found (ReachesCycle (HasUse graph))
-cycles_reached graph flags found size exact told = λ n h. (
-  λ f. (let r = (told n h).0 f in (r.0, r.1, (exact r.0 (omega (arith, size, flagged_in flags r.0 r.2))).0 r.2)),
-  λ c. (told n h).1 (c.0, c.1, (exact c.0 (node_in graph c.0 c.2.0 c.2.1)).1 c.2),
+cycles_reached graph flags found size exact reported = λ n h. (
+  λ f. (let r = (reported n h).0 f in (r.0, r.1, (exact r.0 (omega (arith, size, flagged_in flags r.0 r.2))).0 r.2)),
+  λ c. (reported n h).1 (c.0, c.1, (exact c.0 (node_in graph c.0 c.2.0 c.2.1)).1 c.2),
 )
 
 -- one more flag that says whether P holds

@@ -31,14 +31,14 @@ pub found_next : (graph : Graph) (flags found : List Bool) (order : List ℕ) (i
     → AreFound graph flags (set found (get_or order i 0) flag) (take (i + 1) order)
 found_next graph flags found order i flag placed h p reached not = record {
   size = length-set found (get_or order i 0) flag ∙ p.size;
-  just = λ m. told m;
+  just = λ m. reported m;
 }
   where
     longer : take (i + 1) order ≡ take i order ++ get_or order i 0 ∷ []
     longer = take_more order i 0 h
 
-    told : (m : ℕ) → IsFlagged (set found (get_or order i 0) flag) m ↔ (Contains (take (i + 1) order) m × ReachesFlagged graph flags m)
-    told m =
+    reported : (m : ℕ) → IsFlagged (set found (get_or order i 0) flag) m ↔ (Contains (take (i + 1) order) m × ReachesFlagged graph flags m)
+    reported m =
         let at : get_or order i 0 < length found = omega (arith, p.size, placed.nodes i h) in
         let is : get_or (set found (get_or order i 0) flag) (get_or order i 0) false ≡ flag = get_or-set_same found (get_or order i 0) flag false at in
         elim (ℕ_discrete m (get_or order i 0)) [

@@ -50,15 +50,15 @@ pub placing_push : (graph : Graph) (flags : List Bool) (order : List ℕ) (n : �
     → get_or flags n false ≡ false → UsesListed graph order n → IsPlacing graph (set flags n true) (order ++ n ∷ [])
 placing_push graph flags order n p in_graph free listed = record {
   size = length-set flags n true ∙ p.size;
-  flagged = λ m. (stands m, shown m);
+  flagged = λ m. (is_inside m, shown m);
   placed = after_push graph order n p.placed in_graph (λ c. let both : true ≡ false = sym ((p.flagged n).1 c) ∙ free in absurd (cc)) listed;
 }
   where
     room : n < length flags
     room = omega (arith, p.size, in_graph)
 
-    stands : (m : ℕ) → IsFlagged (set flags n true) m → Contains (order ++ n ∷ []) m
-    stands m f = elim (ℕ_discrete m n) [
+    is_inside : (m : ℕ) → IsFlagged (set flags n true) m → Contains (order ++ n ∷ []) m
+    is_inside m f = elim (ℕ_discrete m n) [
       | yes e ↦ subst (λ k. Contains (order ++ n ∷ []) k) (sym e) (Contains-push order n)
       | no other ↦ Contains-append_left order (n ∷ []) m ((p.flagged m).0 (sym (get_or-set_other flags n m true false other) ∙ f))
     ]

@@ -17,9 +17,9 @@ from_roots_set graph roots flags n p is_root = record {
 pub from_roots_row : (graph : Graph) (roots : List ℕ) (flags next : List Bool) (n : ℕ) (row : Vec ℕ Global) → FromRoots graph roots flags → n < length graph → row ≡ get_or graph n row
     → IsFlagged flags n → length next ≡ length flags
     → ((m : ℕ) → IsFlagged next m → IsFlagged flags m ⊎ (Contains row.items m × (get_or roots m 0 ≡ get_or roots n 0))) → FromRoots graph roots next
-from_roots_row graph roots flags next n row p h e flagged size told = record {
+from_roots_row graph roots flags next n row p h e flagged size reported = record {
   size = size ∙ p.size;
-  sound = λ m f. elim (told m f) [
+  sound = λ m f. elim (reported m f) [
     | inl old ↦ p.sound m old
     | inr new ↦ subst (λ r. Reaches (HasUse graph) r m) (sym new.1) (reaches_trans (HasUse graph) (get_or roots n 0) n m (p.sound n flagged) (on (use_at graph n m row h e new.0) here))
   ];

@@ -1,4 +1,4 @@
--- An order that is being made, with a flag for each node that stands in it.
+-- An order that is being made, with a flag for each node that is in it.
 use Rattle.std.specs.Prelude.{◌≡◌, ◌⊎◌, ◌↔◌, ℕ, Bool, not, List, length, count_by, Contains}
 use Rattle.digraph.specs.Graph.{Graph, HasUse}
 use Rattle.digraph.specs.Flags.{IsFlagged}
@@ -9,7 +9,7 @@ pub record IsPlacing (graph : Graph) (flags : List Bool) (order : List ℕ) : Ty
   pub flagged : (n : ℕ) → IsFlagged flags n ↔ Contains order n
   pub placed : IsAfterUses graph order
 
--- the node stands in the order, or uses one that doesn't
+-- the node is in the order, or uses one that doesn't
 abbrev pub IsStuck : Graph → List ℕ → ℕ → Type 0
 IsStuck graph order n = Contains order n ⊎ ((m : ℕ) × HasUse graph n m × (¬ (Contains order m)))
 

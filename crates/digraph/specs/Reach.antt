@@ -1,4 +1,4 @@
--- What is reached along the uses of any relation: of numbers, or of what they stand for.
+-- What is reached along the uses of any relation: of numbers, or of what they represent.
 use Rattle.std.specs.Prelude.{ℕ, zero, suc}
 
 -- from a the other one is reached in no step, one step or more

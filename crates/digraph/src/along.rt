@@ -7,7 +7,8 @@ ghost use Rattle.digraph.specs.Order.{IsAfterUses};
 use crate::reach::any_flagged;
 use std::alloc::{AllocError, Global};
 
-/// A flag for each node: whether it stands in the order, which `order` makes, and reaches a node that is flagged.
+/// A flag for each node: whether it is in the order, which `order` makes, and reaches a node that
+/// is flagged.
 ///
 /// # Errors
 ///
@@ -22,7 +23,9 @@ pub fn reaching_along(
     requires order { IsAfterUses uses.now order.now }
     requires size { length flags.now ≡ length uses.now }
     ensures size { IfOk result (λ found. vec_len found ≡ length uses.now) }
-    ensures flags { IfOk result (λ found. (n : ℕ) → IsFlagged found.items n ↔ (Contains order.now n × ReachesFlagged uses.now flags.now n)) }
+    ensures flags { IfOk result
+        (λ found. (n : ℕ) → IsFlagged found.items n
+        ↔ (Contains order.now n × ReachesFlagged uses.now flags.now n)) }
 {
     let mut found = vec![in alloc; false; uses.len()]?;
     for n in order {

@@ -23,7 +23,8 @@ pub fn self_containing(
 ) -> Result<Vec<bool>, AllocError>
     requires { InRange uses.now }
     ensures size { IfOk result (λ flags. vec_len flags ≡ length uses.now) }
-    ensures flags { IfOk result (λ flags. FlagsJust uses.now flags.items (ContainsItself (HasUse uses.now))) }
+    ensures flags { IfOk result
+        (λ flags. FlagsJust uses.now flags.items (ContainsItself (HasUse uses.now))) }
 {
     let evidence = Evidence::gather(alloc, uses, users)?;
     let mut flags = Vec::new(alloc);
@@ -51,7 +52,8 @@ pub fn reaching_cycles(
     requires size { length flags.now ≡ length uses.now }
     requires flags { FlagsJust uses.now flags.now (ContainsItself (HasUse uses.now)) }
     ensures size { IfOk result (λ found. vec_len found ≡ length uses.now) }
-    ensures flags { IfOk result (λ found. FlagsJust uses.now found.items (ReachesCycle (HasUse uses.now))) }
+    ensures flags { IfOk result
+        (λ found. FlagsJust uses.now found.items (ReachesCycle (HasUse uses.now))) }
 {
     reaching(alloc, uses, users, flags)
 }

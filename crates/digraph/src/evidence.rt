@@ -1,4 +1,5 @@
-//! What certifies the answers: ranks that never fall, and flags of what roots reach and what reaches them.
+//! What certifies the answers: ranks that never fall, and flags of what roots reach and what
+//! reaches them.
 ghost use Rattle.std.specs.Prelude.{◌≡◌, ◌<◌, ◌↔◌, IfOk, IfSome, true, length};
 ghost use Rattle.digraph.specs.Graph.{InRange, HasUse};
 ghost use Rattle.digraph.specs.Reach.{ContainsItself};

@@ -1,6 +1,7 @@
 //! Directed graphs as rows of numbers: row n holds the nodes that node n uses.
 //!
-//! What is proposed in `proposals` is only a hint: whatever it says the answers are right, and where it is right they take linear time.
+//! What is proposed in `proposals` is only a hint: whatever it says the answers are right, and
+//! where it is right they take linear time.
 #![tactic(auto)]
 
 mod along;

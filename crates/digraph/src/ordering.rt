@@ -43,8 +43,10 @@ fn place_each(
     requires range { InRange uses.now }
     requires placing { IsPlacing uses.now flags.old.items order.old.items }
     ensures placing { IfOk result (λ _. IsPlacing uses.now flags.new.items order.new.items) }
-    ensures more { IfOk result (λ any. any ≡ true → unflagged flags.new.items < unflagged flags.old.items) }
-    ensures none { IfOk result (λ any. any ≡ false → (n : ℕ) → n < length uses.now → IsStuck uses.now order.new.items n) }
+    ensures more { IfOk result
+        (λ any. any ≡ true → unflagged flags.new.items < unflagged flags.old.items) }
+    ensures none { IfOk result
+        (λ any. any ≡ false → (n : ℕ) → n < length uses.now → IsStuck uses.now order.new.items n) }
 {
     let mut any = false;
     for n in 0..uses.len() {
@@ -66,8 +68,11 @@ fn place(
     requires node { n < length uses.now }
     requires placing { IsPlacing uses.now flags.old.items order.old.items }
     ensures placing { IfOk result (λ _. IsPlacing uses.now flags.new.items order.new.items) }
-    ensures more { IfOk result (λ now. now ≡ true → unflagged flags.new.items < unflagged flags.old.items) }
-    ensures same { IfOk result (λ now. now ≡ false → (flags.new.items ≡ flags.old.items) × (order.new.items ≡ order.old.items)) }
+    ensures more { IfOk result
+        (λ now. now ≡ true → unflagged flags.new.items < unflagged flags.old.items) }
+    ensures same { IfOk result
+        (λ now. now ≡ false → (flags.new.items ≡ flags.old.items)
+        × (order.new.items ≡ order.old.items)) }
     ensures stuck { IfOk result (λ now. now ≡ false → IsStuck uses.now order.old.items n) }
 {
     if flags[n] || !all_flagged(&uses[n], flags) {

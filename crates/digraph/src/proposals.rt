@@ -80,7 +80,8 @@ pub fn finishing(alloc: Global, uses: &[Vec<usize>]) -> Result<Vec<usize>, Alloc
 
 /// Ranks the components, and names a root of each: the node of it that the first search saw first.
 ///
-/// The answer is the nodes in the order of these visits, each but a root after one of its component that it uses.
+/// The answer is the nodes in the order of these visits, each but a root after one of its component
+/// that it uses.
 pub fn number(
     alloc: Global,
     users: &[Vec<usize>],

@@ -24,7 +24,8 @@ pub fn reaching(
     requires range { InRange uses.now }
     requires size { length flags.now ≡ length uses.now }
     ensures size { IfOk result (λ found. vec_len found ≡ length uses.now) }
-    ensures flags { IfOk result (λ found. FlagsJust uses.now found.items (ReachesFlagged uses.now flags.now)) }
+    ensures flags { IfOk result
+        (λ found. FlagsJust uses.now found.items (ReachesFlagged uses.now flags.now)) }
 {
     let order = backward(alloc, users, flags)?;
     found_by_uses(alloc, uses, flags, &order)
@@ -40,7 +41,8 @@ fn found_by_uses(
     requires range { InRange uses.now }
     requires size { length flags.now ≡ length uses.now }
     ensures size { IfOk result (λ found. vec_len found ≡ length uses.now) }
-    ensures flags { IfOk result (λ found. FlagsJust uses.now found.items (ReachesFlagged uses.now flags.now)) }
+    ensures flags { IfOk result
+        (λ found. FlagsJust uses.now found.items (ReachesFlagged uses.now flags.now)) }
 {
     let mut found = vec![in alloc; false; uses.len()]?;
     for n in order {
@@ -59,7 +61,8 @@ fn find_each(uses: &[Vec<usize>], flags: &[bool], found: &mut [bool]) -> bool
     requires finding { IsFinding uses.now flags.now found.old }
     ensures finding { IsFinding uses.now flags.now found.new }
     ensures more { result ≡ true → unflagged found.new < unflagged found.old }
-    ensures none { result ≡ false → (n : ℕ) → n < length uses.now → IsSettled uses.now flags.now found.new n }
+    ensures none { result ≡ false → (n : ℕ) → n < length uses.now
+        → IsSettled uses.now flags.now found.new n }
 {
     let mut any = false;
     for n in 0..uses.len() {

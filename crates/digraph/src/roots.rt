@@ -1,12 +1,15 @@
-//! Flags of nodes that their roots reach, and of nodes that reach their roots: each is right, whatever order the nodes are tried in.
-ghost use Rattle.std.specs.Prelude.{◌≡◌, ◌<◌, ◌⊎◌, ℕ, IfOk, true, All, Contains, length, slice_index};
+//! Flags of nodes that their roots reach, and of nodes that reach their roots: each is right,
+//! whatever order the nodes are tried in.
+ghost use Rattle.std.specs.Prelude.{◌≡◌, ◌<◌, ◌⊎◌, ℕ, IfOk, true, All, Contains, length};
+ghost use Rattle.std.specs.Prelude.{slice_index};
 ghost use Rattle.digraph.specs.Graph.{InRange};
 ghost use Rattle.digraph.specs.Flags.{IsFlagged};
 ghost use Rattle.digraph.specs.Roots.{FromRoots, ToRoots};
 
 use std::alloc::{AllocError, Global};
 
-/// Flags nodes that their roots reach, where `backwards` is an order in which each of them comes after those it leads to.
+/// Flags nodes that their roots reach, where `backwards` is an order in which each of them comes
+/// after those it leads to.
 pub fn reached_from_roots(
     alloc: Global,
     uses: &[Vec<usize>],
@@ -47,7 +50,8 @@ fn hand_on(uses: &[Vec<usize>], n: usize, roots: &[usize], flags: &mut [bool])
 fn flag_row(row: &[usize], root: usize, roots: &[usize], flags: &mut [bool])
     requires range { All (λ m. m < length roots.now) row.now }
     requires flags { length flags.old ≡ length roots.now }
-    ensures { (m : ℕ) → IsFlagged flags.new m → IsFlagged flags.old m ⊎ (Contains row.now m × (slice_index roots.now m ≡ root)) }
+    ensures { (m : ℕ) → IsFlagged flags.new m → IsFlagged flags.old m
+        ⊎ (Contains row.now m × (slice_index roots.now m ≡ root)) }
 {
     for m in row {
         if roots[*m] == root {
@@ -56,7 +60,8 @@ fn flag_row(row: &[usize], root: usize, roots: &[usize], flags: &mut [bool])
     }
 }
 
-/// Flags nodes that reach their roots, in an order in which each of them comes after one that it uses.
+/// Flags nodes that reach their roots, in an order in which each of them comes after one that it
+/// uses.
 pub fn reaching_roots(
     alloc: Global,
     uses: &[Vec<usize>],
@@ -94,7 +99,8 @@ fn take_up(uses: &[Vec<usize>], n: usize, roots: &[usize], flags: &mut [bool])
 pub fn leads_to_root(row: &[usize], root: usize, roots: &[usize], flags: &[bool]) -> bool
     requires range { All (λ m. m < length roots.now) row.now }
     requires flags { length flags.now ≡ length roots.now }
-    ensures { result ≡ true → (m : ℕ) × Contains row.now m × (slice_index roots.now m ≡ root) × IsFlagged flags.now m }
+    ensures { result ≡ true → (m : ℕ) × Contains row.now m × (slice_index roots.now m ≡ root)
+        × IsFlagged flags.now m }
 {
     for m in row {
         if roots[*m] == root && flags[*m] {

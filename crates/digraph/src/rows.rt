@@ -1,5 +1,6 @@
 //! Rows of numbers, one for each node.
-ghost use Rattle.std.specs.Prelude.{◌≡◌, ◌<◌, ◌++◌, ◌∷◌, [], ◌==◌, ℕ, IfOk, OnOk, length, vec_len, All, if◌then◌else◌};
+ghost use Rattle.std.specs.Prelude.{◌≡◌, ◌<◌, ◌++◌, ◌∷◌, [], ◌==◌, ℕ, IfOk, OnOk, length, vec_len};
+ghost use Rattle.std.specs.Prelude.{All, if◌then◌else◌};
 ghost use Rattle.std.specs.List.{list_any};
 ghost use Rattle.std.specs.List.Sorted.{IsStrictlyIncreasing};
 ghost use Rattle.digraph.specs.Graph.{InRange, rows_of, row_at};
@@ -30,7 +31,8 @@ pub fn empty_rows(alloc: Global, count: usize) -> Result<Vec<Vec<usize>>, AllocE
 /// `AllocError` where memory is refused.
 pub fn push_to(rows: &mut Vec<Vec<usize>>, n: usize, number: usize) -> Result<(), AllocError>
     requires { n < length rows.old.items }
-    ensures { OnOk result (GrowsBy (λ m. if n == m then number ∷ [] else []) (rows_of rows.old.items) (rows_of rows.new.items)) }
+    ensures { OnOk result (GrowsBy (λ m. if n == m then number ∷ [] else [])
+        (rows_of rows.old.items) (rows_of rows.new.items)) }
 {
     rows[n].push(number)?;
     Ok(())
@@ -47,7 +49,8 @@ pub fn once_each(row: &mut Vec<usize>)
 /// Leaves each number once in each row, in increasing order.
 pub fn all_once(rows: &mut Vec<Vec<usize>>)
     ensures size { length rows.new.items ≡ length rows.old.items }
-    ensures rows { (n : ℕ) → n < length rows.old.items → IsOnceEach (row_at (rows_of rows.old.items) n) (row_at (rows_of rows.new.items) n) }
+    ensures rows { (n : ℕ) → n < length rows.old.items
+        → IsOnceEach (row_at (rows_of rows.old.items) n) (row_at (rows_of rows.new.items) n) }
     ensures increasing { All (λ row. IsStrictlyIncreasing row.items) rows.new.items }
     ensures range { InRange rows.old.items → InRange rows.new.items }
 {
@@ -56,8 +59,8 @@ pub fn all_once(rows: &mut Vec<Vec<usize>>)
     }
 }
 
-/// The users of each node: the nodes that use it, each once, in increasing order. Each row of `uses` has to be so already,
-/// as `all_once` leaves it.
+/// The users of each node: the nodes that use it, each once, in increasing order. Each row of
+/// `uses` has to be so already, as `all_once` leaves it.
 ///
 /// # Errors
 ///
@@ -75,7 +78,8 @@ pub fn users(alloc: Global, uses: &[Vec<usize>]) -> Result<Vec<Vec<usize>>, Allo
 fn turned(alloc: Global, uses: &[Vec<usize>]) -> Result<Vec<Vec<usize>>, AllocError>
     requires range { InRange uses.now }
     requires increasing { All (λ row. IsStrictlyIncreasing row.items) uses.now }
-    ensures { IfOk result (λ users. IsRowsOf (length uses.now) (users_of (rows_of uses.now)) (rows_of users.items)) }
+    ensures { IfOk result (λ users. IsRowsOf (length uses.now) (users_of (rows_of uses.now))
+        (rows_of users.items)) }
 {
     let mut users = empty_rows(alloc, uses.len())?;
     for (n, row) in uses.iter().enumerate() {
@@ -88,7 +92,8 @@ fn turned(alloc: Global, uses: &[Vec<usize>]) -> Result<Vec<Vec<usize>>, AllocEr
 fn add_user(users: &mut Vec<Vec<usize>>, row: &[usize], user: usize) -> Result<(), AllocError>
     requires increasing { IsStrictlyIncreasing row.now }
     requires within { All (λ m. m < length users.old.items) row.now }
-    ensures { OnOk result (GrowsBy (λ m. if list_any (λ x. x == m) row.now then user ∷ [] else []) (rows_of users.old.items) (rows_of users.new.items)) }
+    ensures { OnOk result (GrowsBy (λ m. if list_any (λ x. x == m) row.now then user ∷ [] else [])
+        (rows_of users.old.items) (rows_of users.new.items)) }
 {
     for m in row {
         push_to(users, *m, user)?;

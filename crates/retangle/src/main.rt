@@ -1,4 +1,5 @@
-//! `retangle WEB [--change FILE] [--out FILE]`: tangles a web, and again after each edit that standard input asks for.
+//! `retangle WEB [--change FILE] [--out FILE]`: tangles a web, and again after each edit that
+//! standard input asks for.
 #![tactic(auto)]
 
 use ctangle_cli::{
@@ -11,16 +12,16 @@ use tangle_lines::{IoSink, Sink};
 use tangle_session::Session;
 use tangle_streams::IoFeed;
 
-// The words of the command line, the program's name first.
-fn words_of(rt: &HostRuntime) -> io::Result<Vec<String>> {
+// The arguments of the command line, the program's name first.
+fn arguments_of(rt: &HostRuntime) -> io::Result<Vec<String>> {
     match env::args(rt) {
-        Ok(words) => words.collect(rt.alloc()).map_err(Error::from),
+        Ok(arguments) => arguments.collect(rt.alloc()).map_err(Error::from),
         Err(error) => Err(error),
     }
 }
 
-// The stream, handed on line by line, so that each answer goes out at its end. Where there is no memory for a line,
-// each write is handed on.
+// The stream, handed on line by line, so that each answer goes out at its end. Where there is no
+// memory for a line, each write is handed on.
 fn lines_to<W: Write + Drop + Copy>(rt: &HostRuntime, stream: W) -> IoSink<LineWriter<W>> {
     match LineWriter::new(rt.alloc(), stream) {
         Ok(lines) => IoSink::new(lines),
@@ -29,17 +30,17 @@ fn lines_to<W: Write + Drop + Copy>(rt: &HostRuntime, stream: W) -> IoSink<LineW
 }
 
 // Writes why there is nothing to answer from.
-fn tell<E: Sink>(fault: &LoadFault, err: &mut E) -> u8 {
+fn report<E: Sink>(fault: &LoadFault, err: &mut E) -> u8 {
     let _ = write_load(b"retangle", fault, err);
     3
 }
 
-// Loads what the words name, and answers the script on standard input.
-fn run_named<E: Sink>(rt: &HostRuntime, words: &Words, err: &mut E) -> u8 {
-    match load(rt.alloc(), words, &mut Disk::new(rt)) {
-        Err(fault) => tell(&fault, err),
+// Loads what the arguments name, and answers the script on standard input.
+fn run_named<E: Sink>(rt: &HostRuntime, arguments: &Words, err: &mut E) -> u8 {
+    match load(rt.alloc(), arguments, &mut Disk::new(rt)) {
+        Err(fault) => report(&fault, err),
         Ok((files, roles)) => match Session::start(rt.alloc(), files, roles) {
-            Err(_) => tell(&LoadFault::NoMemory, err),
+            Err(_) => report(&LoadFault::NoMemory, err),
             Ok(mut session) => {
                 let mut answers = lines_to(rt, rt.stdout());
                 let mut script = IoFeed::new(rt.stdin());
@@ -49,19 +50,20 @@ fn run_named<E: Sink>(rt: &HostRuntime, words: &Words, err: &mut E) -> u8 {
     }
 }
 
-// Runs `retangle`, and gives its status. With a word that is not UTF-8 it has no words, and `clap` tells its usage.
+// Runs `retangle`, and gives its status. With an argument that is not UTF-8 it has no arguments,
+// and `clap` reports its usage.
 fn run<E: Sink>(rt: &HostRuntime, err: &mut E) -> u8 {
-    let words = match words_of(rt) {
-        Ok(words) => words,
-        Err(error) if error.kind() == ErrorKind::OutOfMemory => return tell(
+    let arguments = match arguments_of(rt) {
+        Ok(arguments) => arguments,
+        Err(error) if error.kind() == ErrorKind::OutOfMemory => return report(
             &LoadFault::NoMemory,
             err,
         ),
         Err(_) => Vec::new(rt.alloc()),
     };
-    match read_retangle(rt.alloc(), words.as_slice()) {
+    match read_retangle(rt.alloc(), arguments.as_slice()) {
         Ok(names) => run_named(rt, &names, err),
-        Err(RetangleFault::NoMemory) => tell(&LoadFault::NoMemory, err),
+        Err(RetangleFault::NoMemory) => report(&LoadFault::NoMemory, err),
         Err(RetangleFault::Parse(text)) => match eprint!(rt; "{text}") {
             Ok(()) => 2,
             Err(_) => 3,

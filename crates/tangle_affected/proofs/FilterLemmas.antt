@@ -1,10 +1,10 @@
--- Where the elements of a filter stand.
+-- Where the elements of a filter are.
 use Rattle.std.proofs.Common.{◌≡◌, ◌∙◌, ◌<◌, ℕ, zero, suc, Bool, true, false, cond, List, [], ◌∷◌, length, take, get_or, refl, ap, sym, subst, arith, Contains, length-take}
 use Rattle.std.specs.List.{filter}
 use Rattle.std.proofs.lemmas.List.{get_or-take}
 use Rattle.std.proofs.lemmas.List.Elements.{All-contains, All-filter, All-contains_itself, filter_passes}
 
--- where the element at a place of a filter stands in the list, and what stands before it
+-- where the element at a place of a filter is in the list, and what is before it
 pub record Place {X : Type 0} (p : X → Bool) (xs F : List X) (k : ℕ) (d : X) : Type 0 where
   pub at : ℕ
   pub inside : at < length xs

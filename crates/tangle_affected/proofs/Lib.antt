@@ -1,5 +1,5 @@
 mod FilterLemmas
 mod NameLemmas
-mod MarkLemmas
+mod FlagLemmas
 mod ListLemmas
 mod KeepLemmas

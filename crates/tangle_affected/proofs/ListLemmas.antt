@@ -5,7 +5,7 @@ use Rattle.std.proofs.lemmas.Bool.{and_parts, and_from}
 use Rattle.std.proofs.lemmas.List.Kept.{AllPairs-filter}
 use Rattle.tangle_expansion.specs.Affected.{IsAffected}
 use Rattle.tangle_expansion.specs.Limits.{levels, heaviest, IsExpandableNode}
-use Rattle.tangle_expansion.specs.Shapes.{Title, Project, Reaches}
+use Rattle.tangle_expansion.specs.Shapes.{Title, Shapes, Reaches}
 use Rattle.tangle_expansion.specs.declared.nodes.Node.{Node}
 use Rattle.tangle_expansion.specs.declared.nodes.Node.TheVariants.{Program}
 use Rattle.tangle_graph.specs.Nodes.{UsesTitle}
@@ -13,25 +13,25 @@ use Rattle.tangle_graph.specs.Ordering.{IsOrderIn}
 use Rattle.tangle_graph.specs.Stores.{StoreRead, IsStoreOf, IsNodeIn, is_expandable_at, title_in_store}
 use Rattle.tangle_affected.specs.Affected.{ListsAffected}
 use Rattle.tangle_affected.specs.Keeping.{IsExpandableList, ListsExpandable}
-use Rattle.tangle_affected.specs.Marks.{mark_at, AreMarked, AreListed, MarksAffected, is_listed}
+use Rattle.tangle_affected.specs.Flags.{flag_at, AreFlagged, AreListed, FlagsAffected, is_listed}
 use Rattle.tangle_affected.proofs.FilterLemmas.{filter_place, out_of_filter, into_filter}
-use Rattle.tangle_affected.proofs.MarkLemmas.{at_place}
+use Rattle.tangle_affected.proofs.FlagLemmas.{at_place}
 use Rattle.tangle_affected.proofs.NameLemmas.{node_with_piece}
 
-module _ (project : Project) (store : StoreRead) (order : List Node) (is : IsStoreOf project store) (placed : IsOrderIn store order) where
+module _ (shapes : Shapes) (store : StoreRead) (order : List Node) (is : IsStoreOf shapes store) (placed : IsOrderIn store order) where
   -- a node of a filter comes after those of the filter that it uses
   filtered_after : (p : Node → Bool) (k : ℕ) (used : Node) → k < length (filter p order) → Contains (filter p order) used
-      → UsesTitle project (title_in_store store (get_or (filter p order) k Program)) (title_in_store store used) → Contains (take k (filter p order)) used
+      → UsesTitle shapes (title_in_store store (get_or (filter p order) k Program)) (title_in_store store used) → Contains (take k (filter p order)) used
   filtered_after p k used h c u =
       let place = filter_place p order k Program h in
       let there = out_of_filter p order used c in
-      let user : UsesTitle project (title_in_store store (get_or order place.at Program)) (title_in_store store used) =
-      subst (λ a. UsesTitle project (title_in_store store a) (title_in_store store used)) (sym place.same) u in
+      let user : UsesTitle shapes (title_in_store store (get_or order place.at Program)) (title_in_store store used) =
+      subst (λ a. UsesTitle shapes (title_in_store store a) (title_in_store store used)) (sym place.same) u in
       let uses = (is.uses (get_or order place.at Program) used (at_place store order placed place.at place.inside)).1 (placed.inside used there.0, user) in
       let before = placed.after place.at used place.inside uses in
       subst (λ l. Contains l used) (sym place.front) (into_filter p (take place.at order) used before there.1)
 
-  pub expandable_list : (p : Node → Bool) → ((a : Node) → p a ≡ true → is_expandable_at store a ≡ true) → IsExpandableList project store (filter p order)
+  pub expandable_list : (p : Node → Bool) → ((a : Node) → p a ≡ true → is_expandable_at store a ≡ true) → IsExpandableList shapes store (filter p order)
   expandable_list p passes = record {
     expandable = λ a c. passes a (out_of_filter p order a c).1;
     after = λ k used h c u. filtered_after p k used h c u;
@@ -46,10 +46,10 @@ module _ (project : Project) (store : StoreRead) (order : List Node) (is : IsSto
     );
   }
 
-  module _ (old : Project) (marks : List Bool) (are : AreMarked old project store marks order) where
-    pub is_affected : (a : Node) → Contains order a → is_expandable_at store a ≡ true → mark_at (length store.names) marks a ≡ true → IsAffected levels heaviest old project (title_in_store store a)
-    is_affected a c flag mark =
-        let r = (are a c).0 mark in
+  module _ (old : Shapes) (flags : List Bool) (are : AreFlagged old shapes store flags order) where
+    pub is_affected : (a : Node) → Contains order a → is_expandable_at store a ≡ true → flag_at (length store.names) flags a ≡ true → IsAffected levels heaviest old shapes (title_in_store store a)
+    is_affected a c flag is_flagged =
+        let r = (are a c).0 is_flagged in
         record {
           expandable = (is.expandable a (placed.inside a c)).0 flag;
           cause = r.0;
@@ -57,32 +57,32 @@ module _ (project : Project) (store : StoreRead) (order : List Node) (is : IsSto
           changed = r.2;
         }
 
-    pub lists_affected : ListsAffected old project store (filter (is_listed store marks) order)
+    pub lists_affected : ListsAffected old shapes store (filter (is_listed store flags) order)
     lists_affected = record {
       all = λ node affected. all node affected;
       only = λ a c. only a c;
-      once = AllPairs-filter (λ a b. a ≢ b) (is_listed store marks) order placed.once;
-      after = λ k used h c u. filtered_after (is_listed store marks) k used h c u;
+      once = AllPairs-filter (λ a b. a ≢ b) (is_listed store flags) order placed.once;
+      after = λ k used h c u. filtered_after (is_listed store flags) k used h c u;
     }
       where
-        all : (node : Title) → IsAffected levels heaviest old project node → (a : Node) × (title_in_store store a ≡ node) × Contains (filter (is_listed store marks) order) a
+        all : (node : Title) → IsAffected levels heaviest old shapes node → (a : Node) × (title_in_store store a ≡ node) × Contains (filter (is_listed store flags) order) a
         all node affected =
-            let at = node_with_piece project store node is affected.expandable.has_piece in
-            let flag = (is.expandable at.0 at.1).1 (subst (IsExpandableNode project) (sym at.2) affected.expandable) in
+            let at = node_with_piece shapes store node is affected.expandable.has_piece in
+            let flag = (is.expandable at.0 at.1).1 (subst (IsExpandableNode shapes) (sym at.2) affected.expandable) in
             let c = placed.expandable at.0 at.1 flag in
-            let mark = (are at.0 c).1 (affected.cause, subst (λ t. Reaches project t affected.cause) (sym at.2) affected.reaches, affected.changed) in
-            (at.0, at.2, into_filter (is_listed store marks) order at.0 c (and_from (is_expandable_at store at.0) (mark_at (length store.names) marks at.0) flag mark))
+            let is_flagged = (are at.0 c).1 (affected.cause, subst (λ t. Reaches shapes t affected.cause) (sym at.2) affected.reaches, affected.changed) in
+            (at.0, at.2, into_filter (is_listed store flags) order at.0 c (and_from (is_expandable_at store at.0) (flag_at (length store.names) flags at.0) flag is_flagged))
 
-        only : (a : Node) → Contains (filter (is_listed store marks) order) a → IsNodeIn store a × IsAffected levels heaviest old project (title_in_store store a)
+        only : (a : Node) → Contains (filter (is_listed store flags) order) a → IsNodeIn store a × IsAffected levels heaviest old shapes (title_in_store store a)
         only a c =
-            let there = out_of_filter (is_listed store marks) order a c in
-            let both = and_parts (is_expandable_at store a) (mark_at (length store.names) marks a) there.1 in
+            let there = out_of_filter (is_listed store flags) order a c in
+            let both = and_parts (is_expandable_at store a) (flag_at (length store.names) flags a) there.1 in
             (placed.inside a there.0, is_affected a there.0 both.0 both.1)
 
--- where the nodes of such a list are marked, each affected one is
-pub listed_marked : (old new : Project) (store : StoreRead) (nodes : List Node) (marks : List Bool) → IsStoreOf new store → ListsAffected old new store nodes
-    → AreListed store marks nodes → MarksAffected old new store marks
-listed_marked old new store nodes marks is lists are node inside affected =
+-- where the nodes of such a list are flagged, each affected one is
+pub listed_flagged : (old new : Shapes) (store : StoreRead) (nodes : List Node) (flags : List Bool) → IsStoreOf new store → ListsAffected old new store nodes
+    → AreListed store flags nodes → FlagsAffected old new store flags
+listed_flagged old new store nodes flags is lists are node inside affected =
     let at = lists.all (title_in_store store node) affected in
     let same : at.0 ≡ node = is.once at.0 node (lists.only at.0 at.2).0 inside at.1 in
     (are node inside).1 (subst (Contains nodes) same at.2)
@@ -91,5 +91,5 @@ no_element : (nodes : List Node) → ((a : Node) → Contains nodes a → ⊥) �
 no_element [] none = refl
 no_element (a ∷ nodes) none = absurd (none a (zero, omega arith, refl))
 
-pub nothing_listed : (old new : Project) (store : StoreRead) (nodes : List Node) → ((node : Title) → new node ≡ old node) → ListsAffected old new store nodes → nodes ≡ []
+pub nothing_listed : (old new : Shapes) (store : StoreRead) (nodes : List Node) → ((node : Title) → new node ≡ old node) → ListsAffected old new store nodes → nodes ≡ []
 nothing_listed old new store nodes alike lists = no_element nodes (λ a c. (let affected = (lists.only a c).1 in affected.changed (alike affected.cause)))

@@ -6,13 +6,13 @@ use Rattle.std.specs.Str.{bytes_eq}
 use Rattle.std.proofs.lemmas.List.Quantifiers.{position-Some}
 use Rattle.std.proofs.lemmas.Slice.Eq.{bytes_eq-Decides}
 use Rattle.std.proofs.lemmas.Bool.Decides.{nat_tests}
-use Rattle.tangle_expansion.specs.Shapes.{Title, Named, Shape, Project}
+use Rattle.tangle_expansion.specs.Shapes.{Title, Named, Shape, Shapes}
 use Rattle.tangle_expansion.specs.Shapes as title
 use Rattle.tangle_expansion.specs.declared.nodes.Node.{Node}
 use Rattle.tangle_expansion.specs.declared.nodes.Node.TheVariants.{Program, Name}
 use Rattle.tangle_graph.specs.Nodes.{title_at, title_of_node}
 use Rattle.tangle_graph.specs.Stores.{StoreRead, IsStoreOf, IsNodeIn, title_in_store}
-use Rattle.tangle_graph.proofs.NodeLemmas.{title_inside, named_inside, text_of_named}
+use Rattle.tangle_graph.proofs.NodeLemmas.{title_inside, named_inside, body_of_named}
 
 small : (p : ℕ) (b : Bool) (n : ℕ) → p < n → cond b (1 + p) 0 < 1 + n
 small p true n h = omega (arith, h)
@@ -42,30 +42,30 @@ pub name_absent : (names : List (List ℕ)) (text : List ℕ) (other : Node) →
 name_absent names text Program none e = absurd (let both : title.Program ≡ Named text = e in cc)
 name_absent names text (Name id) none e =
     let low = named_inside names id text e in
-    let same = text_of_named text (get_or names id []) (sym e ∙ title_inside names id low) in
+    let same = body_of_named text (get_or names id []) (sym e ∙ title_inside names id low) in
     none_found (bytes_eq text) names id [] none low ((bytes_eq-Decides text (get_or names id [])).1 same)
 
 -- a title with a piece is that of a node
-pub node_with_piece : (project : Project) (store : StoreRead) (node : Title) → IsStoreOf project store → project node ≢ [] → (a : Node) × IsNodeIn store a × (title_in_store store a ≡ node)
-node_with_piece project store title.Program is has = (Program, tt, refl)
-node_with_piece project store (Named name) is has = is.known name has
+pub node_with_piece : (shapes : Shapes) (store : StoreRead) (node : Title) → IsStoreOf shapes store → shapes node ≢ [] → (a : Node) × IsNodeIn store a × (title_in_store store a ≡ node)
+node_with_piece shapes store title.Program is has = (Program, tt, refl)
+node_with_piece shapes store (Named name) is has = is.known name has
 
 empty_unless : (s : Shape) → ((e : s ≢ []) → ⊥) → s ≡ []
 empty_unless [] h = refl
 empty_unless (x ∷ xs) h = absurd (h (λ e. let no : x ∷ xs ≡ [] = e in absurd (cc)))
 
 -- a title that no node has is without a piece
-pub no_shape : (project : Project) (store : StoreRead) (node : Title) → IsStoreOf project store → ((a : Node) → IsNodeIn store a → title_in_store store a ≢ node) → project node ≡ []
-no_shape project store node is none = empty_unless (project node) (λ has. let at = node_with_piece project store node is has in none at.0 at.1 at.2)
+pub no_shape : (shapes : Shapes) (store : StoreRead) (node : Title) → IsStoreOf shapes store → ((a : Node) → IsNodeIn store a → title_in_store store a ≢ node) → shapes node ≡ []
+no_shape shapes store node is none = empty_unless (shapes node) (λ has. let at = node_with_piece shapes store node is has in none at.0 at.1 at.2)
 
 -- whether two shapes are not the same
 pub differ : (s t x y : Shape) (b : Bool) → ((b ≡ true) ↔ (s ≡ t)) → s ≡ x → t ≡ y → (not b ≡ true → y ≢ x) × (y ≢ x → not b ≡ true)
-differ s t x y true told sx ty = (
+differ s t x y true reported sx ty = (
   (λ e. absurd (let both : false ≡ true = e in cc)),
-  (λ apart. absurd (apart (sym ty ∙ sym (told.0 refl) ∙ sx))),
+  (λ apart. absurd (apart (sym ty ∙ sym (reported.0 refl) ∙ sx))),
 )
-differ s t x y false told sx ty = (
-  (λ e same. absurd (let both : false ≡ true = told.1 (sx ∙ sym same ∙ sym ty) in cc)),
+differ s t x y false reported sx ty = (
+  (λ e same. absurd (let both : false ≡ true = reported.1 (sx ∙ sym same ∙ sym ty) in cc)),
   (λ apart. refl),
 )
 

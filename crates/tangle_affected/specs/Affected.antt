@@ -2,20 +2,20 @@
 use Rattle.std.specs.Prelude.{◌≡◌, ◌≢◌, ◌<◌, ◌++◌, ℕ, List, length, take, slice_index_or, AllPairs, Contains}
 use Rattle.tangle_expansion.specs.Affected.{IsAffected}
 use Rattle.tangle_expansion.specs.Limits.{levels, heaviest}
-use Rattle.tangle_expansion.specs.Shapes.{Title, Project}
+use Rattle.tangle_expansion.specs.Shapes.{Title, Shapes}
 use Rattle.tangle_expansion.specs.declared.nodes.Node.{Node}
 use Rattle.tangle_expansion.specs.declared.nodes.Node.TheVariants.{Program}
 use Rattle.tangle_graph.specs.Nodes.{UsesTitle}
 use Rattle.tangle_graph.specs.Stores.{StoreRead, IsNodeIn, title_in_store}
 
--- the project before an edit and the one after it
-pub record Change : Type 0 where
-  pub old : Project
-  pub new : Project
+-- the shapes before an edit and the one after it
+pub record EditedShapes : Type 0 where
+  pub old : Shapes
+  pub new : Shapes
 
 -- Just the affected nodes, as nodes of the new store: each once, and a node after those of the list that it uses. What is affected is said
--- of titles, which both projects have.
-pub record ListsAffected (old new : Project) (store : StoreRead) (nodes : List Node) : Type 0 where
+-- of titles, which both shapes have.
+pub record ListsAffected (old new : Shapes) (store : StoreRead) (nodes : List Node) : Type 0 where
   pub all : (node : Title) → IsAffected levels heaviest old new node → (a : Node) × (title_in_store store a ≡ node) × Contains nodes a
   pub only : (a : Node) → Contains nodes a → IsNodeIn store a × IsAffected levels heaviest old new (title_in_store store a)
   pub once : AllPairs (λ a b. a ≢ b) nodes
@@ -23,5 +23,5 @@ pub record ListsAffected (old new : Project) (store : StoreRead) (nodes : List N
       → UsesTitle new (title_in_store store (slice_index_or nodes k Program)) (title_in_store store used) → Contains (take k nodes) used
 
 -- these are listed behind what was listed before
-abbrev pub ListsAffectedBehind : Project → Project → StoreRead → List Node → List Node → Type 0
+abbrev pub ListsAffectedBehind : Shapes → Shapes → StoreRead → List Node → List Node → Type 0
 ListsAffectedBehind old new store before after = (nodes : List Node) × (after ≡ before ++ nodes) × ListsAffected old new store nodes

@@ -1,3 +1,3 @@
 pub mod Affected
-pub mod Marks
+pub mod Flags
 pub mod Keeping

@@ -1,12 +1,13 @@
 //! The nodes that an edit affects.
-ghost use Rattle.std.specs.Prelude.{◌≡◌, ◌≢◌, ◌+◌, ◌↔◌, ℕ, length, true, false, filter, IfOk, IfSome, None, Contains, vec_len};
-ghost use Rattle.tangle_expansion.specs.Shapes.{Project};
+ghost use Rattle.std.specs.Prelude.{◌≡◌, ◌≢◌, ◌+◌, ◌↔◌, ℕ, length, true, false, filter, IfOk};
+ghost use Rattle.std.specs.Prelude.{IfSome, None, Contains, vec_len};
+ghost use Rattle.tangle_expansion.specs.Shapes.{Shapes};
 ghost use Rattle.tangle_expansion.specs.declared.nodes.Node.{Node};
 ghost use Rattle.tangle_graph.specs.Nodes.{IsNodeOf, title_of_node};
 ghost use Rattle.tangle_graph.specs.Ordering.{IsOrderIn};
 ghost use Rattle.tangle_graph.specs.Stores.{IsStoreOf, IsNodeIn, title_in_store};
 ghost use Rattle.tangle_affected.specs.Affected.{ListsAffected};
-ghost use Rattle.tangle_affected.specs.Marks.{number_of_node, mark_at, AreMarked, is_listed};
+ghost use Rattle.tangle_affected.specs.Flags.{number_of_node, flag_at, AreFlagged, is_listed};
 
 use std::alloc::Global;
 use tangle_expansion::{Node, PiecesByNode};
@@ -14,8 +15,9 @@ use tangle_graph::{Store, same_shape};
 use tangle_lines::NoMemory;
 use tangle_names::NameTable;
 
-/// The nodes that an edit affects: those that are expandable in the new store and reach, in it, a node whose shape in the old one isn't the
-/// same. Each comes once, and after those of the list that it uses. Nodes are matched by name, the program by the program.
+/// The nodes that an edit affects: those that are expandable in the new store and reach, in it, a
+/// node whose shape in the old one isn't the same. Each comes once, and after those of the list
+/// that it uses. Nodes are matched by name, the program by the program.
 ///
 /// # Errors
 ///
@@ -29,15 +31,16 @@ pub fn affected(
 ) -> Result<Vec<Node>, NoMemory>
     requires old_table { old_names.now.names ≡ old.now.names }
     requires new_table { new_names.now.names ≡ new.now.names }
-    ensures { (old_project new_project : Project) → IsStoreOf old_project old.now → IsStoreOf new_project new.now
-        → IfOk result (λ nodes. ListsAffected old_project new_project new.now nodes.items) }
+    ensures { (old_shapes new_shapes : Shapes) → IsStoreOf old_shapes old.now
+        → IsStoreOf new_shapes new.now
+        → IfOk result (λ nodes. ListsAffected old_shapes new_shapes new.now nodes.items) }
 {
     let order = new.order();
-    let marks = reaching_changed(alloc, old, old_names, new, new_names, order)?;
-    listed_nodes(alloc, new, &marks, order)
+    let flags = reaching_changed(alloc, old, old_names, new, new_names, order)?;
+    listed_nodes(alloc, new, &flags, order)
 }
 
-/// Marks, along the order, the nodes that reach a changed one.
+/// Flags, along the order, the nodes that reach a changed one.
 fn reaching_changed(
     alloc: Global,
     old: &Store,
@@ -49,18 +52,19 @@ fn reaching_changed(
     requires old_table { old_names.now.names ≡ old.now.names }
     requires new_table { new_names.now.names ≡ new.now.names }
     requires order { IsOrderIn new.now order.now }
-    ensures { (old_project new_project : Project) → IsStoreOf old_project old.now → IsStoreOf new_project new.now
-        → IfOk result (λ marks. AreMarked old_project new_project new.now marks.items order.now) }
+    ensures { (old_shapes new_shapes : Shapes) → IsStoreOf old_shapes old.now
+        → IsStoreOf new_shapes new.now
+        → IfOk result (λ flags. AreFlagged old_shapes new_shapes new.now flags.items order.now) }
 {
     let count = new.name_count();
-    let mut marks = vec![in alloc; false; count]?;
-    marks.push(false)?;
+    let mut flags = vec![in alloc; false; count]?;
+    flags.push(false)?;
     for node in order {
-        let mark = is_changed(old, old_names, new, new_names, *node)
-            || any_marked(count, &marks, new.uses(*node));
-        marks[number_of(count, *node)] = mark;
+        let is_flagged = is_changed(old, old_names, new, new_names, *node)
+            || any_flagged(count, &flags, new.uses(*node));
+        flags[number_of(count, *node)] = is_flagged;
     }
-    Ok(marks)
+    Ok(flags)
 }
 
 /// Whether the shape of the node is not the old one.
@@ -74,8 +78,10 @@ fn is_changed(
     requires old_table { old_names.now.names ≡ old.now.names }
     requires new_table { new_names.now.names ≡ new.now.names }
     requires node { IsNodeIn new.now node }
-    ensures { (old_project new_project : Project) → IsStoreOf old_project old.now → IsStoreOf new_project new.now
-        → ((result ≡ true) ↔ (new_project (title_in_store new.now node) ≢ old_project (title_in_store new.now node))) }
+    ensures { (old_shapes new_shapes : Shapes) → IsStoreOf old_shapes old.now
+        → IsStoreOf new_shapes new.now
+        → ((result ≡ true) ↔ (new_shapes (title_in_store new.now node) ≢ old_shapes
+        (title_in_store new.now node))) }
 {
     match node_before(old_names, new_names, node) {
         Some(before) => !same_shape(old, before, new, node),
@@ -117,39 +123,42 @@ pub(crate) fn number_of(count: usize, node: Node) -> usize
     }
 }
 
-/// Whether the node is marked.
-pub(crate) fn is_marked(count: usize, marks: &[bool], node: Node) -> bool
-    ensures { result ≡ mark_at count marks.now node }
+/// Whether the node is flagged.
+pub(crate) fn is_flagged(count: usize, flags: &[bool], node: Node) -> bool
+    ensures { result ≡ flag_at count flags.now node }
 {
-    marks.get(number_of(count, node)) == Some(&true)
+    flags.get(number_of(count, node)) == Some(&true)
 }
 
-/// Whether some node of the row is marked.
-fn any_marked(count: usize, marks: &[bool], row: &[Node]) -> bool
-    ensures one { result ≡ true → (m : Node) × Contains row.now m × (mark_at count marks.now m ≡ true) }
-    ensures none { result ≡ false → (m : Node) → Contains row.now m → mark_at count marks.now m ≡ false }
+/// Whether some node of the row is flagged.
+fn any_flagged(count: usize, flags: &[bool], row: &[Node]) -> bool
+    ensures one { result ≡ true → (m : Node) × Contains row.now m
+        × (flag_at count flags.now m ≡ true) }
+    ensures none { result ≡ false → (m : Node) → Contains row.now m → flag_at count flags.now m
+        ≡ false }
 {
     for m in row {
-        if is_marked(count, marks, *m) {
+        if is_flagged(count, flags, *m) {
             return true;
         }
     }
     false
 }
 
-/// The expandable and marked nodes, in the order.
+/// The expandable and flagged nodes, in the order.
 fn listed_nodes(
     alloc: Global,
     store: &Store,
-    marks: &[bool],
+    flags: &[bool],
     order: &[Node],
 ) -> Result<Vec<Node>, NoMemory>
-    ensures { IfOk result (λ nodes. nodes.items ≡ filter (is_listed store.now marks.now) order.now) }
+    ensures { IfOk result (λ nodes. nodes.items
+        ≡ filter (is_listed store.now flags.now) order.now) }
 {
     let mut nodes = Vec::new(alloc);
     let count = store.name_count();
     for node in order {
-        if store.expandable(*node) && is_marked(count, marks, *node) {
+        if store.expandable(*node) && is_flagged(count, flags, *node) {
             nodes.push(*node)?;
         }
     }

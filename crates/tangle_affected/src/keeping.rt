@@ -1,15 +1,19 @@
-//! The expansions of a web: all of them anew, or after an edit, where those that it doesn't affect are shared.
-ghost use Rattle.std.specs.Prelude.{◌≡◌, ◌++◌, ◌∷◌, [], ℕ, List, length, true, false, filter, IfOk, OnOk, None, Contains};
+//! The expansions of a web: all of them anew, or after an edit, where those that it doesn't affect
+//! are shared.
+ghost use Rattle.std.specs.Prelude.{◌≡◌, ◌++◌, ◌∷◌, [], ℕ, List, length, true, false, filter, IfOk};
+ghost use Rattle.std.specs.Prelude.{OnOk, None, Contains};
 ghost use Rattle.tangle_expansion.specs.Kept.{kept_at, PutsKept};
 ghost use Rattle.tangle_expansion.specs.Limits.{flat_of};
-ghost use Rattle.tangle_expansion.specs.Shapes.{Project};
+ghost use Rattle.tangle_expansion.specs.Shapes.{Shapes};
 ghost use Rattle.tangle_graph.specs.Ordering.{IsOrderIn};
-ghost use Rattle.tangle_graph.specs.Stores.{IsStoreOf, IsNodeIn, KeepsUsed, is_expandable_at, title_in_store};
-ghost use Rattle.tangle_affected.specs.Affected.{Change, ListsAffectedBehind};
-ghost use Rattle.tangle_affected.specs.Keeping.{KeepsJust, KeepsUnmarked, ListsExpandableBehind, IsChangeOf, IsUnaffected, CanExpand};
-ghost use Rattle.tangle_affected.specs.Marks.{AreListed, MarksAffected, mark_at};
+ghost use Rattle.tangle_graph.specs.Stores.{IsStoreOf, IsNodeIn, KeepsUsed, is_expandable_at};
+ghost use Rattle.tangle_graph.specs.Stores.{title_in_store};
+ghost use Rattle.tangle_affected.specs.Affected.{EditedShapes, ListsAffectedBehind};
+ghost use Rattle.tangle_affected.specs.Keeping.{KeepsJust, KeepsUnflagged, ListsExpandableBehind};
+ghost use Rattle.tangle_affected.specs.Keeping.{IsEditOf, IsUnaffected, CanExpand};
+ghost use Rattle.tangle_affected.specs.Flags.{AreListed, FlagsAffected, flag_at};
 
-use crate::edits::{affected, is_marked, node_before, number_of};
+use crate::edits::{affected, is_flagged, node_before, number_of};
 use std::alloc::Global;
 use tangle_expansion::{
     Expansion, Kept, Node, PiecesByNode, Work, unaffected_nodes_stay, used_names_are_expandable,
@@ -18,14 +22,16 @@ use tangle_graph::{Store, expand_one};
 use tangle_lines::NoMemory;
 use tangle_names::NameTable;
 
-/// Expands each expandable node of the store, and keeps what it expands to. The nodes go last in the work's list.
+/// Expands each expandable node of the store, and keeps what it expands to. The nodes go last in
+/// the work's list.
 ///
 /// # Errors
 ///
 /// `NoMemory`.
 pub fn expand_all(alloc: Global, store: &Store, work: &mut Work) -> Result<Kept, NoMemory>
-    requires { (project : Project) × IsStoreOf project store.now }
-    ensures kept { (project : Project) → IsStoreOf project store.now → IfOk result (λ kept. KeepsJust project store.now kept) }
+    requires { (shapes : Shapes) × IsStoreOf shapes store.now }
+    ensures kept { (shapes : Shapes) → IsStoreOf shapes store.now
+        → IfOk result (λ kept. KeepsJust shapes store.now kept) }
     ensures work { OnOk result (ListsExpandableBehind store.now work.old work.new) }
 {
     let list = expandable_nodes(alloc, store, store.order())?;
@@ -34,8 +40,8 @@ pub fn expand_all(alloc: Global, store: &Store, work: &mut Work) -> Result<Kept,
     Ok(kept)
 }
 
-/// Shares the old expansion of each expandable node that the edit doesn't affect, and expands the affected ones, each after those that it
-/// uses. The affected nodes go last in the work's list.
+/// Shares the old expansion of each expandable node that the edit doesn't affect, and expands the
+/// affected ones, each after those that it uses. The affected nodes go last in the work's list.
 ///
 /// # Errors
 ///
@@ -51,17 +57,18 @@ pub fn expand_again(
 ) -> Result<Kept, NoMemory>
     requires old_table { old_names.now.names ≡ old.now.names }
     requires new_table { new_names.now.names ≡ new.now.names }
-    requires change { (change : Change) × IsChangeOf old.now new.now old_kept.now change }
-    ensures kept { (change : Change) → IsChangeOf old.now new.now old_kept.now change → IfOk result (λ kept. KeepsJust change.new new.now kept) }
-    ensures work { (change : Change) → IsChangeOf old.now new.now old_kept.now change
+    requires change { (change : EditedShapes) × IsEditOf old.now new.now old_kept.now change }
+    ensures kept { (change : EditedShapes) → IsEditOf old.now new.now old_kept.now change
+        → IfOk result (λ kept. KeepsJust change.new new.now kept) }
+    ensures work { (change : EditedShapes) → IsEditOf old.now new.now old_kept.now change
         → OnOk result (ListsAffectedBehind change.old change.new new.now work.old work.new) }
 {
     let list = affected(alloc, old, old_names, new, new_names)?;
-    let marks = marks_of(alloc, new, &list)?;
+    let flags = flags_of(alloc, new, &list)?;
     let order = new.order();
     let mut kept = Kept::new(alloc);
-    share_unmarked(
-        old, old_names, old_kept, new, new_names, order, &marks, &mut kept,
+    share_unflagged(
+        old, old_names, old_kept, new, new_names, order, &flags, &mut kept,
     )?;
     expand_list(alloc, new, &list, &mut kept, work)?;
     Ok(kept)
@@ -80,18 +87,18 @@ fn expandable_nodes(alloc: Global, store: &Store, order: &[Node]) -> Result<Vec<
     Ok(nodes)
 }
 
-/// Marks the nodes of the list.
-fn marks_of(alloc: Global, store: &Store, list: &[Node]) -> Result<Vec<bool>, NoMemory>
+/// Flags the nodes of the list.
+fn flags_of(alloc: Global, store: &Store, list: &[Node]) -> Result<Vec<bool>, NoMemory>
     requires { (node : Node) → Contains list.now node → IsNodeIn store.now node }
-    ensures { IfOk result (λ marks. AreListed store.now marks.items list.now) }
+    ensures { IfOk result (λ flags. AreListed store.now flags.items list.now) }
 {
     let count = store.name_count();
-    let mut marks = vec![in alloc; false; count]?;
-    marks.push(false)?;
+    let mut flags = vec![in alloc; false; count]?;
+    flags.push(false)?;
     for node in list {
-        marks[number_of(count, *node)] = true;
+        flags[number_of(count, *node)] = true;
     }
-    Ok(marks)
+    Ok(flags)
 }
 
 /// A share of the old expansion of the node, which is matched by name.
@@ -106,8 +113,10 @@ fn share_old(
     requires old_table { old_names.now.names ≡ old.now.names }
     requires new_table { new_names.now.names ≡ new.now.names }
     requires node { IsNodeIn new.now node }
-    requires change { (change : Change) × IsChangeOf old.now new.now old_kept.now change × IsUnaffected new.now change node }
-    ensures { (change : Change) → IsChangeOf old.now new.now old_kept.now change → IsUnaffected new.now change node
+    requires change { (change : EditedShapes) × IsEditOf old.now new.now old_kept.now change
+        × IsUnaffected new.now change node }
+    ensures { (change : EditedShapes) → IsEditOf old.now new.now old_kept.now change
+        → IsUnaffected new.now change node
         → IfOk result (λ e. e ≡ flat_of change.new (title_in_store new.now node)) }
 {
     unaffected_nodes_stay();
@@ -128,38 +137,42 @@ fn keep_share(
     requires old_table { old_names.now.names ≡ old.now.names }
     requires new_table { new_names.now.names ≡ new.now.names }
     requires node { IsNodeIn new.now node }
-    requires change { (change : Change) × IsChangeOf old.now new.now old_kept.now change × IsUnaffected new.now change node }
-    ensures { (change : Change) → IsChangeOf old.now new.now old_kept.now change → IsUnaffected new.now change node
-        → OnOk result (PutsKept kept.old kept.new node (flat_of change.new (title_in_store new.now node))) }
+    requires change { (change : EditedShapes) × IsEditOf old.now new.now old_kept.now change
+        × IsUnaffected new.now change node }
+    ensures { (change : EditedShapes) → IsEditOf old.now new.now old_kept.now change
+        → IsUnaffected new.now change node
+        → OnOk result (PutsKept kept.old kept.new node
+        (flat_of change.new (title_in_store new.now node))) }
 {
     let share = share_old(old, old_names, old_kept, new, new_names, node)?;
     kept.put(node, share)
 }
 
-/// Keeps a share of the old expansion of each expandable node without a mark.
-fn share_unmarked(
+/// Keeps a share of the old expansion of each expandable node without a flag.
+fn share_unflagged(
     old: &Store,
     old_names: &NameTable,
     old_kept: &Kept,
     new: &Store,
     new_names: &NameTable,
     order: &[Node],
-    marks: &[bool],
+    flags: &[bool],
     kept: &mut Kept,
 ) -> Result<(), NoMemory>
     requires old_table { old_names.now.names ≡ old.now.names }
     requires new_table { new_names.now.names ≡ new.now.names }
     requires order { IsOrderIn new.now order.now }
-    requires change { (change : Change) × IsChangeOf old.now new.now old_kept.now change }
-    requires marks { (change : Change) → IsChangeOf old.now new.now old_kept.now change
-        → MarksAffected change.old change.new new.now marks.now }
+    requires change { (change : EditedShapes) × IsEditOf old.now new.now old_kept.now change }
+    requires flags { (change : EditedShapes) → IsEditOf old.now new.now old_kept.now change
+        → FlagsAffected change.old change.new new.now flags.now }
     requires empty { (node : Node) → kept_at kept.old node ≡ None }
-    ensures { (change : Change) → IsChangeOf old.now new.now old_kept.now change
-        → OnOk result (KeepsUnmarked change.new new.now (mark_at (length new.now.names) marks.now) order.now kept.new) }
+    ensures { (change : EditedShapes) → IsEditOf old.now new.now old_kept.now change
+        → OnOk result (KeepsUnflagged change.new new.now (flag_at (length new.now.names) flags.now)
+        order.now kept.new) }
 {
     let count = new.name_count();
     for node in order {
-        if new.expandable(*node) && !is_marked(count, marks, *node) {
+        if new.expandable(*node) && !is_flagged(count, flags, *node) {
             keep_share(old, old_names, old_kept, new, new_names, *node, kept)?;
         }
     }
@@ -175,9 +188,12 @@ fn expand_next(
     work: &mut Work,
 ) -> Result<(), NoMemory>
     requires expandable { is_expandable_at store.now node ≡ true }
-    requires used { (project : Project) × IsStoreOf project store.now × KeepsUsed project store.now kept.old node }
-    ensures kept { (project : Project) → IsStoreOf project store.now → KeepsUsed project store.now kept.old node
-        → OnOk result (PutsKept kept.old kept.new node (flat_of project (title_in_store store.now node))) }
+    requires used { (shapes : Shapes) × IsStoreOf shapes store.now
+        × KeepsUsed shapes store.now kept.old node }
+    ensures kept { (shapes : Shapes) → IsStoreOf shapes store.now
+        → KeepsUsed shapes store.now kept.old node
+        → OnOk result (PutsKept kept.old kept.new node
+        (flat_of shapes (title_in_store store.now node))) }
     ensures listed { OnOk result (work.new ≡ work.old ++ node ∷ []) }
 {
     let expansion = expand_one(alloc, store, node, kept, work)?;
@@ -192,8 +208,9 @@ fn expand_list(
     kept: &mut Kept,
     work: &mut Work,
 ) -> Result<(), NoMemory>
-    requires { (project : Project) × CanExpand project store.now list.now kept.old }
-    ensures kept { (project : Project) → CanExpand project store.now list.now kept.old → OnOk result (KeepsJust project store.now kept.new) }
+    requires { (shapes : Shapes) × CanExpand shapes store.now list.now kept.old }
+    ensures kept { (shapes : Shapes) → CanExpand shapes store.now list.now kept.old
+        → OnOk result (KeepsJust shapes store.now kept.new) }
     ensures work { OnOk result (work.new ≡ work.old ++ list.now) }
 {
     used_names_are_expandable();

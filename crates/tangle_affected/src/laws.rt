@@ -1,12 +1,13 @@
 //! Laws of what is affected.
 ghost use Rattle.std.specs.Prelude.{◌≡◌, [], List};
-ghost use Rattle.tangle_expansion.specs.Shapes.{Title, Project};
+ghost use Rattle.tangle_expansion.specs.Shapes.{Title, Shapes};
 ghost use Rattle.tangle_expansion.specs.declared.nodes.Node.{Node};
 ghost use Rattle.tangle_graph.specs.Stores.{StoreRead};
 ghost use Rattle.tangle_affected.specs.Affected.{ListsAffected};
 
-/// An edit that leaves all shapes as they were affects no node: it may shift lines and section numbers, or change macros alone.
-pub fn alike_projects_affect_nothing()
-    ensures { (old new : Project) (store : StoreRead) (nodes : List Node)
+/// An edit that leaves all shapes as they were affects no node: it may shift lines and section
+/// numbers, or change macros alone.
+pub fn alike_shapes_affect_nothing()
+    ensures { (old new : Shapes) (store : StoreRead) (nodes : List Node)
         → ((node : Title) → new node ≡ old node) → ListsAffected old new store nodes → nodes ≡ [] }
 {}

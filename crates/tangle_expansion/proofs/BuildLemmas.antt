@@ -22,7 +22,7 @@ flipped a b h = by (bytes_eq b a) refl
     by true e = absurd (true≢false (sym ((bytes_eq-Decides a b).1 (sym ((bytes_eq-Decides b a).0 e))) ∙ h))
     by false e = refl
 
--- a name differs from all that stand before it
+-- a name differs from all that are before it
 apart : (names : List (List ℕ)) (id : ℕ) → id < length names → IsDistinct bytes_eq names → AllByRecursion (λ n. bytes_eq (get_or names id []) n ≡ false) (take id names)
 apart [] id low h = absurd (omega (arith, low))
 apart (n ∷ names) zero low h = tt

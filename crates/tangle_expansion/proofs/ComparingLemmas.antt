@@ -8,25 +8,25 @@ use Rattle.tangle_scan.specs.Rules.{span_text}
 use Rattle.tangle_scan.specs.SourceOrder.{IsInRange}
 use Rattle.tangle_scan.specs.Web.{PieceRead}
 use Rattle.tangle_names.specs.NameTable.{TableRead}
-use Rattle.tangle_expansion.specs.Codes.{piece_end, shape_codes, shape_bytes}
-use Rattle.tangle_expansion.specs.ItemCodes.{bytes_in, code_in, names_in, piece_codes, pieces_codes, pieces_bytes, pieces_names, shape_of}
+use Rattle.tangle_expansion.specs.Tags.{piece_end, shape_tags, shape_bytes}
+use Rattle.tangle_expansion.specs.ItemTags.{bytes_in, tag_in, names_in, piece_tags, pieces_tags, pieces_bytes, pieces_names, shape_of}
 use Rattle.tangle_expansion.specs.ItemSlots.{pieces_at, no_piece}
-use Rattle.tangle_expansion.specs.NodeTexts.{HoldsShape, texts_at}
+use Rattle.tangle_expansion.specs.NodeBodies.{HoldsShape, texts_at}
 use Rattle.tangle_expansion.specs.Runs.{IsTextOf, run_bytes}
 use Rattle.tangle_expansion.specs.Comparing.{HasItemsOf}
-use Rattle.tangle_expansion.specs.Fronts.{Lists, GoOnAs, IsBehind, IsNotBehind, with_code, with_byte, with_bytes, with_text, with_item, with_items, with_pieces, with_shape, with_range, lists_at, no_lists, lists_of, IsBehindPlace, IsNotBehindPlace}
-use Rattle.tangle_expansion.specs.declared.codes.ItemCode.{ItemCode}
-use Rattle.tangle_expansion.specs.declared.codes.ItemKind.{ItemKind}
+use Rattle.tangle_expansion.specs.Fronts.{Lists, GoOnAs, IsBehind, IsNotBehind, with_tag, with_byte, with_bytes, with_text, with_item, with_items, with_pieces, with_shape, with_range, lists_at, no_lists, lists_of, IsBehindPlace, IsNotBehindPlace}
+use Rattle.tangle_expansion.specs.declared.tags.ItemTag.{ItemTag}
+use Rattle.tangle_expansion.specs.declared.tags.ItemKind.{ItemKind}
 use Rattle.tangle_expansion.specs.declared.comparing.Place.{Place}
-use Rattle.tangle_expansion.specs.declared.expansion.NodeText.{NodeText}
+use Rattle.tangle_expansion.specs.declared.expansion.NodeBody.{NodeBody}
 use Rattle.tangle_expansion.proofs.PlanLemmas.{drop_all}
-use Rattle.tangle_expansion.proofs.HeldLemmas.{codes_held, bytes_held, names_held}
+use Rattle.tangle_expansion.proofs.HeldLemmas.{tags_held, bytes_held, names_held}
 
-pub lists_same : (a b : Lists) → a.codes ≡ b.codes → a.bytes ≡ b.bytes → a.uses ≡ b.uses → a ≡ b
-lists_same a b codes bytes uses =
-    ap (λ l. record { codes = l; bytes = a.bytes; uses = a.uses }) codes
-    ∙ ap (λ l. record { codes = b.codes; bytes = l; uses = a.uses }) bytes
-    ∙ ap (λ l. record { codes = b.codes; bytes = b.bytes; uses = l }) uses
+pub lists_same : (a b : Lists) → a.tags ≡ b.tags → a.bytes ≡ b.bytes → a.uses ≡ b.uses → a ≡ b
+lists_same a b tags bytes uses =
+    ap (λ l. record { tags = l; bytes = a.bytes; uses = a.uses }) tags
+    ∙ ap (λ l. record { tags = b.tags; bytes = l; uses = a.uses }) bytes
+    ∙ ap (λ l. record { tags = b.tags; bytes = b.bytes; uses = l }) uses
 
 -- one step behind another
 
@@ -47,53 +47,53 @@ not_same a f f' same p = λ more e. p more (e ∙ same more)
 pub back_same : (a b : Lists) (f g g' : Lists → Lists) → ((more : Lists) → g more ≡ g' more) → GoOnAs a f b g → GoOnAs a f b g'
 back_same a b f g g' same p = λ more. ((λ e. (p more).0 e ∙ same more), λ e. (p more).1 (e ∙ sym (same more)))
 
--- codes, bytes and uses in front of lists
+-- tags, bytes and uses in front of lists
 
-pub other_code : (code first : ItemCode) (codes : List ItemCode) (bytes uses : List ℕ) → (first ≡ code → ⊥)
-    → (more : Lists) → record { codes = first ∷ codes; bytes = bytes; uses = uses } ≢ with_code code more
-other_code code first codes bytes uses differ more e =
-    let both : (first ∷ codes) ≡ code ∷ more.codes = ap (λ (m : Lists). m.codes) e in
+pub other_tag : (tag first : ItemTag) (tags : List ItemTag) (bytes uses : List ℕ) → (first ≡ tag → ⊥)
+    → (more : Lists) → record { tags = first ∷ tags; bytes = bytes; uses = uses } ≢ with_tag tag more
+other_tag tag first tags bytes uses differ more e =
+    let both : (first ∷ tags) ≡ tag ∷ more.tags = ap (λ (m : Lists). m.tags) e in
     differ (cc)
 
 -- the fronts of the three lists
-abbrev pub with_all : ItemCode → List ℕ → List ℕ → Lists → Lists
-with_all code bytes uses more = record { codes = code ∷ more.codes; bytes = bytes ++ more.bytes; uses = uses ++ more.uses }
+abbrev pub with_all : ItemTag → List ℕ → List ℕ → Lists → Lists
+with_all tag bytes uses more = record { tags = tag ∷ more.tags; bytes = bytes ++ more.bytes; uses = uses ++ more.uses }
 
-pub bytes_not : (code : ItemCode) (bytes uses : List ℕ) (l : Lists) → ((rest : List ℕ) → l.bytes ≢ bytes ++ rest) → IsNotBehind (with_all code bytes uses) l
-bytes_not code bytes uses l differ = λ more e. differ more.bytes (ap (λ (m : Lists). m.bytes) e)
+pub bytes_not : (tag : ItemTag) (bytes uses : List ℕ) (l : Lists) → ((rest : List ℕ) → l.bytes ≢ bytes ++ rest) → IsNotBehind (with_all tag bytes uses) l
+bytes_not tag bytes uses l differ = λ more e. differ more.bytes (ap (λ (m : Lists). m.bytes) e)
 
-pub uses_not : (code : ItemCode) (bytes uses : List ℕ) (l : Lists) → ((rest : List ℕ) → l.uses ≢ uses ++ rest) → IsNotBehind (with_all code bytes uses) l
-uses_not code bytes uses l differ = λ more e. differ more.uses (ap (λ (m : Lists). m.uses) e)
+pub uses_not : (tag : ItemTag) (bytes uses : List ℕ) (l : Lists) → ((rest : List ℕ) → l.uses ≢ uses ++ rest) → IsNotBehind (with_all tag bytes uses) l
+uses_not tag bytes uses l differ = λ more e. differ more.uses (ap (λ (m : Lists). m.uses) e)
 
-pub all_behind : (code first : ItemCode) (bytes uses : List ℕ) (l : Lists) (codes : List ItemCode) (text rest : List ℕ)
-    → first ≡ code → l.codes ≡ first ∷ codes → l.bytes ≡ bytes ++ text → l.uses ≡ uses ++ rest
-    → IsBehind (with_all code bytes uses) l (record { codes = codes; bytes = text; uses = rest })
-all_behind code first bytes uses l codes text rest same is b u = λ more. (
+pub all_behind : (tag first : ItemTag) (bytes uses : List ℕ) (l : Lists) (tags : List ItemTag) (text rest : List ℕ)
+    → first ≡ tag → l.tags ≡ first ∷ tags → l.bytes ≡ bytes ++ text → l.uses ≡ uses ++ rest
+    → IsBehind (with_all tag bytes uses) l (record { tags = tags; bytes = text; uses = rest })
+all_behind tag first bytes uses l tags text rest same is b u = λ more. (
   (λ e.
-      let both : (first ∷ codes) ≡ code ∷ more.codes = sym is ∙ ap (λ (m : Lists). m.codes) e in
-      lists_same (record { codes = codes; bytes = text; uses = rest }) more (cc)
+      let both : (first ∷ tags) ≡ tag ∷ more.tags = sym is ∙ ap (λ (m : Lists). m.tags) e in
+      lists_same (record { tags = tags; bytes = text; uses = rest }) more (cc)
       (append_cancel_left bytes text more.bytes (sym b ∙ ap (λ (m : Lists). m.bytes) e))
       (append_cancel_left uses rest more.uses (sym u ∙ ap (λ (m : Lists). m.uses) e))),
   λ e.
-      lists_same l (with_all code bytes uses more)
-      (is ∙ ap (λ c. c ∷ codes) same ∙ ap (λ r. code ∷ r) (ap (λ (m : Lists). m.codes) e))
+      lists_same l (with_all tag bytes uses more)
+      (is ∙ ap (λ c. c ∷ tags) same ∙ ap (λ r. tag ∷ r) (ap (λ (m : Lists). m.tags) e))
       (b ∙ ap (λ r. bytes ++ r) (ap (λ (m : Lists). m.bytes) e))
       (u ∙ ap (λ r. uses ++ r) (ap (λ (m : Lists). m.uses) e)),
 )
 
--- with the code alone, a place goes on as it is
-pub code_behind : (code first : ItemCode) (codes : List ItemCode) (bytes uses : List ℕ) → first ≡ code
-    → IsBehind (with_code code) (record { codes = first ∷ codes; bytes = bytes; uses = uses }) (record { codes = codes; bytes = bytes; uses = uses })
-code_behind code first codes bytes uses same = all_behind code first [] [] (record { codes = first ∷ codes; bytes = bytes; uses = uses }) codes bytes uses same refl refl refl
+-- with the tag alone, a place goes on as it is
+pub tag_behind : (tag first : ItemTag) (tags : List ItemTag) (bytes uses : List ℕ) → first ≡ tag
+    → IsBehind (with_tag tag) (record { tags = first ∷ tags; bytes = bytes; uses = uses }) (record { tags = tags; bytes = bytes; uses = uses })
+tag_behind tag first tags bytes uses same = all_behind tag first [] [] (record { tags = first ∷ tags; bytes = bytes; uses = uses }) tags bytes uses same refl refl refl
 
 pub cut_not : (run bytes text rest : List ℕ) → text ≡ run ++ rest → ((more : List ℕ) → rest ≢ bytes ++ more) → (more : List ℕ) → text ≢ run ++ (bytes ++ more)
 cut_not run bytes text rest is differ more e = differ more (append_cancel_left run rest (bytes ++ more) (sym is ∙ e))
 
 -- an item of one byte, behind which no range is left
-pub byte_cut : (code : ItemCode) (byte : ℕ) (run next : List ℕ) → next ≡ []
-    → (more : Lists) → with_bytes run (with_byte code byte more) ≡ with_all code (run ++ byte ∷ []) [] (with_bytes next more)
-byte_cut code byte run next none more =
-    ap (λ b. record { codes = code ∷ more.codes; bytes = b; uses = more.uses })
+pub byte_cut : (tag : ItemTag) (byte : ℕ) (run next : List ℕ) → next ≡ []
+    → (more : Lists) → with_bytes run (with_byte tag byte more) ≡ with_all tag (run ++ byte ∷ []) [] (with_bytes next more)
+byte_cut tag byte run next none more =
+    ap (λ b. record { tags = tag ∷ more.tags; bytes = b; uses = more.uses })
     (sym (append_assoc run (byte ∷ []) more.bytes) ∙ ap (λ n. (run ++ byte ∷ []) ++ (n ++ more.bytes)) (sym none))
 
 -- texts and items behind the bytes of a range
@@ -101,47 +101,47 @@ byte_cut code byte run next none more =
 module _ (texts : List (List ℕ)) where
   -- a text that a longer range ends with
   pub text_joined : (run next : List ℕ) (kind : ItemKind) (s : Span) → run ++ span_text texts s ≡ next
-      → (more : Lists) → with_bytes run (with_text texts kind s more) ≡ with_code (record { kind = kind; size = s.end - s.start }) (with_bytes next more)
+      → (more : Lists) → with_bytes run (with_text texts kind s more) ≡ with_tag (record { kind = kind; size = s.end - s.start }) (with_bytes next more)
   text_joined run next kind s is more =
-      ap (λ b. record { codes = record { kind = kind; size = s.end - s.start } ∷ more.codes; bytes = b; uses = more.uses })
+      ap (λ b. record { tags = record { kind = kind; size = s.end - s.start } ∷ more.tags; bytes = b; uses = more.uses })
       (sym (append_assoc run (span_text texts s) more.bytes) ∙ ap (λ b. b ++ more.bytes) is)
 
   -- a text that begins another range
   pub text_cut : (run next : List ℕ) (kind : ItemKind) (s : Span) → next ≡ span_text texts s
-      → (more : Lists) → with_bytes run (with_text texts kind s more) ≡ with_code (record { kind = kind; size = s.end - s.start }) (with_bytes run (with_bytes next more))
+      → (more : Lists) → with_bytes run (with_text texts kind s more) ≡ with_tag (record { kind = kind; size = s.end - s.start }) (with_bytes run (with_bytes next more))
   text_cut run next kind s is more =
-      ap (λ b. record { codes = record { kind = kind; size = s.end - s.start } ∷ more.codes; bytes = run ++ (b ++ more.bytes); uses = more.uses }) (sym is)
+      ap (λ b. record { tags = record { kind = kind; size = s.end - s.start } ∷ more.tags; bytes = run ++ (b ++ more.bytes); uses = more.uses }) (sym is)
 
 module _ (texts : List (List ℕ)) (table : TableRead) where
   -- an item that is its text
   pub item_is_text : (x : Item) (kind : ItemKind) (s : Span) → IsTextOf x kind s → (more : Lists) → with_item texts table x more ≡ with_text texts kind s more
   item_is_text x kind s is more =
       lists_same (with_item texts table x more) (with_text texts kind s more)
-      (ap (λ c. c ∷ more.codes) (is.code table)) (ap (λ b. b ++ more.bytes) (is.bytes texts)) (ap (λ u. u ++ more.uses) (is.no_use table))
+      (ap (λ c. c ∷ more.tags) (is.tag table)) (ap (λ b. b ++ more.bytes) (is.bytes texts)) (ap (λ u. u ++ more.uses) (is.no_use table))
 
   -- white space that a longer range ends with
-  pub space_joined : (x : Item) (code : ItemCode) (run next : List ℕ) → code_in table x ≡ code → run ++ bytes_in texts x ≡ next → names_in table x ≡ []
-      → (more : Lists) → with_bytes run (with_item texts table x more) ≡ with_code code (with_bytes next more)
-  space_joined x code run next is longer none more =
-      lists_same (with_bytes run (with_item texts table x more)) (with_code code (with_bytes next more))
-      (ap (λ c. c ∷ more.codes) is) (sym (append_assoc run (bytes_in texts x) more.bytes) ∙ ap (λ b. b ++ more.bytes) longer) (ap (λ u. u ++ more.uses) none)
+  pub space_joined : (x : Item) (tag : ItemTag) (run next : List ℕ) → tag_in table x ≡ tag → run ++ bytes_in texts x ≡ next → names_in table x ≡ []
+      → (more : Lists) → with_bytes run (with_item texts table x more) ≡ with_tag tag (with_bytes next more)
+  space_joined x tag run next is longer none more =
+      lists_same (with_bytes run (with_item texts table x more)) (with_tag tag (with_bytes next more))
+      (ap (λ c. c ∷ more.tags) is) (sym (append_assoc run (bytes_in texts x) more.bytes) ∙ ap (λ b. b ++ more.bytes) longer) (ap (λ u. u ++ more.uses) none)
 
   -- another item, behind which no range is left
   pub item_cut : (x : Item) (run next : List ℕ) → next ≡ []
-      → (more : Lists) → with_bytes run (with_item texts table x more) ≡ with_all (code_in table x) (run ++ bytes_in texts x) (names_in table x) (with_bytes next more)
+      → (more : Lists) → with_bytes run (with_item texts table x more) ≡ with_all (tag_in table x) (run ++ bytes_in texts x) (names_in table x) (with_bytes next more)
   item_cut x run next none more =
-      ap (λ b. record { codes = code_in table x ∷ more.codes; bytes = b; uses = names_in table x ++ more.uses })
+      ap (λ b. record { tags = tag_in table x ∷ more.tags; bytes = b; uses = names_in table x ++ more.uses })
       (sym (append_assoc run (bytes_in texts x) more.bytes) ∙ ap (λ n. (run ++ bytes_in texts x) ++ (n ++ more.bytes)) (sym none))
 
   -- what is said of a text is said of the item
-  pub place_of_item : (x : Item) (kind : ItemKind) (s : Span) (code : ItemCode) (place : Place) (r : Option Place) → IsTextOf x kind s
-      → MatchOption r (IsNotBehindPlace (with_text texts kind s) code place) (IsBehindPlace (with_text texts kind s) code place)
-      → MatchOption r (IsNotBehindPlace (with_item texts table x) code place) (IsBehindPlace (with_item texts table x) code place)
-  place_of_item x kind s code place None is p =
-      λ codes more e. p codes more (e ∙ ap (with_range place) (item_is_text x kind s is more))
-  place_of_item x kind s code place (Some next) is p =
-      λ codes. front_same (lists_at (code ∷ codes) place) (lists_at codes next) (λ more. with_range place (with_text texts kind s more))
-      (λ more. with_range place (with_item texts table x more)) (with_range next) (λ more. ap (with_range place) (item_is_text x kind s is more)) (p codes)
+  pub place_of_item : (x : Item) (kind : ItemKind) (s : Span) (tag : ItemTag) (place : Place) (r : Option Place) → IsTextOf x kind s
+      → MatchOption r (IsNotBehindPlace (with_text texts kind s) tag place) (IsBehindPlace (with_text texts kind s) tag place)
+      → MatchOption r (IsNotBehindPlace (with_item texts table x) tag place) (IsBehindPlace (with_item texts table x) tag place)
+  place_of_item x kind s tag place None is p =
+      λ tags more e. p tags more (e ∙ ap (with_range place) (item_is_text x kind s is more))
+  place_of_item x kind s tag place (Some next) is p =
+      λ tags. front_same (lists_at (tag ∷ tags) place) (lists_at tags next) (λ more. with_range place (with_text texts kind s more))
+      (λ more. with_range place (with_item texts table x more)) (with_range next) (λ more. ap (with_range place) (item_is_text x kind s is more)) (p tags)
 
   -- the items of a piece, one by one
   pub items_on : (items : List Item) (i : ℕ) (x : Item) → i < length items → x ≡ get_or items i x
@@ -153,38 +153,38 @@ module _ (texts : List (List ℕ)) (table : TableRead) where
       ∙ lists_same (with_items texts table (x ∷ rest) more) (with_item texts table x (with_items texts table rest more))
       refl (append_assoc (bytes_in texts x) (flat_map (bytes_in texts) rest) more.bytes) (append_assoc (names_in table x) (flat_map (names_in table) rest) more.uses)
 
-  -- one of them at a place, with its code
-  codes_on : (codes : List ItemCode) (i : ℕ) (code d : ItemCode) → i < length codes → code ≡ get_or codes i d → drop i codes ≡ code ∷ drop (i + 1) codes
-  codes_on codes i code d h is = drop-cons codes i d h ∙ ap (λ c. c ∷ drop (suc i) codes) (sym is) ∙ ap (λ j. code ∷ drop j codes) (sym (add-one i))
+  -- one of them at a place, with its tag
+  tags_on : (tags : List ItemTag) (i : ℕ) (tag d : ItemTag) → i < length tags → tag ≡ get_or tags i d → drop i tags ≡ tag ∷ drop (i + 1) tags
+  tags_on tags i tag d h is = drop-cons tags i d h ∙ ap (λ c. c ∷ drop (suc i) tags) (sym is) ∙ ap (λ j. tag ∷ drop j tags) (sym (add-one i))
 
-  pub item_not_next : (codes : List ItemCode) (i : ℕ) (code d : ItemCode) (items : List Item) (x : Item) (place : Place)
-      → i < length codes → code ≡ get_or codes i d → i < length items → x ≡ get_or items i x → IsNotBehindPlace (with_item texts table x) code place
-      → IsNotBehind (λ more. with_range place (with_items texts table (drop i items) more)) (lists_at (drop i codes) place)
-  item_not_next codes i code d items x place low is low' is' p =
-      λ more e. p (drop (i + 1) codes) (with_items texts table (drop (i + 1) items) more)
-      (ap (λ l. lists_at l place) (sym (codes_on codes i code d low is)) ∙ e ∙ ap (with_range place) (items_on items i x low' is' more))
+  pub item_not_next : (tags : List ItemTag) (i : ℕ) (tag d : ItemTag) (items : List Item) (x : Item) (place : Place)
+      → i < length tags → tag ≡ get_or tags i d → i < length items → x ≡ get_or items i x → IsNotBehindPlace (with_item texts table x) tag place
+      → IsNotBehind (λ more. with_range place (with_items texts table (drop i items) more)) (lists_at (drop i tags) place)
+  item_not_next tags i tag d items x place low is low' is' p =
+      λ more e. p (drop (i + 1) tags) (with_items texts table (drop (i + 1) items) more)
+      (ap (λ l. lists_at l place) (sym (tags_on tags i tag d low is)) ∙ e ∙ ap (with_range place) (items_on items i x low' is' more))
 
-  pub item_next : (codes : List ItemCode) (i : ℕ) (code d : ItemCode) (items : List Item) (x : Item) (place next : Place)
-      → i < length codes → code ≡ get_or codes i d → i < length items → x ≡ get_or items i x → IsBehindPlace (with_item texts table x) code place next
-      → GoOnAs (lists_at (drop i codes) place) (λ more. with_range place (with_items texts table (drop i items) more))
-      (lists_at (drop (i + 1) codes) next) (λ more. with_range next (with_items texts table (drop (i + 1) items) more))
-  item_next codes i code d items x place next low is low' is' p = λ more.
+  pub item_next : (tags : List ItemTag) (i : ℕ) (tag d : ItemTag) (items : List Item) (x : Item) (place next : Place)
+      → i < length tags → tag ≡ get_or tags i d → i < length items → x ≡ get_or items i x → IsBehindPlace (with_item texts table x) tag place next
+      → GoOnAs (lists_at (drop i tags) place) (λ more. with_range place (with_items texts table (drop i items) more))
+      (lists_at (drop (i + 1) tags) next) (λ more. with_range next (with_items texts table (drop (i + 1) items) more))
+  item_next tags i tag d items x place next low is low' is' p = λ more.
       let rest = with_items texts table (drop (i + 1) items) more in
-      let goes = p (drop (i + 1) codes) rest in
-      let codes_next = ap (λ l. lists_at l place) (codes_on codes i code d low is) in
+      let goes = p (drop (i + 1) tags) rest in
+      let tags_next = ap (λ l. lists_at l place) (tags_on tags i tag d low is) in
       let items_next = ap (with_range place) (items_on items i x low' is' more) in
-      ((λ e. goes.0 (sym codes_next ∙ e ∙ items_next)), λ e. codes_next ∙ goes.1 e ∙ sym items_next)
+      ((λ e. goes.0 (sym tags_next ∙ e ∙ items_next)), λ e. tags_next ∙ goes.1 e ∙ sym items_next)
 
-  pub items_over : (items : List Item) (i : ℕ) → length items ≤ i → (more : Lists) → with_items texts table (drop i items) more ≡ with_code piece_end more
+  pub items_over : (items : List Item) (i : ℕ) → length items ≤ i → (more : Lists) → with_items texts table (drop i items) more ≡ with_tag piece_end more
   items_over items i h more = ap (λ l. with_items texts table l more) (drop_all items i h)
 
   -- the end of a piece
-  pub end_behind : (codes : List ItemCode) (i : ℕ) (code d : ItemCode) (run text : List ℕ) (place : Place) → i < length codes → code ≡ get_or codes i d → code ≡ piece_end
+  pub end_behind : (tags : List ItemTag) (i : ℕ) (tag d : ItemTag) (run text : List ℕ) (place : Place) → i < length tags → tag ≡ get_or tags i d → tag ≡ piece_end
       → run ≡ run_bytes place.run → place.text.now ≡ run ++ text
-      → GoOnAs (lists_at (drop i codes) place) (λ more. with_range place (with_code piece_end more)) (record { codes = drop (i + 1) codes; bytes = text; uses = place.uses.now }) (λ more. more)
-  end_behind codes i code d run text place low is same ours text_is =
-      all_behind piece_end code (run_bytes place.run) [] (lists_at (drop i codes) place) (drop (i + 1) codes) text place.uses.now
-      same (codes_on codes i code d low is) (text_is ∙ ap (λ r. r ++ text) ours) refl
+      → GoOnAs (lists_at (drop i tags) place) (λ more. with_range place (with_tag piece_end more)) (record { tags = drop (i + 1) tags; bytes = text; uses = place.uses.now }) (λ more. more)
+  end_behind tags i tag d run text place low is same ours text_is =
+      all_behind piece_end tag (run_bytes place.run) [] (lists_at (drop i tags) place) (drop (i + 1) tags) text place.uses.now
+      same (tags_on tags i tag d low is) (text_is ∙ ap (λ r. r ++ text) ours) refl
 
   -- the pieces, one by one
   pub pieces_on : (pieces : List PieceRead) (numbers : List ℕ) (i n : ℕ) (p : PieceRead) (items : List Item) → i < length numbers → n ≡ get_or numbers i 0 → n < length pieces → p ≡ get_or pieces n p → items ≡ p.items
@@ -198,7 +198,7 @@ module _ (texts : List (List ℕ)) (table : TableRead) where
       ap (λ l. with_pieces texts table (pieces_at pieces l) more) next
       ∙ ap (λ q. with_pieces texts table (q ∷ others) more) found
       ∙ lists_same (with_pieces texts table (p ∷ others) more) (with_items texts table p.items (with_pieces texts table others more))
-      (append_assoc (piece_codes table p.items) (pieces_codes table others) more.codes)
+      (append_assoc (piece_tags table p.items) (pieces_tags table others) more.tags)
       (append_assoc (flat_map (bytes_in texts) p.items) (pieces_bytes texts others) more.bytes)
       (append_assoc (flat_map (names_in table) p.items) (pieces_names table others) more.uses)
       ∙ ap (λ l. with_items texts table l (with_pieces texts table others more)) (sym ours)
@@ -211,26 +211,26 @@ module _ (texts : List (List ℕ)) (table : TableRead) where
       → (more : Lists) → with_shape texts table pieces more ≡ with_pieces texts table pieces more
   shape_in_front pieces spans more =
       lists_same (with_shape texts table pieces more) (with_pieces texts table pieces more)
-      (ap (λ l. l ++ more.codes) (sym (codes_held texts table pieces spans))) (ap (λ l. l ++ more.bytes) (sym (bytes_held texts table pieces))) refl
+      (ap (λ l. l ++ more.tags) (sym (tags_held texts table pieces spans))) (ap (λ l. l ++ more.bytes) (sym (bytes_held texts table pieces))) refl
 
   -- with nothing behind
-  pub has_items : (pieces : List PieceRead) (node : NodeText) → lists_of node ≡ with_shape texts table pieces no_lists → HasItemsOf texts table pieces node
+  pub has_items : (pieces : List PieceRead) (node : NodeBody) → lists_of node ≡ with_shape texts table pieces no_lists → HasItemsOf texts table pieces node
   has_items pieces node e = record {
-    codes = ap (λ (m : Lists). m.codes) e ∙ append-nil (shape_codes (shape_of texts table pieces));
+    tags = ap (λ (m : Lists). m.tags) e ∙ append-nil (shape_tags (shape_of texts table pieces));
     bytes = ap (λ (m : Lists). m.bytes) e ∙ append-nil (shape_bytes (shape_of texts table pieces));
     uses = ap (λ (m : Lists). m.uses) e ∙ append-nil (pieces_names table pieces);
   }
 
-  pub items_had : (pieces : List PieceRead) (node : NodeText) → HasItemsOf texts table pieces node → lists_of node ≡ with_shape texts table pieces no_lists
+  pub items_had : (pieces : List PieceRead) (node : NodeBody) → HasItemsOf texts table pieces node → lists_of node ≡ with_shape texts table pieces no_lists
   items_had pieces node h =
       lists_same (lists_of node) (with_shape texts table pieces no_lists)
-      (h.codes ∙ sym (append-nil (shape_codes (shape_of texts table pieces))))
+      (h.tags ∙ sym (append-nil (shape_tags (shape_of texts table pieces))))
       (h.bytes ∙ sym (append-nil (shape_bytes (shape_of texts table pieces))))
       (h.uses ∙ sym (append-nil (pieces_names table pieces)))
 
-  pub shape_had : (pieces : List PieceRead) (node : NodeText) → HasItemsOf texts table pieces node → HoldsShape table.names (shape_of texts table pieces) node
+  pub shape_had : (pieces : List PieceRead) (node : NodeBody) → HasItemsOf texts table pieces node → HoldsShape table.names (shape_of texts table pieces) node
   shape_had pieces node h = record {
-    codes = h.codes;
+    tags = h.tags;
     bytes = h.bytes;
     names_used = ap (texts_at table.names) h.uses ∙ names_held texts table pieces;
   }

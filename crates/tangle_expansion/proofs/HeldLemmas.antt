@@ -1,4 +1,4 @@
--- What is kept of a node tells its shape.
+-- What is kept of a node determines its shape.
 use Rattle.std.proofs.Common.{◌≡◌, ◌∙◌, ℕ, ◌+◌, ◌-◌, ◌<◌, ◌≤◌, zero, suc, List, [], ◌∷◌, ◌++◌, map, length, drop, refl, ap, sym, append_assoc, arith, get_or, drop-cons, add-one, length-drop, append-nil, All}
 use Rattle.std.specs.Prelude.{flat_map}
 use Rattle.std.proofs.lemmas.List.{map-append, get_or_default, length-take}
@@ -11,15 +11,15 @@ use Rattle.tangle_scan.specs.Web.{PieceRead}
 use Rattle.tangle_names.specs.declared.Resolved.{Resolved}
 use Rattle.tangle_names.specs.declared.Resolved.TheVariants.{Name, NoFullName, Ambiguous}
 use Rattle.tangle_names.specs.NameTable.{TableRead}
-use Rattle.tangle_expansion.specs.Projects.{use_of, resolved_at, shape_item}
-use Rattle.tangle_expansion.specs.Codes.{item_code, piece_end, item_bytes, item_names, shape_codes, shape_bytes, shape_names}
+use Rattle.tangle_expansion.specs.WebShapes.{use_of, resolved_at, shape_item}
+use Rattle.tangle_expansion.specs.Tags.{item_tag, piece_end, item_bytes, item_names, shape_tags, shape_bytes, shape_names}
 use Rattle.tangle_expansion.specs.ItemSlots.{pieces_at, no_piece}
-use Rattle.tangle_expansion.specs.ItemCodes.{use_code, names_resolved, code_in, pieces_codes, names_in, pieces_names, bytes_in, pieces_bytes, shape_of}
-use Rattle.tangle_expansion.specs.NodeTexts.{texts_at}
+use Rattle.tangle_expansion.specs.ItemTags.{use_tag, names_resolved, tag_in, pieces_tags, names_in, pieces_names, bytes_in, pieces_bytes, shape_of}
+use Rattle.tangle_expansion.specs.NodeBodies.{texts_at}
 use Rattle.tangle_expansion.proofs.PlanLemmas.{drop_all}
-use Rattle.tangle_expansion.specs.declared.codes.ItemKind.{ItemKind}
-use Rattle.tangle_expansion.specs.declared.codes.ItemKind.TheVariants as code
-use Rattle.tangle_expansion.specs.declared.codes.ItemCode.{ItemCode}
+use Rattle.tangle_expansion.specs.declared.tags.ItemKind.{ItemKind}
+use Rattle.tangle_expansion.specs.declared.tags.ItemKind.TheVariants as tag
+use Rattle.tangle_expansion.specs.declared.tags.ItemTag.{ItemTag}
 
 -- one more piece of a list of numbers
 pub pieces_next : {A : Type 0} (f : PieceRead → List A) (pieces : List PieceRead) (numbers : List ℕ) (i n : ℕ) (p : PieceRead) (made whole : List A)
@@ -39,49 +39,49 @@ pub pieces_done : {A : Type 0} (f : PieceRead → List A) (pieces : List PieceRe
     → length numbers ≤ i → made ++ flat_map f (pieces_at pieces (drop i numbers)) ≡ whole → made ≡ whole
 pieces_done f pieces numbers i made whole h e = sym (append-nil made) ∙ ap (λ l. made ++ flat_map f (pieces_at pieces l)) (sym (drop_all numbers i h)) ∙ e
 
--- codes
+-- tags
 
 span_length : (texts : List (List ℕ)) (s : Span) → IsSpan texts s → length (span_text texts s) ≡ s.end - s.start
 span_length texts s h =
     omega (arith, h.start, h.end, length-take (s.end - s.start) (drop s.start (get_or texts s.line [])), length-drop s.start (get_or texts s.line []))
 
-abbrev sized : ItemKind → ℕ → ItemCode
+abbrev sized : ItemKind → ℕ → ItemTag
 sized kind n = record { kind = kind; size = n }
 
 text_held : (kind : ItemKind) (texts : List (List ℕ)) (s : Span) → IsSpan texts s → sized kind (s.end - s.start) ≡ sized kind (length (span_text texts s))
 text_held kind texts s h = ap (sized kind) (sym (span_length texts s h))
 
-use_held : (table : TableRead) (r : Resolved) → use_code r ≡ item_code (use_of table r)
+use_held : (table : TableRead) (r : Resolved) → use_tag r ≡ item_tag (use_of table r)
 use_held table (Name id) = refl
 use_held table NoFullName = refl
 use_held table Ambiguous = refl
 
-code_held : (texts : List (List ℕ)) (table : TableRead) (x : Item) → IsInRange texts x → code_in table x ≡ item_code (shape_item texts table x)
-code_held texts table (item.Word s) h = text_held code.Word texts s h
-code_held texts table (item.Sign s) h = text_held code.Sign texts s h
-code_held texts table (item.Quoted s) h = text_held code.Quoted texts s h
-code_held texts table item.QuoteBreak h = refl
-code_held texts table (item.Verbatim s) h = text_held code.Verbatim texts s h
-code_held texts table (item.Code value) h = refl
-code_held texts table item.Blank h = refl
-code_held texts table item.LineEnd h = refl
-code_held texts table (item.LineMark place) h = refl
-code_held texts table (item.UseOf occurrence) h = use_held table (resolved_at table occurrence)
-code_held texts table item.Defs h = refl
+tag_held : (texts : List (List ℕ)) (table : TableRead) (x : Item) → IsInRange texts x → tag_in table x ≡ item_tag (shape_item texts table x)
+tag_held texts table (item.Word s) h = text_held tag.Word texts s h
+tag_held texts table (item.Sign s) h = text_held tag.Sign texts s h
+tag_held texts table (item.Quoted s) h = text_held tag.Quoted texts s h
+tag_held texts table item.QuoteBreak h = refl
+tag_held texts table (item.Verbatim s) h = text_held tag.Verbatim texts s h
+tag_held texts table (item.Code value) h = refl
+tag_held texts table item.Blank h = refl
+tag_held texts table item.LineEnd h = refl
+tag_held texts table (item.LineMark place) h = refl
+tag_held texts table (item.UseOf occurrence) h = use_held table (resolved_at table occurrence)
+tag_held texts table item.Defs h = refl
 
 items_held : (texts : List (List ℕ)) (table : TableRead) (items : List Item) → All (IsInRange texts) items
-    → map (code_in table) items ≡ map item_code (map (shape_item texts table) items)
+    → map (tag_in table) items ≡ map item_tag (map (shape_item texts table) items)
 items_held texts table [] h = refl
 items_held texts table (x ∷ items) h =
-    ap (λ c. c ∷ map (code_in table) items) (code_held texts table x (h zero x (omega arith)))
-    ∙ ap (λ l. item_code (shape_item texts table x) ∷ l) (items_held texts table items (λ i d low. h (suc i) d (omega (arith, low))))
+    ap (λ c. c ∷ map (tag_in table) items) (tag_held texts table x (h zero x (omega arith)))
+    ∙ ap (λ l. item_tag (shape_item texts table x) ∷ l) (items_held texts table items (λ i d low. h (suc i) d (omega (arith, low))))
 
-pub codes_held : (texts : List (List ℕ)) (table : TableRead) (pieces : List PieceRead) → All (λ (p : PieceRead). All (IsInRange texts) p.items) pieces
-    → pieces_codes table pieces ≡ shape_codes (shape_of texts table pieces)
-codes_held texts table [] h = refl
-codes_held texts table (p ∷ pieces) h =
-    ap (λ l. (l ++ piece_end ∷ []) ++ pieces_codes table pieces) (items_held texts table p.items (h zero p (omega arith)))
-    ∙ ap (λ l. (map item_code (map (shape_item texts table) p.items) ++ piece_end ∷ []) ++ l) (codes_held texts table pieces (λ i d low. h (suc i) d (omega (arith, low))))
+pub tags_held : (texts : List (List ℕ)) (table : TableRead) (pieces : List PieceRead) → All (λ (p : PieceRead). All (IsInRange texts) p.items) pieces
+    → pieces_tags table pieces ≡ shape_tags (shape_of texts table pieces)
+tags_held texts table [] h = refl
+tags_held texts table (p ∷ pieces) h =
+    ap (λ l. (l ++ piece_end ∷ []) ++ pieces_tags table pieces) (items_held texts table p.items (h zero p (omega arith)))
+    ∙ ap (λ l. (map item_tag (map (shape_item texts table) p.items) ++ piece_end ∷ []) ++ l) (tags_held texts table pieces (λ i d low. h (suc i) d (omega (arith, low))))
 
 -- what holds of all pieces holds of those with these numbers
 pub all_at : (P : PieceRead → Type 0) (pieces : List PieceRead) (numbers : List ℕ) → All P pieces → All (λ n. n < length pieces) numbers → All P (pieces_at pieces numbers)

@@ -8,7 +8,7 @@ use Rattle.tangle_names.specs.declared.Resolved.TheVariants.{Name, NoFullName, A
 use Rattle.tangle_names.specs.Names.{full_names, prefix}
 use Rattle.tangle_names.specs.Resolving.{names_in_order, resolve}
 use Rattle.tangle_names.specs.Laws.{ResolvesFull, ResolvesPrefix}
-use Rattle.tangle_expansion.specs.Projects.{IsNameBelow}
+use Rattle.tangle_expansion.specs.WebShapes.{IsNameBelow}
 
 full_inside : (names : List (List ℕ)) (text : List ℕ) (r : Resolved) → ResolvesFull names text r → IsNameBelow (length names) r
 full_inside names text (Name id) h = h.inside

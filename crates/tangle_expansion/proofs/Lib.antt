@@ -22,7 +22,7 @@ mod Unaffected
 pub mod PlanningLemmas
 pub mod RunLemmas
 pub mod FilledLemmas
-pub mod CodeLemmas
+pub mod TagLemmas
 pub mod CountLemmas
 pub mod HeldLemmas
 pub mod NumberedShapes

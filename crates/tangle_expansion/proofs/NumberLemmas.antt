@@ -11,7 +11,7 @@ use Rattle.tangle_names.specs.declared.Resolved.{Resolved}
 use Rattle.tangle_names.specs.declared.Resolved.TheVariants.{Name, NoFullName, Ambiguous}
 use Rattle.tangle_names.specs.NameTable.{TableRead}
 use Rattle.tangle_expansion.specs.Shapes.{Title, Program, Named}
-use Rattle.tangle_expansion.specs.Projects.{is_node, node_of, node_of_name, is_piece_of, pieces_of, resolved_at, IsNameBelow, ResolvesInside}
+use Rattle.tangle_expansion.specs.WebShapes.{is_node, node_of, node_of_name, is_piece_of, pieces_of, resolved_at, IsNameBelow, ResolvesInside}
 use Rattle.tangle_expansion.specs.Numbers.{piece_numbers, numbers_of, node_numbers}
 use Rattle.tangle_files.specs.declared.marks.MarkMode.{MarkMode}
 
@@ -53,7 +53,7 @@ module _ (table : TableRead) (name : List ℕ) (none : list_any (bytes_eq name) 
   no_pieces : ResolvesInside table → (pieces : List PieceRead) → filter (is_piece_of table (Named name)) pieces ≡ []
   no_pieces inside [] = refl
   no_pieces inside (p ∷ pieces) =
-      ap (λ t. if t then p ∷ filter (is_piece_of table (Named name)) pieces else filter (is_piece_of table (Named name)) pieces) (no_piece inside p.name)
+      ap (λ t. if t then p ∷ filter (is_piece_of table (Named name)) pieces else filter (is_piece_of table (Named name)) pieces) (no_piece inside p.occurrence)
       ∙ no_pieces inside pieces
 
 pub node_numbers_of : (web : WebRead) (table : TableRead) (marks : MarkMode) → ResolvesInside table → (node : Title)

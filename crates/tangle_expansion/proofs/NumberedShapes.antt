@@ -1,4 +1,4 @@
--- Codes, bytes and uses of pieces tell their slots.
+-- Tags, bytes and uses of pieces report their slots.
 use Rattle.std.proofs.Common.{◌≡◌, ◌∙◌, ℕ, ◌+◌, Bool, List, [], ◌∷◌, ◌++◌, map, refl, ap, sym}
 use Rattle.std.specs.Prelude.{flat_map, if◌then◌else◌, decimal}
 use Rattle.std.proofs.lemmas.List.{map-append}
@@ -13,14 +13,14 @@ use Rattle.tangle_names.specs.NameTable.{TableRead}
 use Rattle.tangle_expansion.specs.Shapes.{Title, ShapeItem, Written, Mark, Macros, Use, NoUse, Shape}
 use Rattle.tangle_expansion.specs.Shapes as kind
 use Rattle.tangle_expansion.specs.Flat.{Byte, Opening, MarkOf, Closing, AllMacros, marks_behind}
-use Rattle.tangle_expansion.specs.Projects.{use_of, resolved_at, shape_item}
+use Rattle.tangle_expansion.specs.WebShapes.{use_of, resolved_at, shape_item}
 use Rattle.tangle_expansion.specs.Slots.{Slot, Own, Used, byte_slots}
-use Rattle.tangle_expansion.specs.Codes.{item_code, piece_end, item_bytes, item_names, shape_codes, shape_bytes, shape_names}
-use Rattle.tangle_expansion.specs.ItemCodes.{names_resolved, names_in, pieces_names, shape_of}
+use Rattle.tangle_expansion.specs.Tags.{item_tag, piece_end, item_bytes, item_names, shape_tags, shape_bytes, shape_names}
+use Rattle.tangle_expansion.specs.ItemTags.{names_resolved, names_in, pieces_names, shape_of}
 use Rattle.tangle_expansion.specs.ItemSlots.{marks_behind_item, name_slots, item_slots, items_slots, pieces_slots}
 use Rattle.tangle_expansion.specs.Comparing.{HasItemsOf}
-use Rattle.tangle_expansion.specs.declared.expansion.NodeText.{NodeText}
-use Rattle.tangle_expansion.proofs.CodeLemmas.{same_by_codes}
+use Rattle.tangle_expansion.specs.declared.expansion.NodeBody.{NodeBody}
+use Rattle.tangle_expansion.proofs.TagLemmas.{same_by_tags}
 
 -- A shape in which each name is its number, as a text of one byte.
 
@@ -43,7 +43,7 @@ module _ (texts : List (List ℕ)) (table : TableRead) where
   numbered (item.Quoted span) = Written kind.Quoted (span_text texts span)
   numbered item.QuoteBreak = Written kind.QuoteBreak (line_feed ∷ [])
   numbered (item.Verbatim span) = Written kind.Verbatim (span_text texts span)
-  numbered (item.Code value) = Written kind.Code (decimal value)
+  numbered (item.Code value) = Written kind.AsciiConstant (decimal value)
   numbered item.Blank = Written kind.Blank (space ∷ [])
   numbered item.LineEnd = Written kind.LineEnd (line_feed ∷ [])
   numbered (item.LineMark place) = Mark
@@ -53,37 +53,37 @@ module _ (texts : List (List ℕ)) (table : TableRead) where
   abbrev shape_numbered : List PieceRead → Shape
   shape_numbered pieces = map (λ (p : PieceRead). map numbered p.items) pieces
 
-  -- its codes and bytes are those of the shape itself
+  -- its tags and bytes are those of the shape itself
 
-  use_code_numbered : (r : Resolved) → item_code (use_numbered r) ≡ item_code (use_of table r)
-  use_code_numbered (Name id) = refl
-  use_code_numbered NoFullName = refl
-  use_code_numbered Ambiguous = refl
+  use_tag_numbered : (r : Resolved) → item_tag (use_numbered r) ≡ item_tag (use_of table r)
+  use_tag_numbered (Name id) = refl
+  use_tag_numbered NoFullName = refl
+  use_tag_numbered Ambiguous = refl
 
-  code_numbered : (x : Item) → item_code (numbered x) ≡ item_code (shape_item texts table x)
-  code_numbered (item.Word span) = refl
-  code_numbered (item.Sign span) = refl
-  code_numbered (item.Quoted span) = refl
-  code_numbered item.QuoteBreak = refl
-  code_numbered (item.Verbatim span) = refl
-  code_numbered (item.Code value) = refl
-  code_numbered item.Blank = refl
-  code_numbered item.LineEnd = refl
-  code_numbered (item.LineMark place) = refl
-  code_numbered (item.UseOf occurrence) = use_code_numbered (resolved_at table occurrence)
-  code_numbered item.Defs = refl
+  tag_numbered : (x : Item) → item_tag (numbered x) ≡ item_tag (shape_item texts table x)
+  tag_numbered (item.Word span) = refl
+  tag_numbered (item.Sign span) = refl
+  tag_numbered (item.Quoted span) = refl
+  tag_numbered item.QuoteBreak = refl
+  tag_numbered (item.Verbatim span) = refl
+  tag_numbered (item.Code value) = refl
+  tag_numbered item.Blank = refl
+  tag_numbered item.LineEnd = refl
+  tag_numbered (item.LineMark place) = refl
+  tag_numbered (item.UseOf occurrence) = use_tag_numbered (resolved_at table occurrence)
+  tag_numbered item.Defs = refl
 
-  item_codes_numbered : (items : List Item) → map item_code (map numbered items) ≡ map item_code (map (shape_item texts table) items)
-  item_codes_numbered [] = refl
-  item_codes_numbered (x ∷ items) =
-      ap (λ c. c ∷ map item_code (map numbered items)) (code_numbered x)
-      ∙ ap (λ l. item_code (shape_item texts table x) ∷ l) (item_codes_numbered items)
+  item_tags_numbered : (items : List Item) → map item_tag (map numbered items) ≡ map item_tag (map (shape_item texts table) items)
+  item_tags_numbered [] = refl
+  item_tags_numbered (x ∷ items) =
+      ap (λ c. c ∷ map item_tag (map numbered items)) (tag_numbered x)
+      ∙ ap (λ l. item_tag (shape_item texts table x) ∷ l) (item_tags_numbered items)
 
-  codes_numbered : (pieces : List PieceRead) → shape_codes (shape_numbered pieces) ≡ shape_codes (shape_of texts table pieces)
-  codes_numbered [] = refl
-  codes_numbered (p ∷ pieces) =
-      ap (λ l. (l ++ piece_end ∷ []) ++ shape_codes (shape_numbered pieces)) (item_codes_numbered p.items)
-      ∙ ap (λ l. (map item_code (map (shape_item texts table) p.items) ++ piece_end ∷ []) ++ l) (codes_numbered pieces)
+  tags_numbered : (pieces : List PieceRead) → shape_tags (shape_numbered pieces) ≡ shape_tags (shape_of texts table pieces)
+  tags_numbered [] = refl
+  tags_numbered (p ∷ pieces) =
+      ap (λ l. (l ++ piece_end ∷ []) ++ shape_tags (shape_numbered pieces)) (item_tags_numbered p.items)
+      ∙ ap (λ l. (map item_tag (map (shape_item texts table) p.items) ++ piece_end ∷ []) ++ l) (tags_numbered pieces)
 
   use_bytes_numbered : (r : Resolved) → item_bytes (use_numbered r) ≡ item_bytes (use_of table r)
   use_bytes_numbered (Name id) = refl
@@ -219,13 +219,13 @@ module _ (has_piece : ℕ → Bool) (node : Title) where
         ap (λ l. (Own (Opening node piece) ∷ Own (MarkOf node piece 0) ∷ l) ++ pieces_slots texts table has_piece node (piece + 1) pieces) (items_slots_numbered piece 0 p.items)
         ∙ ap (λ l. (Own (Opening node piece) ∷ Own (MarkOf node piece 0) ∷ shape_items_slots piece 0 (map (numbered texts table) p.items)) ++ l) (slots_numbered (piece + 1) pieces)
 
--- two lists of pieces with the same codes, bytes and uses
-module _ (texts texts' : List (List ℕ)) (table table' : TableRead) (pieces pieces' : List PieceRead) (node : NodeText)
+-- two lists of pieces with the same tags, bytes and uses
+module _ (texts texts' : List (List ℕ)) (table table' : TableRead) (pieces pieces' : List PieceRead) (node : NodeBody)
     (h : HasItemsOf texts table pieces node) (k : HasItemsOf texts' table' pieces' node) where
   shapes_same : shape_numbered texts table pieces ≡ shape_numbered texts' table' pieces'
   shapes_same =
-      same_by_codes (shape_numbered texts table pieces) (shape_numbered texts' table' pieces')
-      (codes_numbered texts table pieces ∙ sym h.codes ∙ k.codes ∙ sym (codes_numbered texts' table' pieces'))
+      same_by_tags (shape_numbered texts table pieces) (shape_numbered texts' table' pieces')
+      (tags_numbered texts table pieces ∙ sym h.tags ∙ k.tags ∙ sym (tags_numbered texts' table' pieces'))
       (bytes_numbered texts table pieces ∙ sym h.bytes ∙ k.bytes ∙ sym (bytes_numbered texts' table' pieces'))
       (names_numbered texts table pieces ∙ ap (map as_text) (sym h.uses ∙ k.uses) ∙ sym (names_numbered texts' table' pieces'))
 

@@ -4,9 +4,9 @@ use Rattle.std.specs.Prelude.{if◌then◌else◌}
 use Rattle.std.proofs.lemmas.List.{at_drop_all}
 use Rattle.tangle_expansion.specs.Shapes.{Title}
 use Rattle.tangle_files.specs.Bytes.{space}
-use Rattle.tangle_expansion.specs.Flat.{Part, Byte, Opening, MarkOf, Closing, AllMacros}
+use Rattle.tangle_expansion.specs.Flat.{Symbol, Byte, Opening, MarkOf, Closing, AllMacros}
 use Rattle.tangle_expansion.specs.Numbers.{NumbersRead, text}
-use Rattle.tangle_expansion.specs.Meaning.{bytes_between, plan_flat, is_use, pieces_passed, marks_passed, bytes_passed, own_parts, before_use, Rest, behind_use}
+use Rattle.tangle_expansion.specs.Meaning.{bytes_between, plan_flat, is_use, pieces_passed, marks_passed, bytes_passed, own_symbols, before_use, Rest, behind_use}
 use Rattle.tangle_expansion.specs.declared.expansion.Step.{Step}
 use Rattle.tangle_expansion.specs.declared.expansion.Step.TheVariants as step
 use Rattle.tangle_expansion.proofs.TextLemmas.{text-append}
@@ -17,7 +17,7 @@ drop_at xs i x h e = drop-cons xs i x h ∙ ap (λ v. v ∷ drop (suc i) xs) (sy
 -- a step that is no use
 pub record GoesOn (numbers : NumbersRead) (node : Title) (bytes : List ℕ) (plan : List Step) (piece marks start i : ℕ) (s : Step) (piece' marks' start' i' : ℕ) : Type 0 where
   pub left : text numbers (before_use node bytes piece marks start (drop i plan))
-      ≡ text numbers (own_parts node bytes piece marks start s) ++ text numbers (before_use node bytes piece' marks' start' (drop i' plan))
+      ≡ text numbers (own_symbols node bytes piece marks start s) ++ text numbers (before_use node bytes piece' marks' start' (drop i' plan))
   pub rest : behind_use piece marks start (drop i plan) ≡ behind_use piece' marks' start' (drop i' plan)
 
 pub goes_on : (numbers : NumbersRead) (node : Title) (bytes : List ℕ) (plan : List Step) (piece marks start i : ℕ) (s : Step) (piece' marks' start' i' : ℕ)
@@ -26,15 +26,15 @@ pub goes_on : (numbers : NumbersRead) (node : Title) (bytes : List ℕ) (plan : 
     → GoesOn numbers node bytes plan piece marks start i s piece' marks' start' i'
 goes_on numbers node bytes plan piece marks start i s piece' marks' start' i' h is own ei ep em es =
     let at : drop i plan ≡ s ∷ drop (i + 1) plan = drop_at plan i s h is in
-    let parts : before_use node bytes piece marks start (drop i plan)
-    ≡ own_parts node bytes piece marks start s ++ before_use node bytes (pieces_passed piece s) (marks_passed marks s) (bytes_passed start s) (drop (i + 1) plan)
+    let symbols : before_use node bytes piece marks start (drop i plan)
+    ≡ own_symbols node bytes piece marks start s ++ before_use node bytes (pieces_passed piece s) (marks_passed marks s) (bytes_passed start s) (drop (i + 1) plan)
     = ap (before_use node bytes piece marks start) at
-    ∙ ap (λ t. if t then [] else own_parts node bytes piece marks start s ++ before_use node bytes (pieces_passed piece s) (marks_passed marks s) (bytes_passed start s) (drop (i + 1) plan)) own in
+    ∙ ap (λ t. if t then [] else own_symbols node bytes piece marks start s ++ before_use node bytes (pieces_passed piece s) (marks_passed marks s) (bytes_passed start s) (drop (i + 1) plan)) own in
     let behind : behind_use piece marks start (drop i plan) ≡ behind_use (pieces_passed piece s) (marks_passed marks s) (bytes_passed start s) (drop (i + 1) plan)
     = ap (behind_use piece marks start) at
     ∙ ap (λ t. if t then record { piece = piece; marks = marks; start = start; plan = drop (i + 1) plan } else behind_use (pieces_passed piece s) (marks_passed marks s) (bytes_passed start s) (drop (i + 1) plan)) own in
     rw (ei, ep, em, es) (record {
-      left = ap (text numbers) parts ∙ text-append numbers (own_parts node bytes piece marks start s) (before_use node bytes (pieces_passed piece s) (marks_passed marks s) (bytes_passed start s) (drop (i + 1) plan));
+      left = ap (text numbers) symbols ∙ text-append numbers (own_symbols node bytes piece marks start s) (before_use node bytes (pieces_passed piece s) (marks_passed marks s) (bytes_passed start s) (drop (i + 1) plan));
       rest = behind;
     })
 
@@ -61,7 +61,7 @@ stops_at_use numbers node bytes plan piece marks start i s piece' marks' start' 
     let same = stays piece marks start s used in
     rw (ei, ep ∙ same.0, em ∙ same.1, es ∙ same.2) (record {
       left = ap (λ l. text numbers (before_use node bytes piece marks start l)) at
-          ∙ ap (λ t. text numbers (if t then [] else own_parts node bytes piece marks start s ++ before_use node bytes (pieces_passed piece s) (marks_passed marks s) (bytes_passed start s) (drop (i + 1) plan))) used;
+          ∙ ap (λ t. text numbers (if t then [] else own_symbols node bytes piece marks start s ++ before_use node bytes (pieces_passed piece s) (marks_passed marks s) (bytes_passed start s) (drop (i + 1) plan))) used;
       rest = ap (behind_use piece marks start) at
           ∙ ap (λ t. if t then record { piece = piece; marks = marks; start = start; plan = drop (i + 1) plan } else behind_use (pieces_passed piece s) (marks_passed marks s) (bytes_passed start s) (drop (i + 1) plan)) used;
     })
@@ -90,37 +90,37 @@ plan_none node bytes piece marks start (step.Use id ∷ plan) = refl
 plan_none node bytes piece marks start (step.Close ∷ plan) = ap (λ l. Closing node piece ∷ l) (plan_none node bytes (piece + 1) 0 start plan)
 
 -- what it means with one more
-abbrev pub rest_flat : Title → List ℕ → Rest → List (List Part) → List Part
+abbrev pub rest_flat : Title → List ℕ → Rest → List (List Symbol) → List Symbol
 rest_flat node bytes r used = plan_flat node bytes r.piece r.marks r.start r.plan used
 
-pub plan_some : (node : Title) (bytes : List ℕ) (piece marks start : ℕ) (plan : List Step) (parts : List Part) (used : List (List Part))
-    → plan_flat node bytes piece marks start plan (parts ∷ used)
-    ≡ before_use node bytes piece marks start plan ++ (Byte space ∷ parts ++ rest_flat node bytes (behind_use piece marks start plan) used)
-plan_some node bytes piece marks start [] parts used = refl
-plan_some node bytes piece marks start (step.Open ∷ plan) parts used = ap (λ l. Opening node piece ∷ MarkOf node piece 0 ∷ l) (plan_some node bytes piece 0 start plan parts used)
-plan_some node bytes piece marks start (step.Run end ∷ plan) parts used =
-    ap (λ l. map Byte (bytes_between bytes start end) ++ l) (plan_some node bytes piece marks end plan parts used)
-    ∙ sym (append_assoc (map Byte (bytes_between bytes start end)) (before_use node bytes piece marks end plan) (Byte space ∷ parts ++ rest_flat node bytes (behind_use piece marks end plan) used))
-plan_some node bytes piece marks start (step.Mark ∷ plan) parts used = ap (λ l. MarkOf node piece (marks + 1) ∷ l) (plan_some node bytes piece (marks + 1) start plan parts used)
-plan_some node bytes piece marks start (step.Macros ∷ plan) parts used = ap (λ l. AllMacros ∷ l) (plan_some node bytes piece marks start plan parts used)
-plan_some node bytes piece marks start (step.Space ∷ plan) parts used = ap (λ l. Byte space ∷ l) (plan_some node bytes piece marks start plan parts used)
-plan_some node bytes piece marks start (step.Use id ∷ plan) parts used = refl
-plan_some node bytes piece marks start (step.Close ∷ plan) parts used = ap (λ l. Closing node piece ∷ l) (plan_some node bytes (piece + 1) 0 start plan parts used)
+pub plan_some : (node : Title) (bytes : List ℕ) (piece marks start : ℕ) (plan : List Step) (symbols : List Symbol) (used : List (List Symbol))
+    → plan_flat node bytes piece marks start plan (symbols ∷ used)
+    ≡ before_use node bytes piece marks start plan ++ (Byte space ∷ symbols ++ rest_flat node bytes (behind_use piece marks start plan) used)
+plan_some node bytes piece marks start [] symbols used = refl
+plan_some node bytes piece marks start (step.Open ∷ plan) symbols used = ap (λ l. Opening node piece ∷ MarkOf node piece 0 ∷ l) (plan_some node bytes piece 0 start plan symbols used)
+plan_some node bytes piece marks start (step.Run end ∷ plan) symbols used =
+    ap (λ l. map Byte (bytes_between bytes start end) ++ l) (plan_some node bytes piece marks end plan symbols used)
+    ∙ sym (append_assoc (map Byte (bytes_between bytes start end)) (before_use node bytes piece marks end plan) (Byte space ∷ symbols ++ rest_flat node bytes (behind_use piece marks end plan) used))
+plan_some node bytes piece marks start (step.Mark ∷ plan) symbols used = ap (λ l. MarkOf node piece (marks + 1) ∷ l) (plan_some node bytes piece (marks + 1) start plan symbols used)
+plan_some node bytes piece marks start (step.Macros ∷ plan) symbols used = ap (λ l. AllMacros ∷ l) (plan_some node bytes piece marks start plan symbols used)
+plan_some node bytes piece marks start (step.Space ∷ plan) symbols used = ap (λ l. Byte space ∷ l) (plan_some node bytes piece marks start plan symbols used)
+plan_some node bytes piece marks start (step.Use id ∷ plan) symbols used = refl
+plan_some node bytes piece marks start (step.Close ∷ plan) symbols used = ap (λ l. Closing node piece ∷ l) (plan_some node bytes (piece + 1) 0 start plan symbols used)
 
 -- its text, where one of the shared expansions comes next
-pub text_some : (numbers : NumbersRead) (node : Title) (bytes : List ℕ) (piece marks start : ℕ) (plan : List Step) (used seen : List (List Part)) (i : ℕ) (parts : List Part) (r : Rest)
-    → seen ≡ used → i < length seen → parts ≡ get_or seen i parts → behind_use piece marks start plan ≡ r
+pub text_some : (numbers : NumbersRead) (node : Title) (bytes : List ℕ) (piece marks start : ℕ) (plan : List Step) (used seen : List (List Symbol)) (i : ℕ) (symbols : List Symbol) (r : Rest)
+    → seen ≡ used → i < length seen → symbols ≡ get_or seen i symbols → behind_use piece marks start plan ≡ r
     → text numbers (plan_flat node bytes piece marks start plan (drop i used))
-    ≡ text numbers (before_use node bytes piece marks start plan) ++ ((space ∷ []) ++ (text numbers parts ++ text numbers (rest_flat node bytes r (drop (i + 1) used))))
-text_some numbers node bytes piece marks start plan used seen i parts r same h is rest =
-    let next : drop i used ≡ parts ∷ drop (i + 1) used = ap (drop i) (sym same) ∙ drop_at seen i parts h is ∙ ap (λ l. parts ∷ drop (i + 1) l) same in
+    ≡ text numbers (before_use node bytes piece marks start plan) ++ ((space ∷ []) ++ (text numbers symbols ++ text numbers (rest_flat node bytes r (drop (i + 1) used))))
+text_some numbers node bytes piece marks start plan used seen i symbols r same h is rest =
+    let next : drop i used ≡ symbols ∷ drop (i + 1) used = ap (drop i) (sym same) ∙ drop_at seen i symbols h is ∙ ap (λ l. symbols ∷ drop (i + 1) l) same in
     ap (λ l. text numbers (plan_flat node bytes piece marks start plan l)) next
-    ∙ ap (text numbers) (plan_some node bytes piece marks start plan parts (drop (i + 1) used))
-    ∙ text-append numbers (before_use node bytes piece marks start plan) (Byte space ∷ parts ++ rest_flat node bytes (behind_use piece marks start plan) (drop (i + 1) used))
-    ∙ ap (λ l. text numbers (before_use node bytes piece marks start plan) ++ (space ∷ l)) (text-append numbers parts (rest_flat node bytes (behind_use piece marks start plan) (drop (i + 1) used)))
-    ∙ ap (λ q. text numbers (before_use node bytes piece marks start plan) ++ (space ∷ (text numbers parts ++ text numbers (rest_flat node bytes q (drop (i + 1) used))))) rest
+    ∙ ap (text numbers) (plan_some node bytes piece marks start plan symbols (drop (i + 1) used))
+    ∙ text-append numbers (before_use node bytes piece marks start plan) (Byte space ∷ symbols ++ rest_flat node bytes (behind_use piece marks start plan) (drop (i + 1) used))
+    ∙ ap (λ l. text numbers (before_use node bytes piece marks start plan) ++ (space ∷ l)) (text-append numbers symbols (rest_flat node bytes (behind_use piece marks start plan) (drop (i + 1) used)))
+    ∙ ap (λ q. text numbers (before_use node bytes piece marks start plan) ++ (space ∷ (text numbers symbols ++ text numbers (rest_flat node bytes q (drop (i + 1) used))))) rest
 
-pub text_none : (numbers : NumbersRead) (node : Title) (bytes : List ℕ) (piece marks start : ℕ) (plan : List Step) (used seen : List (List Part)) (i : ℕ) → seen ≡ used → length seen ≤ i
+pub text_none : (numbers : NumbersRead) (node : Title) (bytes : List ℕ) (piece marks start : ℕ) (plan : List Step) (used seen : List (List Symbol)) (i : ℕ) → seen ≡ used → length seen ≤ i
     → text numbers (plan_flat node bytes piece marks start plan (drop i used)) ≡ text numbers (before_use node bytes piece marks start plan)
 text_none numbers node bytes piece marks start plan used seen i same h =
     ap (λ l. text numbers (plan_flat node bytes piece marks start plan l)) (drop_all used i (omega (arith, h, ap length same)))

@@ -3,32 +3,32 @@ use Rattle.std.proofs.Common.{◌≡◌, ◌∙◌, ℕ, List, [], ◌++◌, Opt
 use Rattle.std.specs.Prelude.{Result, Ok, None, Some}
 use Rattle.std.specs.Io.KnownBytes.{Appends}
 use Rattle.tangle_streams.specs.declared.failures.WriteFault.{WriteFault}
-use Rattle.tangle_streams.specs.Streams.{Stream, PutsOut, PutsOutMore}
+use Rattle.tangle_streams.specs.Streams.{Stream, IsWritten, IsWrittenBehind}
 
 pub puts_then : (a b c : Stream) (r s t : Result ℕ WriteFault) (xs ys : List ℕ)
-    → PutsOutMore a b r xs s → PutsOutMore b c s ys t → PutsOutMore a c r (xs ++ ys) t
+    → IsWrittenBehind a b r xs s → IsWrittenBehind b c s ys t → IsWrittenBehind a c r (xs ++ ys) t
 puts_then a b c r s t xs ys first second = λ old done so_far fits.
     let front = first old done so_far (omega (arith, length-append xs ys, fits)) in
     let whole = second old (done ++ xs) front (omega (arith, length-append done xs, length-append xs ys, fits)) in
-    subst (λ l. PutsOut old c l t) (append_assoc done xs ys) whole
+    subst (λ l. IsWritten old c l t) (append_assoc done xs ys) whole
 
-pub puts_nothing : (a : Stream) (r : Result ℕ WriteFault) → PutsOutMore a a r [] r
-puts_nothing a r = λ old done so_far fits. subst (λ l. PutsOut old a l r) (sym (append-nil done)) so_far
+pub puts_nothing : (a : Stream) (r : Result ℕ WriteFault) → IsWrittenBehind a a r [] r
+puts_nothing a r = λ old done so_far fits. subst (λ l. IsWritten old a l r) (sym (append-nil done)) so_far
 
-pub puts_same : (a b : Stream) (r s : Result ℕ WriteFault) (xs ys : List ℕ) → xs ≡ ys → PutsOutMore a b r xs s → PutsOutMore a b r ys s
-puts_same a b r s xs ys e h = subst (λ l. PutsOutMore a b r l s) e h
+pub puts_same : (a b : Stream) (r s : Result ℕ WriteFault) (xs ys : List ℕ) → xs ≡ ys → IsWrittenBehind a b r xs s → IsWrittenBehind a b r ys s
+puts_same a b r s xs ys e h = subst (λ l. IsWrittenBehind a b r l s) e h
 
 -- what was written so far, and what is left of the whole
 pub record Wrote (a b : Stream) (r s : Result ℕ WriteFault) (rest whole : List ℕ) : Type 0 where
   pub done : List ℕ
-  pub puts : PutsOutMore a b r done s
+  pub puts : IsWrittenBehind a b r done s
   pub split : done ++ rest ≡ whole
 
 pub wrote_at_first : (a : Stream) (r : Result ℕ WriteFault) (whole : List ℕ) → Wrote a a r r whole whole
 wrote_at_first a r whole = record { done = []; puts = puts_nothing a r; split = refl }
 
 pub wrote_more : (a b c : Stream) (r s t : Result ℕ WriteFault) (left xs rest whole : List ℕ)
-    → Wrote a b r s left whole → left ≡ xs ++ rest → PutsOutMore b c s xs t → Wrote a c r t rest whole
+    → Wrote a b r s left whole → left ≡ xs ++ rest → IsWrittenBehind b c s xs t → Wrote a c r t rest whole
 wrote_more a b c r s t left xs rest whole w e p = record {
   done = w.done ++ xs;
   puts = puts_then a b c r s t w.done xs w.puts p;
@@ -36,16 +36,16 @@ wrote_more a b c r s t left xs rest whole w e p = record {
 }
 
 pub wrote_all : (a b c : Stream) (r s t : Result ℕ WriteFault) (left xs whole : List ℕ)
-    → Wrote a b r s left whole → left ≡ xs → PutsOutMore b c s xs t → PutsOutMore a c r whole t
+    → Wrote a b r s left whole → left ≡ xs → IsWrittenBehind b c s xs t → IsWrittenBehind a c r whole t
 wrote_all a b c r s t left xs whole w e p =
     puts_same a c r t (w.done ++ xs) whole (ap (λ l. w.done ++ l) (sym e) ∙ w.split) (puts_then a b c r s t w.done xs w.puts p)
 
-pub wrote_whole : (a b : Stream) (r s : Result ℕ WriteFault) (left whole : List ℕ) → Wrote a b r s left whole → left ≡ [] → PutsOutMore a b r whole s
+pub wrote_whole : (a b : Stream) (r s : Result ℕ WriteFault) (left whole : List ℕ) → Wrote a b r s left whole → left ≡ [] → IsWrittenBehind a b r whole s
 wrote_whole a b r s left whole w e =
     puts_same a b r s w.done whole (sym (append-nil w.done) ∙ ap (λ l. w.done ++ l) (sym e) ∙ w.split) w.puts
 
--- before anything is put out
-pub puts_at_first : (a : Stream) → PutsOut a a [] (Ok 0)
+-- before anything is written
+pub puts_at_first : (a : Stream) → IsWritten a a [] (Ok 0)
 puts_at_first a = (refl, keeps a.taken, refl)
   where
     keeps : (a : Option (List ℕ)) → Appends a a []

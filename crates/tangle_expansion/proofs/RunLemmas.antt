@@ -1,4 +1,4 @@
--- Texts of items that stand side by side in the source.
+-- Texts of items that are side by side in the source.
 use Rattle.std.proofs.Common.{◌≡◌, ◌∙◌, ℕ, ◌+◌, ◌-◌, ◌<◌, ◌≤◌, Bool, List, [], ◌∷◌, ◌++◌, map, take, drop, length, refl, ap, sym, subst, append_assoc, append-nil, arith, get_or, drop-cons, add-one}
 use Rattle.std.specs.Prelude.{flat_map}
 use Rattle.std.proofs.lemmas.Grind.{flat_map-append}
@@ -13,12 +13,12 @@ use Rattle.tangle_scan.specs.SourceOrder.{IsInRange, IsSpan}
 use Rattle.tangle_names.specs.NameTable.{TableRead}
 use Rattle.tangle_expansion.specs.Slots.{Own, byte_slots}
 use Rattle.tangle_expansion.specs.Flat.{Byte}
-use Rattle.tangle_expansion.specs.declared.codes.ItemKind.{ItemKind}
+use Rattle.tangle_expansion.specs.declared.tags.ItemKind.{ItemKind}
 use Rattle.tangle_expansion.specs.Planned.{Making}
-use Rattle.tangle_expansion.specs.declared.codes.ItemCode.{ItemCode}
-use Rattle.tangle_expansion.specs.ItemCodes.{bytes_in, code_in, names_in, piece_codes}
+use Rattle.tangle_expansion.specs.declared.tags.ItemTag.{ItemTag}
+use Rattle.tangle_expansion.specs.ItemTags.{bytes_in, tag_in, names_in, piece_tags}
 use Rattle.tangle_expansion.specs.ItemSlots.{marks_behind_item, item_slots, items_slots, piece_slots}
-use Rattle.tangle_expansion.specs.Codes.{blank_code, piece_end}
+use Rattle.tangle_expansion.specs.Tags.{blank_tag, piece_end}
 use Rattle.tangle_expansion.specs.Runs.{IsTextOf, IsJoined, IsKept, IsRunWith, IsRunOver, AddsItem, AddsText, run_bytes}
 use Rattle.tangle_expansion.specs.declared.runs.Run.{Run}
 use Rattle.tangle_expansion.proofs.HeldLemmas.{items_next}
@@ -69,7 +69,7 @@ byte_behind whole start end byte le lt is =
 
 pub runs_with_space : (run more : Run) (x : Item) → x ≡ item.Blank → run.end < length run.line.now → get_or run.line.now run.end 0 ≡ space
     → more.line.now ≡ run.line.now → more.number ≡ run.number → more.start ≡ run.start → more.end ≡ run.end + 1
-    → IsRunWith run x blank_code more
+    → IsRunWith run x blank_tag more
 runs_with_space run more x blank lt byte same number start end = rw blank (record {
   range = λ texts here inside. record {
     line = same ∙ here.line ∙ ap (λ n. get_or texts n []) (sym number);
@@ -82,7 +82,7 @@ runs_with_space run more x blank lt byte same number start end = rw blank (recor
       ∙ ap (λ n. take (n - more.start) (drop more.start more.line.now)) (sym end);
   slots = λ texts table has_piece node piece marks. refl;
   marks = λ marks. refl;
-  item_code = λ table. refl;
+  item_tag = λ table. refl;
   no_use = λ table. refl;
 })
 
@@ -93,15 +93,15 @@ pub record IsOnTheWay (texts : List (List ℕ)) (table : TableRead) (has_piece :
   pub slots : (made.made ++ byte_slots (run_bytes run)) ++ items_slots texts table has_piece first.node first.piece made.marks (drop i items)
       ≡ first.made ++ piece_slots texts table has_piece first.node first.piece items
   pub bytes : (made.bytes ++ run_bytes run) ++ flat_map (bytes_in texts) (drop i items) ≡ first.bytes ++ flat_map (bytes_in texts) items
-  pub codes : made.codes ++ piece_codes table (drop i items) ≡ first.codes ++ piece_codes table items
+  pub tags : made.tags ++ piece_tags table (drop i items) ≡ first.tags ++ piece_tags table items
   pub uses : made.uses ++ flat_map (names_in table) (drop i items) ≡ first.uses ++ flat_map (names_in table) items
 
-codes_next : (table : TableRead) (items : List Item) (i : ℕ) (d : Item) (codes whole : List ItemCode) → i < length items
-    → codes ++ piece_codes table (drop i items) ≡ whole → (codes ++ code_in table (get_or items i d) ∷ []) ++ piece_codes table (drop (i + 1) items) ≡ whole
-codes_next table items i d codes whole h e =
+tags_next : (table : TableRead) (items : List Item) (i : ℕ) (d : Item) (tags whole : List ItemTag) → i < length items
+    → tags ++ piece_tags table (drop i items) ≡ whole → (tags ++ tag_in table (get_or items i d) ∷ []) ++ piece_tags table (drop (i + 1) items) ≡ whole
+tags_next table items i d tags whole h e =
     let x = get_or items i d in
     let next : drop i items ≡ x ∷ drop (i + 1) items = drop-cons items i d h ∙ ap (λ j. x ∷ drop j items) (sym (add-one i)) in
-    append_assoc codes (code_in table x ∷ []) (piece_codes table (drop (i + 1) items)) ∙ ap (λ l. codes ++ piece_codes table l) (sym next) ∙ e
+    append_assoc tags (tag_in table x ∷ []) (piece_tags table (drop (i + 1) items)) ∙ ap (λ l. tags ++ piece_tags table l) (sym next) ∙ e
 
 goes_on_there : (texts : List (List ℕ)) (table : TableRead) (has_piece : ℕ → Bool) (first : Making) (items : List Item) (i : ℕ) (d : Item) (run next : Run) (old new : Making)
     → i < length items → AddsItem texts table has_piece (get_or items i d) run next old new
@@ -115,7 +115,7 @@ goes_on_there texts table has_piece first items i d run next old new h adds way 
           ∙ ap (λ m. ((old.made ++ byte_slots (run_bytes run)) ++ item_slots texts table has_piece old.node old.piece old.marks x) ++ items_slots texts table has_piece first.node first.piece m (drop (i + 1) items)) adds.marks
           ∙ item_made texts table has_piece first.node old.node first.piece old.piece old.marks items i d (old.made ++ byte_slots (run_bytes run)) _ way.node way.piece h way.slots;
       bytes = ap (λ l. l ++ flat_map (bytes_in texts) (drop (i + 1) items)) adds.bytes ∙ items_next (bytes_in texts) items i d (old.bytes ++ run_bytes run) _ h way.bytes;
-      codes = ap (λ l. l ++ piece_codes table (drop (i + 1) items)) adds.codes ∙ codes_next table items i d old.codes _ h way.codes;
+      tags = ap (λ l. l ++ piece_tags table (drop (i + 1) items)) adds.tags ∙ tags_next table items i d old.tags _ h way.tags;
       uses = ap (λ l. l ++ flat_map (names_in table) (drop (i + 1) items)) adds.uses ∙ items_next (names_in table) items i d old.uses _ h way.uses;
     }
 
@@ -134,7 +134,7 @@ text_added texts table has_piece x kind s run next old new text adds = record {
   marks = adds.marks ∙ sym (text.marks old.marks);
   made = adds.made ∙ ap (λ l. (old.made ++ byte_slots (run_bytes run)) ++ l) (sym (text.slots texts table has_piece old.node old.piece old.marks));
   bytes = adds.bytes ∙ ap (λ l. (old.bytes ++ run_bytes run) ++ l) (sym (text.bytes texts));
-  codes = adds.codes ∙ ap (λ c. old.codes ++ c ∷ []) (sym (text.code table));
+  tags = adds.tags ∙ ap (λ c. old.tags ++ c ∷ []) (sym (text.tag table));
   uses = adds.uses ∙ sym (append-nil old.uses) ∙ ap (λ l. old.uses ++ l) (sym (text.no_use table));
 }
 
@@ -146,7 +146,7 @@ runs_with_text run more x kind s text joins = record {
   bytes = λ texts here inside. ap (λ l. run_bytes run ++ l) (text.bytes texts) ∙ joins.text texts here (text.range texts inside);
   slots = λ texts table has_piece node piece marks. text.slots texts table has_piece node piece marks ∙ ap byte_slots (sym (text.bytes texts));
   marks = text.marks;
-  item_code = text.code;
+  item_tag = text.tag;
   no_use = text.no_use;
 }
 
@@ -160,9 +160,9 @@ over_none texts run kept = record {
   no_uses = λ table. refl;
 }
 
-over_one : (texts : List (List ℕ)) (run more longer : Run) (items : List Item) (x : Item) (code : ItemCode) → IsInRange texts x
-    → IsRunOver texts run items more → IsRunWith more x code longer → IsRunOver texts run (items ++ x ∷ []) longer
-over_one texts run more longer items x code inside over with = record {
+over_one : (texts : List (List ℕ)) (run more longer : Run) (items : List Item) (x : Item) (tag : ItemTag) → IsInRange texts x
+    → IsRunOver texts run items more → IsRunWith more x tag longer → IsRunOver texts run (items ++ x ∷ []) longer
+over_one texts run more longer items x tag inside over with = record {
   range = with.range texts over.range inside;
   bytes = ap (λ l. run_bytes run ++ l) (flat_map-append (bytes_in texts) items (x ∷ []) ∙ ap (λ l. flat_map (bytes_in texts) items ++ l) (append-nil (bytes_in texts x)))
       ∙ sym (append_assoc (run_bytes run) (flat_map (bytes_in texts) items) (bytes_in texts x))
@@ -179,21 +179,21 @@ over_one texts run more longer items x code inside over with = record {
   no_uses = λ table. flat_map-append (names_in table) items (x ∷ []) ∙ ap (λ l. l ++ (names_in table x ++ [])) (over.no_uses table) ∙ append-nil (names_in table x) ∙ with.no_use table;
 }
 
-pub over_next : (texts : List (List ℕ)) (run more longer : Run) (items : List Item) (i : ℕ) (x d : Item) (code : ItemCode) → i < length items → x ≡ get_or items i d → IsInRange texts x
-    → IsRunOver texts run (take i items) more → IsRunWith more x code longer → IsRunOver texts run (take (i + 1) items) longer
-over_next texts run more longer items i x d code h is inside over with =
-    subst (λ l. IsRunOver texts run l longer) (ap (λ y. take i items ++ y ∷ []) is ∙ sym (take_more items i d h)) (over_one texts run more longer (take i items) x code inside over with)
+pub over_next : (texts : List (List ℕ)) (run more longer : Run) (items : List Item) (i : ℕ) (x d : Item) (tag : ItemTag) → i < length items → x ≡ get_or items i d → IsInRange texts x
+    → IsRunOver texts run (take i items) more → IsRunWith more x tag longer → IsRunOver texts run (take (i + 1) items) longer
+over_next texts run more longer items i x d tag h is inside over with =
+    subst (λ l. IsRunOver texts run l longer) (ap (λ y. take i items ++ y ∷ []) is ∙ sym (take_more items i d h)) (over_one texts run more longer (take i items) x tag inside over with)
 
-pub codes_over : (table : TableRead) (items : List Item) (i : ℕ) (x d : Item) (code : ItemCode) (first codes : List ItemCode) → i < length items → x ≡ get_or items i d → code_in table x ≡ code
-    → codes ≡ first ++ map (code_in table) (take i items) → codes ++ code ∷ [] ≡ first ++ map (code_in table) (take (i + 1) items)
-codes_over table items i x d code first codes h is has e =
-    ap (λ l. l ++ code ∷ []) e
-    ∙ append_assoc first (map (code_in table) (take i items)) (code ∷ [])
-    ∙ ap (λ c. first ++ (map (code_in table) (take i items) ++ c ∷ [])) (sym has ∙ ap (code_in table) is)
-    ∙ ap (λ l. first ++ l) (sym (map-append (code_in table) (take i items) (get_or items i d ∷ [])) ∙ ap (map (code_in table)) (sym (take_more items i d h)))
+pub tags_over : (table : TableRead) (items : List Item) (i : ℕ) (x d : Item) (tag : ItemTag) (first tags : List ItemTag) → i < length items → x ≡ get_or items i d → tag_in table x ≡ tag
+    → tags ≡ first ++ map (tag_in table) (take i items) → tags ++ tag ∷ [] ≡ first ++ map (tag_in table) (take (i + 1) items)
+tags_over table items i x d tag first tags h is has e =
+    ap (λ l. l ++ tag ∷ []) e
+    ∙ append_assoc first (map (tag_in table) (take i items)) (tag ∷ [])
+    ∙ ap (λ c. first ++ (map (tag_in table) (take i items) ++ c ∷ [])) (sym has ∙ ap (tag_in table) is)
+    ∙ ap (λ l. first ++ l) (sym (map-append (tag_in table) (take i items) (get_or items i d ∷ [])) ∙ ap (map (tag_in table)) (sym (take_more items i d h)))
 
 passes_over : (texts : List (List ℕ)) (table : TableRead) (has_piece : ℕ → Bool) (first : Making) (items : List Item) (i n : ℕ) (run next : Run) (old new : Making)
-    → IsRunOver texts run (take n (drop i items)) next → new ≡ record old { codes = old.codes ++ map (code_in table) (take n (drop i items)) }
+    → IsRunOver texts run (take n (drop i items)) next → new ≡ record old { tags = old.tags ++ map (tag_in table) (take n (drop i items)) }
     → IsOnTheWay texts table has_piece first items i run old → IsOnTheWay texts table has_piece first items (i + n) next new
 passes_over texts table has_piece first items i n run next old new over is way =
     let passed = take n (drop i items) in
@@ -217,9 +217,9 @@ passes_over texts table has_piece first items i n run next old new over is way =
           ∙ append_assoc (old.bytes ++ run_bytes run) bytes (flat_map (bytes_in texts) rest)
           ∙ ap (λ l. (old.bytes ++ run_bytes run) ++ l) (sym (flat_map-append (bytes_in texts) passed rest) ∙ ap (flat_map (bytes_in texts)) all)
           ∙ way.bytes;
-      codes = append_assoc old.codes (map (code_in table) passed) (piece_codes table rest)
-          ∙ ap (λ l. old.codes ++ l) (sym (append_assoc (map (code_in table) passed) (map (code_in table) rest) (piece_end ∷ [])) ∙ ap (λ l. l ++ piece_end ∷ []) (sym (map-append (code_in table) passed rest)) ∙ ap (piece_codes table) all)
-          ∙ way.codes;
+      tags = append_assoc old.tags (map (tag_in table) passed) (piece_tags table rest)
+          ∙ ap (λ l. old.tags ++ l) (sym (append_assoc (map (tag_in table) passed) (map (tag_in table) rest) (piece_end ∷ [])) ∙ ap (λ l. l ++ piece_end ∷ []) (sym (map-append (tag_in table) passed rest)) ∙ ap (piece_tags table) all)
+          ∙ way.tags;
       uses = ap (λ l. old.uses ++ (l ++ flat_map (names_in table) rest)) (sym (over.no_uses table))
           ∙ ap (λ l. old.uses ++ l) (sym (flat_map-append (names_in table) passed rest) ∙ ap (flat_map (names_in table)) all)
           ∙ way.uses;
@@ -227,8 +227,8 @@ passes_over texts table has_piece first items i n run next old new over is way =
 
 -- items that are passed at once
 pub goes_over : (texts : List (List ℕ)) (table : TableRead) (has_piece : ℕ → Bool) (first : Making) (items slice : List Item) (i n : ℕ) (run next : Run) (old new : Making) → slice ≡ drop i items
-    → IsRunOver texts run (take n slice) next → new ≡ record old { codes = old.codes ++ map (code_in table) (take n slice) }
+    → IsRunOver texts run (take n slice) next → new ≡ record old { tags = old.tags ++ map (tag_in table) (take n slice) }
     → IsOnTheWay texts table has_piece first items i run old → IsOnTheWay texts table has_piece first items (i + n) next new
 goes_over texts table has_piece first items slice i n run next old new same over is =
     passes_over texts table has_piece first items i n run next old new (subst (λ l. IsRunOver texts run (take n l) next) same over)
-    (subst (λ l. new ≡ record old { codes = old.codes ++ map (code_in table) (take n l) }) same is)
+    (subst (λ l. new ≡ record old { tags = old.tags ++ map (tag_in table) (take n l) }) same is)

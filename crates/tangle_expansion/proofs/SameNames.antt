@@ -4,7 +4,7 @@ use Rattle.std.specs.Str.{bytes_eq}
 use Rattle.std.proofs.lemmas.Slice.Eq.{bytes_eq-Decides}
 use Rattle.std.proofs.lemmas.List.{map-append}
 use Rattle.std.proofs.Math.Seq.{take-suc}
-use Rattle.tangle_expansion.specs.NodeTexts.{texts_at}
+use Rattle.tangle_expansion.specs.NodeBodies.{texts_at}
 
 at_texts : (names : List (List ℕ)) (uses : List ℕ) (i : ℕ) → i < length uses → get_or (texts_at names uses) i [] ≡ get_or names (get_or uses i 0) []
 at_texts names [] i low = absurd (omega (arith, low))

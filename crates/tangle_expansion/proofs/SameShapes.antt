@@ -1,12 +1,12 @@
 -- What a node expands to follows from the shapes that it reaches.
 use Rattle.std.proofs.Common.{◌≡◌, ◌∙◌, ℕ, ◌+◌, ◌<◌, ◌≤◌, zero, suc, min, List, [], ◌∷◌, ◌++◌, refl, ap, sym, inl, inr, arith}
 use Rattle.tangle_files.specs.Bytes.{space}
-use Rattle.tangle_expansion.specs.Shapes.{Title, Named, ShapeItem, Written, Mark, Macros, Use, NoUse, Shape, Project, IsUseOf, UsesInPiece, UsesInShape, Uses, Reaches, here, on, ContainsItself}
-use Rattle.tangle_expansion.specs.Flat.{Part, Byte, Opening, MarkOf, marks_behind, item_flat, items_flat, pieces_flat, flat, item_weight, items_weight, pieces_weight, weight, item_depth, items_depth, pieces_depth, depth}
+use Rattle.tangle_expansion.specs.Shapes.{Title, Named, ShapeItem, Written, Mark, Macros, Use, NoUse, Shape, Shapes, IsUseOf, UsesInPiece, UsesInShape, Uses, Reaches, here, on, ContainsItself}
+use Rattle.tangle_expansion.specs.Flat.{Symbol, Byte, Opening, MarkOf, marks_behind, item_flat, items_flat, pieces_flat, flat, item_weight, items_weight, pieces_weight, weight, item_depth, items_depth, pieces_depth, depth}
 
 -- what is said of an item, of a piece and of a shape by what is said of the names that it uses
 
-item_flat-same : (f g : List ℕ → List Part) (node : Title) (piece marks : ℕ) (item : ShapeItem) → ((name : List ℕ) → IsUseOf item name → f name ≡ g name)
+item_flat-same : (f g : List ℕ → List Symbol) (node : Title) (piece marks : ℕ) (item : ShapeItem) → ((name : List ℕ) → IsUseOf item name → f name ≡ g name)
     → item_flat f node piece marks item ≡ item_flat g node piece marks item
 item_flat-same f g node piece marks (Written kind bytes) same = refl
 item_flat-same f g node piece marks Mark same = refl
@@ -14,14 +14,14 @@ item_flat-same f g node piece marks Macros same = refl
 item_flat-same f g node piece marks (Use name) same = ap (λ l. Byte space ∷ l) (same name refl)
 item_flat-same f g node piece marks NoUse same = refl
 
-items_flat-same : (f g : List ℕ → List Part) (node : Title) (piece marks : ℕ) (items : List ShapeItem) → ((name : List ℕ) → UsesInPiece items name → f name ≡ g name)
+items_flat-same : (f g : List ℕ → List Symbol) (node : Title) (piece marks : ℕ) (items : List ShapeItem) → ((name : List ℕ) → UsesInPiece items name → f name ≡ g name)
     → items_flat f node piece marks items ≡ items_flat g node piece marks items
 items_flat-same f g node piece marks [] same = refl
 items_flat-same f g node piece marks (item ∷ items) same =
     ap (λ l. l ++ items_flat f node piece (marks_behind marks item) items) (item_flat-same f g node piece marks item (λ name u. same name (inl u)))
     ∙ ap (λ l. item_flat g node piece marks item ++ l) (items_flat-same f g node piece (marks_behind marks item) items (λ name u. same name (inr u)))
 
-pub pieces_flat-same : (f g : List ℕ → List Part) (node : Title) (piece : ℕ) (pieces : Shape) → ((name : List ℕ) → UsesInShape pieces name → f name ≡ g name)
+pub pieces_flat-same : (f g : List ℕ → List Symbol) (node : Title) (piece : ℕ) (pieces : Shape) → ((name : List ℕ) → UsesInShape pieces name → f name ≡ g name)
     → pieces_flat f node piece pieces ≡ pieces_flat g node piece pieces
 pieces_flat-same f g node piece [] same = refl
 pieces_flat-same f g node piece (items ∷ pieces) same =
@@ -130,25 +130,25 @@ pieces_depth-bound : (cap : ℕ) (f : List ℕ → ℕ) (pieces : Shape) → ((n
 pieces_depth-bound cap f [] h = omega arith
 pieces_depth-bound cap f (items ∷ pieces) h = omega (arith, items_depth-bound cap f items h, pieces_depth-bound cap f pieces h)
 
-pub depth-bound : (fuel : ℕ) (project : Project) (node : Title) → depth fuel project node ≤ fuel
-depth-bound zero project node = omega arith
-depth-bound (suc fuel) project node = pieces_depth-bound fuel (λ name. depth fuel project (Named name)) (project node) (λ name. depth-bound fuel project (Named name))
+pub depth-bound : (fuel : ℕ) (shapes : Shapes) (node : Title) → depth fuel shapes node ≤ fuel
+depth-bound zero shapes node = omega arith
+depth-bound (suc fuel) shapes node = pieces_depth-bound fuel (λ name. depth fuel shapes (Named name)) (shapes node) (λ name. depth-bound fuel shapes (Named name))
 
--- the shapes that the node reaches in the new project are those of the old one
-abbrev pub SameReached : Project → Project → Title → Type 0
+-- the shapes that the node reaches in the new shapes are those of the old one
+abbrev pub SameReached : Shapes → Shapes → Title → Type 0
 SameReached old new node = (other : Title) → Reaches new node other → new other ≡ old other
 
-SameReached-use : (old new : Project) (node : Title) (name : List ℕ) → SameReached old new node → Uses new node name → SameReached old new (Named name)
+SameReached-use : (old new : Shapes) (node : Title) (name : List ℕ) → SameReached old new node → Uses new node name → SameReached old new (Named name)
 SameReached-use old new node name same u other r = same other (on u r)
 
-pub flat-same : (fuel : ℕ) (old new : Project) (node : Title) → SameReached old new node → flat fuel new node ≡ flat fuel old node
+pub flat-same : (fuel : ℕ) (old new : Shapes) (node : Title) → SameReached old new node → flat fuel new node ≡ flat fuel old node
 flat-same zero old new node same = refl
 flat-same (suc fuel) old new node same =
     pieces_flat-same (λ name. flat fuel new (Named name)) (λ name. flat fuel old (Named name)) node 0 (new node)
     (λ name u. flat-same fuel old new (Named name) (SameReached-use old new node name same u))
     ∙ ap (pieces_flat (λ name. flat fuel old (Named name)) node 0) (same node here)
 
-pub depth-same : (fuel : ℕ) (old new : Project) (node : Title) → SameReached old new node → depth fuel new node ≡ depth fuel old node
+pub depth-same : (fuel : ℕ) (old new : Shapes) (node : Title) → SameReached old new node → depth fuel new node ≡ depth fuel old node
 depth-same zero old new node same = refl
 depth-same (suc fuel) old new node same =
     (let alike : min (suc fuel) (pieces_depth (λ name. depth fuel new (Named name)) (new node)) ≡ min (suc fuel) (pieces_depth (λ name. depth fuel old (Named name)) (new node))
@@ -162,65 +162,65 @@ depth-same (suc fuel) old new node same =
 
 -- More fuel changes nothing where the depth is below it.
 
-below_use : (fuel : ℕ) (project : Project) (node : Title) (name : List ℕ) → depth (suc fuel) project node < suc fuel → Uses project node name → depth fuel project (Named name) < fuel
-below_use fuel project node name h u = omega (arith, h, pieces_depth-use (λ other. depth fuel project (Named other)) (project node) name u)
+below_use : (fuel : ℕ) (shapes : Shapes) (node : Title) (name : List ℕ) → depth (suc fuel) shapes node < suc fuel → Uses shapes node name → depth fuel shapes (Named name) < fuel
+below_use fuel shapes node name h u = omega (arith, h, pieces_depth-use (λ other. depth fuel shapes (Named other)) (shapes node) name u)
 
-flat_settles : (fuel : ℕ) (project : Project) (node : Title) → depth fuel project node < fuel → flat (suc fuel) project node ≡ flat fuel project node
-flat_settles zero project node h = absurd (omega (arith, h))
-flat_settles (suc fuel) project node h =
-    pieces_flat-same (λ name. flat (suc fuel) project (Named name)) (λ name. flat fuel project (Named name)) node 0 (project node)
-    (λ name u. flat_settles fuel project (Named name) (below_use fuel project node name h u))
+flat_settles : (fuel : ℕ) (shapes : Shapes) (node : Title) → depth fuel shapes node < fuel → flat (suc fuel) shapes node ≡ flat fuel shapes node
+flat_settles zero shapes node h = absurd (omega (arith, h))
+flat_settles (suc fuel) shapes node h =
+    pieces_flat-same (λ name. flat (suc fuel) shapes (Named name)) (λ name. flat fuel shapes (Named name)) node 0 (shapes node)
+    (λ name u. flat_settles fuel shapes (Named name) (below_use fuel shapes node name h u))
 
 -- what a node that is not too deep expands to, by what the names that it uses expand to, with the same fuel
-pub flat_by_uses : (fuel : ℕ) (project : Project) (node : Title) → depth fuel project node < fuel
-    → flat fuel project node ≡ pieces_flat (λ name. flat fuel project (Named name)) node 0 (project node)
-flat_by_uses zero project node h = absurd (omega (arith, h))
-flat_by_uses (suc fuel) project node h =
-    pieces_flat-same (λ name. flat fuel project (Named name)) (λ name. flat (suc fuel) project (Named name)) node 0 (project node)
-    (λ name u. sym (flat_settles fuel project (Named name) (below_use fuel project node name h u)))
+pub flat_by_uses : (fuel : ℕ) (shapes : Shapes) (node : Title) → depth fuel shapes node < fuel
+    → flat fuel shapes node ≡ pieces_flat (λ name. flat fuel shapes (Named name)) node 0 (shapes node)
+flat_by_uses zero shapes node h = absurd (omega (arith, h))
+flat_by_uses (suc fuel) shapes node h =
+    pieces_flat-same (λ name. flat fuel shapes (Named name)) (λ name. flat (suc fuel) shapes (Named name)) node 0 (shapes node)
+    (λ name u. sym (flat_settles fuel shapes (Named name) (below_use fuel shapes node name h u)))
 
-weight_settles : (cap : ℕ) (project : Project) (node : Title) → min cap (weight (suc cap) project node) ≡ min cap (weight cap project node)
-weight_settles zero project node = omega arith
-weight_settles (suc cap) project node =
-    pieces_weight-alike (suc cap) (λ name. weight (suc cap) project (Named name)) (λ name. weight cap project (Named name)) (project node)
-    (λ name u. omega (arith, weight_settles cap project (Named name)))
+weight_settles : (cap : ℕ) (shapes : Shapes) (node : Title) → min cap (weight (suc cap) shapes node) ≡ min cap (weight cap shapes node)
+weight_settles zero shapes node = omega arith
+weight_settles (suc cap) shapes node =
+    pieces_weight-alike (suc cap) (λ name. weight (suc cap) shapes (Named name)) (λ name. weight cap shapes (Named name)) (shapes node)
+    (λ name u. omega (arith, weight_settles cap shapes (Named name)))
 
 -- the capped weight, by the capped weights of the names that are used: also of a node that reaches a cycle
-pub weight_by_uses : (cap : ℕ) (project : Project) (node : Title)
-    → min cap (weight cap project node) ≡ min cap (pieces_weight (λ name. min cap (weight cap project (Named name))) (project node))
-weight_by_uses cap project node =
-    sym (weight_settles cap project node)
-    ∙ pieces_weight-alike cap (λ name. weight cap project (Named name)) (λ name. min cap (weight cap project (Named name))) (project node) (λ name u. omega arith)
+pub weight_by_uses : (cap : ℕ) (shapes : Shapes) (node : Title)
+    → min cap (weight cap shapes node) ≡ min cap (pieces_weight (λ name. min cap (weight cap shapes (Named name))) (shapes node))
+weight_by_uses cap shapes node =
+    sym (weight_settles cap shapes node)
+    ∙ pieces_weight-alike cap (λ name. weight cap shapes (Named name)) (λ name. min cap (weight cap shapes (Named name))) (shapes node) (λ name u. omega arith)
 
-depth_settles : (fuel : ℕ) (project : Project) (node : Title) → min fuel (depth (suc fuel) project node) ≡ depth fuel project node
-depth_settles zero project node = omega arith
-depth_settles (suc fuel) project node =
-    pieces_depth-alike fuel (λ name. depth (suc fuel) project (Named name)) (λ name. depth fuel project (Named name)) (project node)
-    (λ name u. omega (arith, depth_settles fuel project (Named name), depth-bound fuel project (Named name)))
-    ∙ (let b : depth (suc fuel) project node ≤ suc fuel = depth-bound (suc fuel) project node in omega (arith, b))
+depth_settles : (fuel : ℕ) (shapes : Shapes) (node : Title) → min fuel (depth (suc fuel) shapes node) ≡ depth fuel shapes node
+depth_settles zero shapes node = omega arith
+depth_settles (suc fuel) shapes node =
+    pieces_depth-alike fuel (λ name. depth (suc fuel) shapes (Named name)) (λ name. depth fuel shapes (Named name)) (shapes node)
+    (λ name u. omega (arith, depth_settles fuel shapes (Named name), depth-bound fuel shapes (Named name)))
+    ∙ (let b : depth (suc fuel) shapes node ≤ suc fuel = depth-bound (suc fuel) shapes node in omega (arith, b))
 
 -- the capped depth, by those of the names that are used
-pub depth_by_uses : (fuel : ℕ) (project : Project) (node : Title)
-    → depth fuel project node ≡ min fuel (pieces_depth (λ name. depth fuel project (Named name)) (project node))
-depth_by_uses fuel project node = sym (depth_settles fuel project node)
+pub depth_by_uses : (fuel : ℕ) (shapes : Shapes) (node : Title)
+    → depth fuel shapes node ≡ min fuel (pieces_depth (λ name. depth fuel shapes (Named name)) (shapes node))
+depth_by_uses fuel shapes node = sym (depth_settles fuel shapes node)
 
 -- A node that reaches a cycle is deeper and heavier than any number.
 
-abbrev pub ReachesCycle : Project → Title → Type 0
-ReachesCycle project node = (other : Title) × (Reaches project node other) × ContainsItself project other
+abbrev pub ReachesCycle : Shapes → Title → Type 0
+ReachesCycle shapes node = (other : Title) × (Reaches shapes node other) × ContainsItself shapes other
 
-ReachesCycle-use : (project : Project) (node other : Title) → Reaches project node other → ContainsItself project other → (name : List ℕ) × (Uses project node name) × ReachesCycle project (Named name)
-ReachesCycle-use project node other here c = (c.0, c.1, (node, c.2, c))
-ReachesCycle-use project node other (on {name = name} u r) c = (name, u, (other, r, c))
+ReachesCycle-use : (shapes : Shapes) (node other : Title) → Reaches shapes node other → ContainsItself shapes other → (name : List ℕ) × (Uses shapes node name) × ReachesCycle shapes (Named name)
+ReachesCycle-use shapes node other here c = (c.0, c.1, (node, c.2, c))
+ReachesCycle-use shapes node other (on {name = name} u r) c = (name, u, (other, r, c))
 
-pub cycle_deep : (fuel : ℕ) (project : Project) (node : Title) → ReachesCycle project node → fuel ≤ depth fuel project node
-cycle_deep zero project node c = omega arith
-cycle_deep (suc fuel) project node c =
-    let next = ReachesCycle-use project node c.0 c.1 c.2 in
-    omega (arith, cycle_deep fuel project (Named next.0) next.2, pieces_depth-use (λ name. depth fuel project (Named name)) (project node) next.0 next.1)
+pub cycle_deep : (fuel : ℕ) (shapes : Shapes) (node : Title) → ReachesCycle shapes node → fuel ≤ depth fuel shapes node
+cycle_deep zero shapes node c = omega arith
+cycle_deep (suc fuel) shapes node c =
+    let next = ReachesCycle-use shapes node c.0 c.1 c.2 in
+    omega (arith, cycle_deep fuel shapes (Named next.0) next.2, pieces_depth-use (λ name. depth fuel shapes (Named name)) (shapes node) next.0 next.1)
 
-pub cycle_heavy : (fuel : ℕ) (project : Project) (node : Title) → ReachesCycle project node → fuel ≤ weight fuel project node
-cycle_heavy zero project node c = omega arith
-cycle_heavy (suc fuel) project node c =
-    let next = ReachesCycle-use project node c.0 c.1 c.2 in
-    omega (arith, cycle_heavy fuel project (Named next.0) next.2, pieces_weight-use (λ name. weight fuel project (Named name)) (project node) next.0 next.1)
+pub cycle_heavy : (fuel : ℕ) (shapes : Shapes) (node : Title) → ReachesCycle shapes node → fuel ≤ weight fuel shapes node
+cycle_heavy zero shapes node c = omega arith
+cycle_heavy (suc fuel) shapes node c =
+    let next = ReachesCycle-use shapes node c.0 c.1 c.2 in
+    omega (arith, cycle_heavy fuel shapes (Named next.0) next.2, pieces_weight-use (λ name. weight fuel shapes (Named name)) (shapes node) next.0 next.1)

@@ -1,4 +1,4 @@
--- The texts of parts are short.
+-- The texts of symbols are short.
 use Rattle.std.proofs.Common.{◌≡◌, ℕ, ◌+◌, ◌^◌, ◌<◌, ◌≤◌, zero, suc, Bool, true, false, List, [], ◌∷◌, ◌++◌, map, length, arith, length-append, get_or, All, Some}
 use Rattle.std.specs.Global.{Global}
 use Rattle.std.specs.Prelude.{Vec, vec_len, codes, decimal, unwrap_or, if◌then◌else◌}
@@ -8,24 +8,24 @@ use Rattle.std.specs.List.{AllByRecursion}
 use Rattle.std.proofs.lemmas.Fmt.{length-decimal-le}
 use Rattle.std.proofs.Math.Nat.{mul-le-mul_right}
 use Rattle.tangle_expansion.specs.Shapes.{Title, Program, Named}
-use Rattle.tangle_expansion.specs.Flat.{Part, Byte, Opening, MarkOf, Closing, AllMacros}
+use Rattle.tangle_expansion.specs.Flat.{Symbol, Byte, Opening, MarkOf, Closing, AllMacros}
 use Rattle.tangle_expansion.specs.Limits.{heaviest}
-use Rattle.tangle_expansion.specs.Numbers.{PieceNumbersRead, NumbersRead, no_numbers, no_place, node_numbers, numbers_at, place_of_mark, opening_text, closing_text, mark_text, marked_text, part_text, text}
+use Rattle.tangle_expansion.specs.Numbers.{PieceNumbersRead, NumbersRead, no_numbers, no_place, node_numbers, numbers_at, place_of_mark, opening_text, closing_text, mark_text, marked_text, symbol_text, text}
 use Rattle.tangle_files.specs.declared.marks.MarkMode.{MarkMode}
 use Rattle.tangle_files.specs.declared.marks.MarkMode.TheVariants.{Full, Bare}
-use Rattle.tangle_expansion.specs.TextLimits.{longest_part, PartsAreShort, IsLow, IsShort, EntryIsShort, AreShort}
+use Rattle.tangle_expansion.specs.TextLimits.{longest_symbol, SymbolsAreShort, IsLow, IsShort, EntryIsShort, AreShort}
 use Rattle.tangle_expansion.proofs.TextLemmas.{text-short}
 
 decimal_short : (n : ℕ) → n < 2 ^ 64 → length (decimal n) ≤ 20
 decimal_short n h = length-decimal-le 20 n (omega arith) (omega (arith, h)) h
 
-opening_short : (section : ℕ) → section < 2 ^ 64 → length (opening_text section) ≤ longest_part
-unfolding longest_part
+opening_short : (section : ℕ) → section < 2 ^ 64 → length (opening_text section) ≤ longest_symbol
+unfolding longest_symbol
 opening_short section h =
     omega (arith, decimal_short section h, length-append (codes "/*") (decimal section ++ codes ":*/"), length-append (decimal section) (codes ":*/"))
 
-closing_short : (section : ℕ) → section < 2 ^ 64 → length (closing_text section) ≤ longest_part
-unfolding longest_part
+closing_short : (section : ℕ) → section < 2 ^ 64 → length (closing_text section) ≤ longest_symbol
+unfolding longest_symbol
 closing_short section h =
     omega (arith, decimal_short section h, length-append (codes "/*:") (decimal section ++ codes "*/"), length-append (decimal section) (codes "*/"))
 
@@ -33,14 +33,14 @@ five_lengths : (a b c d e : List ℕ) → length (a ++ b ++ c ++ d ++ e) ≡ len
 five_lengths a b c d e =
     omega (arith, length-append (a ++ b ++ c ++ d) e, length-append (a ++ b ++ c) d, length-append (a ++ b) c, length-append a b)
 
-mark_short : (file : List ℕ) (line : ℕ) → length file < 2 ^ 64 → line < 2 ^ 32 → length (mark_text file line) ≤ longest_part
-unfolding longest_part
+mark_short : (file : List ℕ) (line : ℕ) → length file < 2 ^ 64 → line < 2 ^ 32 → length (mark_text file line) ≤ longest_symbol
+unfolding longest_symbol
 mark_short file line h low =
     let whole = five_lengths (codes "\n#line ") (decimal line) (codes " \"") file (codes "\"\n") in
     omega (arith, h, decimal_short line (omega (arith, low)), whole)
 
-marked_short : (marks : MarkMode) (file : List ℕ) (line : ℕ) → length file < 2 ^ 64 → line < 2 ^ 32 → length (marked_text marks file line) ≤ longest_part
-unfolding longest_part
+marked_short : (marks : MarkMode) (file : List ℕ) (line : ℕ) → length file < 2 ^ 64 → line < 2 ^ 32 → length (marked_text marks file line) ≤ longest_symbol
+unfolding longest_symbol
 marked_short Full file line h low = mark_short file line h low
 marked_short Bare file line h low = omega arith
 
@@ -75,15 +75,15 @@ module _ (numbers : NumbersRead) (h : AreShort numbers) where
   file_short : (file : ℕ) → length (get_or numbers.file_names file []) < 2 ^ 64
   file_short file = all_or (λ (name : List ℕ). length name < 2 ^ 64) numbers.file_names [] (omega arith) h.file_names file
 
-  pub parts_short : PartsAreShort numbers
-  unfolding longest_part
-  parts_short (Byte b) = omega arith
-  parts_short (Opening node piece) = opening_short (numbers_at numbers node piece).section (piece_short node piece).section
-  parts_short (MarkOf node piece mark) =
+  pub symbols_short : SymbolsAreShort numbers
+  unfolding longest_symbol
+  symbols_short (Byte b) = omega arith
+  symbols_short (Opening node piece) = opening_short (numbers_at numbers node piece).section (piece_short node piece).section
+  symbols_short (MarkOf node piece mark) =
       let place = place_of_mark numbers node piece mark in
       marked_short numbers.marks (get_or numbers.file_names place.file []) place.line (file_short place.file) (place_low node piece mark)
-  parts_short (Closing node piece) = closing_short (numbers_at numbers node piece).section (piece_short node piece).section
-  parts_short AllMacros = omega (arith, h.macros)
+  symbols_short (Closing node piece) = closing_short (numbers_at numbers node piece).section (piece_short node piece).section
+  symbols_short AllMacros = omega (arith, h.macros)
 
 pub all_names_short : (names : List (Vec ℕ Global)) → All (λ n. vec_len n < 2 ^ 64) names → All (λ (name : List ℕ). length name < 2 ^ 64) (map (λ n. n.items) names)
 all_names_short [] h = λ i d none. absurd (omega (arith, none))
@@ -93,16 +93,16 @@ all_names_short (n ∷ names) h = at (all_names_short names (λ i d low. h (suc 
     at rest zero d within = omega (arith, h zero n (omega arith))
     at rest (suc i) d within = rest i d (omega (arith, within))
 
-all_parts : (numbers : NumbersRead) → PartsAreShort numbers → (parts : List Part) → AllByRecursion (λ part. length (part_text numbers part) ≤ longest_part) parts
-all_parts numbers h [] = tt
-all_parts numbers h (part ∷ parts) = (h part, all_parts numbers h parts)
+all_symbols : (numbers : NumbersRead) → SymbolsAreShort numbers → (symbols : List Symbol) → AllByRecursion (λ symbol. length (symbol_text numbers symbol) ≤ longest_symbol) symbols
+all_symbols numbers h [] = tt
+all_symbols numbers h (symbol ∷ symbols) = (h symbol, all_symbols numbers h symbols)
 
--- the text of parts that are within the limit of weight has less than 2 ^ 91 bytes
-pub light_fits : (numbers : NumbersRead) → PartsAreShort numbers → (parts : List Part) → length parts ≤ heaviest → length (text numbers parts) ≤ 2 ^ 90
-unfolding longest_part heaviest
-light_fits numbers h parts light =
-    omega (arith, text-short numbers longest_part parts (all_parts numbers h parts), mul-le-mul_right longest_part light)
+-- the text of symbols that are within the limit of weight has less than 2 ^ 91 bytes
+pub light_fits : (numbers : NumbersRead) → SymbolsAreShort numbers → (symbols : List Symbol) → length symbols ≤ heaviest → length (text numbers symbols) ≤ 2 ^ 90
+unfolding longest_symbol heaviest
+light_fits numbers h symbols light =
+    omega (arith, text-short numbers longest_symbol symbols (all_symbols numbers h symbols), mul-le-mul_right longest_symbol light)
 
-pub macros_fit : (numbers : NumbersRead) → PartsAreShort numbers → length numbers.macros ≤ 2 ^ 66
-unfolding longest_part
+pub macros_fit : (numbers : NumbersRead) → SymbolsAreShort numbers → length numbers.macros ≤ 2 ^ 66
+unfolding longest_symbol
 macros_fit numbers h = omega (arith, h AllMacros)

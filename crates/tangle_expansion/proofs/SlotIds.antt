@@ -12,16 +12,16 @@ use Rattle.tangle_names.specs.declared.Resolved.TheVariants.{Name, NoFullName, A
 use Rattle.tangle_names.specs.NameTable.{TableRead}
 use Rattle.tangle_expansion.specs.Shapes.{Title}
 use Rattle.tangle_expansion.specs.Flat.{Byte}
-use Rattle.tangle_expansion.specs.Projects.{resolved_at}
+use Rattle.tangle_expansion.specs.WebShapes.{resolved_at}
 use Rattle.tangle_expansion.specs.Meaning.{bytes_between, pieces_passed, marks_passed, bytes_passed}
 use Rattle.tangle_expansion.specs.Slots.{Slot, Own, Used, step_slots, slots, step_uses, uses_of, byte_slots}
 use Rattle.tangle_expansion.specs.ItemSlots.{marks_behind_item, name_slots, item_slots, items_slots, pieces_slots}
-use Rattle.tangle_expansion.specs.ItemCodes.{names_resolved, names_in, pieces_names}
+use Rattle.tangle_expansion.specs.ItemTags.{names_resolved, names_in, pieces_names}
 use Rattle.tangle_expansion.specs.declared.expansion.Step.{Step}
 use Rattle.tangle_expansion.specs.declared.expansion.Step.TheVariants as step
 
 pub slot_ids : Slot → List ℕ
-slot_ids (Own part) = []
+slot_ids (Own symbol) = []
 slot_ids (Used id) = id ∷ []
 
 bytes_ids : (bytes : List ℕ) → flat_map slot_ids (byte_slots bytes) ≡ []

@@ -1,22 +1,22 @@
--- The text of lists of parts.
+-- The text of lists of symbols.
 use Rattle.std.proofs.Common.{◌*◌, arith, length-append, ◌≡◌, ◌∙◌, ℕ, ◌≤◌, List, [], ◌∷◌, ◌++◌, map, length, get_or, refl, ap, sym, append_assoc, append-nil}
 use native.Mathlib.Nat.{suc-mul}
 use Rattle.std.specs.List.{AllByRecursion}
 use Rattle.tangle_expansion.specs.Shapes.{Title}
 use Rattle.tangle_lines.specs.declared.faults.Origin.{Origin}
-use Rattle.tangle_expansion.specs.Flat.{Part, Byte, MarkOf, Closing, AllMacros}
-use Rattle.tangle_expansion.specs.Numbers.{NumbersRead, PieceNumbersRead, no_numbers, no_place, node_numbers, numbers_at, place_of_mark, place_text, closing_text, part_text, text}
+use Rattle.tangle_expansion.specs.Flat.{Symbol, Byte, MarkOf, Closing, AllMacros}
+use Rattle.tangle_expansion.specs.Numbers.{NumbersRead, PieceNumbersRead, no_numbers, no_place, node_numbers, numbers_at, place_of_mark, place_text, closing_text, symbol_text, text}
 
-pub text-append : (numbers : NumbersRead) (xs ys : List Part) → text numbers (xs ++ ys) ≡ text numbers xs ++ text numbers ys
+pub text-append : (numbers : NumbersRead) (xs ys : List Symbol) → text numbers (xs ++ ys) ≡ text numbers xs ++ text numbers ys
 text-append numbers [] ys = refl
 text-append numbers (x ∷ xs) ys =
-    ap (λ t. part_text numbers x ++ t) (text-append numbers xs ys) ∙ sym (append_assoc (part_text numbers x) (text numbers xs) (text numbers ys))
+    ap (λ t. symbol_text numbers x ++ t) (text-append numbers xs ys) ∙ sym (append_assoc (symbol_text numbers x) (text numbers xs) (text numbers ys))
 
 pub text-bytes : (numbers : NumbersRead) (bytes : List ℕ) → text numbers (map Byte bytes) ≡ bytes
 text-bytes numbers [] = refl
 text-bytes numbers (b ∷ bytes) = ap (λ t. b ∷ t) (text-bytes numbers bytes)
 
--- what is put out for a part
+-- what is written for a symbol
 pub mark_written : (numbers : NumbersRead) (node : Title) (pieces : List PieceNumbersRead) (piece mark : ℕ) (place : Origin) → pieces ≡ node_numbers numbers node
     → place ≡ get_or (get_or pieces piece no_numbers).marks mark no_place → place_text numbers place ≡ text numbers (MarkOf node piece mark ∷ [])
 mark_written numbers node pieces piece mark place ours is =
@@ -30,8 +30,8 @@ closing_written numbers node pieces piece section ours is =
 pub macros_written : (numbers : NumbersRead) (macros : List ℕ) → macros ≡ numbers.macros → (10 ∷ []) ++ macros ≡ text numbers (AllMacros ∷ [])
 macros_written numbers macros is = ap (λ m. 10 ∷ m) (is ∙ sym (append-nil numbers.macros))
 
--- a text is no longer than so many bytes for each part
-pub text-short : (numbers : NumbersRead) (b : ℕ) (parts : List Part) → AllByRecursion (λ p. length (part_text numbers p) ≤ b) parts → length (text numbers parts) ≤ length parts * b
+-- a text is no longer than so many bytes for each symbol
+pub text-short : (numbers : NumbersRead) (b : ℕ) (symbols : List Symbol) → AllByRecursion (λ p. length (symbol_text numbers p) ≤ b) symbols → length (text numbers symbols) ≤ length symbols * b
 text-short numbers b [] h = omega arith
-text-short numbers b (p ∷ parts) h =
-    omega (arith, h.0, text-short numbers b parts h.1, length-append (part_text numbers p) (text numbers parts), suc-mul (length parts) b)
+text-short numbers b (p ∷ symbols) h =
+    omega (arith, h.0, text-short numbers b symbols h.1, length-append (symbol_text numbers p) (text numbers symbols), suc-mul (length symbols) b)

@@ -1,4 +1,4 @@
--- The uses of a plan, one after another, and the plan filled with their parts.
+-- The uses of a plan, one after another, and the plan filled with their symbols.
 use Rattle.std.proofs.Common.{◌≡◌, ◌∙◌, ℕ, ◌+◌, ◌<◌, ◌≤◌, zero, suc, List, [], ◌∷◌, ◌++◌, map, drop, length, get_or, refl, ap, sym, subst, append_assoc, append-nil, arith}
 use Rattle.std.specs.Prelude.{Contains}
 use Rattle.std.proofs.lemmas.List.{map-append}
@@ -6,7 +6,7 @@ use Rattle.std.proofs.lemmas.List.Elements.{Contains-append_left, Contains-appen
 use Rattle.std.proofs.lemmas.Grind.{flat_map-append}
 use Rattle.tangle_files.specs.Bytes.{space}
 use Rattle.tangle_expansion.specs.Shapes.{Title}
-use Rattle.tangle_expansion.specs.Flat.{Part, Byte, Opening, MarkOf, Closing, AllMacros}
+use Rattle.tangle_expansion.specs.Flat.{Symbol, Byte, Opening, MarkOf, Closing, AllMacros}
 use Rattle.tangle_expansion.specs.Meaning.{bytes_between, plan_flat}
 use Rattle.tangle_expansion.specs.Slots.{Own, slots, filled_slot, filled, step_uses, uses_of}
 use Rattle.tangle_expansion.specs.declared.expansion.Step.{Step}
@@ -23,36 +23,36 @@ used_in_plan plan seen i d id same h c = subst (λ l. Contains (uses_of l) id) s
         let low : i < length xs = omega (arith, h) in
         Contains-append_right (step_uses x) (uses_of xs) id (among xs i low c)
 
-pub uses_next : (parts : ℕ → List Part) (plan seen : List Step) (i : ℕ) (s : Step) (done : List (List Part)) → seen ≡ plan → i < length seen → s ≡ get_or seen i s
-    → done ++ map parts (uses_of (drop i plan)) ≡ map parts (uses_of plan)
-    → (done ++ map parts (step_uses s)) ++ map parts (uses_of (drop (i + 1) plan)) ≡ map parts (uses_of plan)
-uses_next parts plan seen i s done same h is e =
+pub uses_next : (symbols : ℕ → List Symbol) (plan seen : List Step) (i : ℕ) (s : Step) (done : List (List Symbol)) → seen ≡ plan → i < length seen → s ≡ get_or seen i s
+    → done ++ map symbols (uses_of (drop i plan)) ≡ map symbols (uses_of plan)
+    → (done ++ map symbols (step_uses s)) ++ map symbols (uses_of (drop (i + 1) plan)) ≡ map symbols (uses_of plan)
+uses_next symbols plan seen i s done same h is e =
     let next : drop i plan ≡ s ∷ drop (i + 1) plan = ap (drop i) (sym same) ∙ drop_at seen i s h is ∙ ap (λ l. s ∷ drop (i + 1) l) same in
-    append_assoc done (map parts (step_uses s)) (map parts (uses_of (drop (i + 1) plan)))
-    ∙ ap (λ l. done ++ l) (sym (map-append parts (step_uses s) (uses_of (drop (i + 1) plan))))
-    ∙ ap (λ l. done ++ map parts (uses_of l)) (sym next)
+    append_assoc done (map symbols (step_uses s)) (map symbols (uses_of (drop (i + 1) plan)))
+    ∙ ap (λ l. done ++ l) (sym (map-append symbols (step_uses s) (uses_of (drop (i + 1) plan))))
+    ∙ ap (λ l. done ++ map symbols (uses_of l)) (sym next)
     ∙ e
 
-pub uses_end : (parts : ℕ → List Part) (plan seen : List Step) (i : ℕ) (done : List (List Part)) → seen ≡ plan → length seen ≤ i
-    → done ++ map parts (uses_of (drop i plan)) ≡ map parts (uses_of plan) → done ≡ map parts (uses_of plan)
-uses_end parts plan seen i done same h e =
-    sym (append-nil done) ∙ ap (λ l. done ++ map parts (uses_of l)) (sym (drop_all plan i (omega (arith, h, ap length same)))) ∙ e
+pub uses_end : (symbols : ℕ → List Symbol) (plan seen : List Step) (i : ℕ) (done : List (List Symbol)) → seen ≡ plan → length seen ≤ i
+    → done ++ map symbols (uses_of (drop i plan)) ≡ map symbols (uses_of plan) → done ≡ map symbols (uses_of plan)
+uses_end symbols plan seen i done same h e =
+    sym (append-nil done) ∙ ap (λ l. done ++ map symbols (uses_of l)) (sym (drop_all plan i (omega (arith, h, ap length same)))) ∙ e
 
-pub bytes_filled : (parts : ℕ → List Part) (bytes : List ℕ) → filled parts (map (λ b. Own (Byte b)) bytes) ≡ map Byte bytes
-bytes_filled parts [] = refl
-bytes_filled parts (b ∷ bytes) = ap (λ l. Byte b ∷ l) (bytes_filled parts bytes)
+pub bytes_filled : (symbols : ℕ → List Symbol) (bytes : List ℕ) → filled symbols (map (λ b. Own (Byte b)) bytes) ≡ map Byte bytes
+bytes_filled symbols [] = refl
+bytes_filled symbols (b ∷ bytes) = ap (λ l. Byte b ∷ l) (bytes_filled symbols bytes)
 
 -- where each use has a share, in order, the plan means its slots filled
-pub plan_filled : (parts : ℕ → List Part) (node : Title) (text : List ℕ) (piece marks start : ℕ) (plan : List Step)
-    → plan_flat node text piece marks start plan (map parts (uses_of plan)) ≡ filled parts (slots node text piece marks start plan)
-plan_filled parts node text piece marks start [] = refl
-plan_filled parts node text piece marks start (step.Open ∷ plan) = ap (λ l. Opening node piece ∷ MarkOf node piece 0 ∷ l) (plan_filled parts node text piece 0 start plan)
-plan_filled parts node text piece marks start (step.Run end ∷ plan) =
-    ap (λ l. map Byte (bytes_between text start end) ++ l) (plan_filled parts node text piece marks end plan)
-    ∙ ap (λ l. l ++ filled parts (slots node text piece marks end plan)) (sym (bytes_filled parts (bytes_between text start end)))
-    ∙ sym (flat_map-append (filled_slot parts) (map (λ b. Own (Byte b)) (bytes_between text start end)) (slots node text piece marks end plan))
-plan_filled parts node text piece marks start (step.Mark ∷ plan) = ap (λ l. MarkOf node piece (marks + 1) ∷ l) (plan_filled parts node text piece (marks + 1) start plan)
-plan_filled parts node text piece marks start (step.Macros ∷ plan) = ap (λ l. AllMacros ∷ l) (plan_filled parts node text piece marks start plan)
-plan_filled parts node text piece marks start (step.Space ∷ plan) = ap (λ l. Byte space ∷ l) (plan_filled parts node text piece marks start plan)
-plan_filled parts node text piece marks start (step.Use id ∷ plan) = ap (λ l. Byte space ∷ parts id ++ l) (plan_filled parts node text piece marks start plan)
-plan_filled parts node text piece marks start (step.Close ∷ plan) = ap (λ l. Closing node piece ∷ l) (plan_filled parts node text (piece + 1) 0 start plan)
+pub plan_filled : (symbols : ℕ → List Symbol) (node : Title) (text : List ℕ) (piece marks start : ℕ) (plan : List Step)
+    → plan_flat node text piece marks start plan (map symbols (uses_of plan)) ≡ filled symbols (slots node text piece marks start plan)
+plan_filled symbols node text piece marks start [] = refl
+plan_filled symbols node text piece marks start (step.Open ∷ plan) = ap (λ l. Opening node piece ∷ MarkOf node piece 0 ∷ l) (plan_filled symbols node text piece 0 start plan)
+plan_filled symbols node text piece marks start (step.Run end ∷ plan) =
+    ap (λ l. map Byte (bytes_between text start end) ++ l) (plan_filled symbols node text piece marks end plan)
+    ∙ ap (λ l. l ++ filled symbols (slots node text piece marks end plan)) (sym (bytes_filled symbols (bytes_between text start end)))
+    ∙ sym (flat_map-append (filled_slot symbols) (map (λ b. Own (Byte b)) (bytes_between text start end)) (slots node text piece marks end plan))
+plan_filled symbols node text piece marks start (step.Mark ∷ plan) = ap (λ l. MarkOf node piece (marks + 1) ∷ l) (plan_filled symbols node text piece (marks + 1) start plan)
+plan_filled symbols node text piece marks start (step.Macros ∷ plan) = ap (λ l. AllMacros ∷ l) (plan_filled symbols node text piece marks start plan)
+plan_filled symbols node text piece marks start (step.Space ∷ plan) = ap (λ l. Byte space ∷ l) (plan_filled symbols node text piece marks start plan)
+plan_filled symbols node text piece marks start (step.Use id ∷ plan) = ap (λ l. Byte space ∷ symbols id ++ l) (plan_filled symbols node text piece marks start plan)
+plan_filled symbols node text piece marks start (step.Close ∷ plan) = ap (λ l. Closing node piece ∷ l) (plan_filled symbols node text (piece + 1) 0 start plan)

@@ -1,9 +1,9 @@
 -- What a used name expands to is shorter and less deep than what its user does.
 use Rattle.std.proofs.Common.{◌+◌, ◌<◌, ◌≤◌, ℕ, List, [], ◌∷◌, length, ap, inl, inr, arith, length-append}
 use Rattle.tangle_expansion.specs.Shapes.{Title, ShapeItem, Written, Mark, Macros, Use, NoUse, Shape, IsUseOf, UsesInPiece, UsesInShape}
-use Rattle.tangle_expansion.specs.Flat.{Part, marks_behind, item_flat, items_flat, pieces_flat, item_depth, items_depth, pieces_depth}
+use Rattle.tangle_expansion.specs.Flat.{Symbol, marks_behind, item_flat, items_flat, pieces_flat, item_depth, items_depth, pieces_depth}
 
-item_shorter : (used : List ℕ → List Part) (node : Title) (piece marks : ℕ) (item : ShapeItem) (name : List ℕ) → IsUseOf item name
+item_shorter : (used : List ℕ → List Symbol) (node : Title) (piece marks : ℕ) (item : ShapeItem) (name : List ℕ) → IsUseOf item name
     → length (used name) ≤ length (item_flat used node piece marks item)
 item_shorter used node piece marks (Written kind bytes) name u = absurd u
 item_shorter used node piece marks Mark name u = absurd u
@@ -11,7 +11,7 @@ item_shorter used node piece marks Macros name u = absurd u
 item_shorter used node piece marks (Use other) name u = omega (arith, ap (λ n. length (used n)) u)
 item_shorter used node piece marks NoUse name u = absurd u
 
-items_shorter : (used : List ℕ → List Part) (node : Title) (piece marks : ℕ) (items : List ShapeItem) (name : List ℕ) → UsesInPiece items name
+items_shorter : (used : List ℕ → List Symbol) (node : Title) (piece marks : ℕ) (items : List ShapeItem) (name : List ℕ) → UsesInPiece items name
     → length (used name) ≤ length (items_flat used node piece marks items)
 items_shorter used node piece marks [] name u = absurd u
 items_shorter used node piece marks (item ∷ items) name (inl u) =
@@ -23,7 +23,7 @@ items_shorter used node piece marks (item ∷ items) name (inr u) =
       length-append (item_flat used node piece marks item) (items_flat used node piece (marks_behind marks item) items),
     )
 
-pub pieces_shorter : (used : List ℕ → List Part) (node : Title) (piece : ℕ) (pieces : Shape) (name : List ℕ) → UsesInShape pieces name
+pub pieces_shorter : (used : List ℕ → List Symbol) (node : Title) (piece : ℕ) (pieces : Shape) (name : List ℕ) → UsesInShape pieces name
     → length (used name) ≤ length (pieces_flat used node piece pieces)
 pieces_shorter used node piece [] name u = absurd u
 pieces_shorter used node piece (items ∷ pieces) name (inl u) =

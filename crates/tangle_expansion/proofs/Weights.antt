@@ -1,10 +1,10 @@
 -- The weight of a node is the length of what it expands to.
 use Rattle.std.proofs.Common.{◌≡◌, ◌∙◌, ℕ, ◌+◌, zero, suc, List, [], ◌∷◌, length, refl, ap, sym, arith, length-append}
 use Rattle.std.proofs.lemmas.List.{length-map}
-use Rattle.tangle_expansion.specs.Shapes.{Title, Named, ShapeItem, Written, Mark, Macros, Use, NoUse, Shape, Project}
-use Rattle.tangle_expansion.specs.Flat.{Part, Byte, marks_behind, item_flat, items_flat, pieces_flat, flat, item_weight, items_weight, pieces_weight, weight}
+use Rattle.tangle_expansion.specs.Shapes.{Title, Named, ShapeItem, Written, Mark, Macros, Use, NoUse, Shape, Shapes}
+use Rattle.tangle_expansion.specs.Flat.{Symbol, Byte, marks_behind, item_flat, items_flat, pieces_flat, flat, item_weight, items_weight, pieces_weight, weight}
 
-item_weight-length : (used : List ℕ → List Part) (node : Title) (piece marks : ℕ) (item : ShapeItem)
+item_weight-length : (used : List ℕ → List Symbol) (node : Title) (piece marks : ℕ) (item : ShapeItem)
     → item_weight (λ name. length (used name)) item ≡ length (item_flat used node piece marks item)
 item_weight-length used node piece marks (Written kind bytes) = sym (length-map bytes Byte)
 item_weight-length used node piece marks Mark = refl
@@ -12,7 +12,7 @@ item_weight-length used node piece marks Macros = refl
 item_weight-length used node piece marks (Use name) = omega arith
 item_weight-length used node piece marks NoUse = refl
 
-items_weight-length : (used : List ℕ → List Part) (node : Title) (piece marks : ℕ) (items : List ShapeItem)
+items_weight-length : (used : List ℕ → List Symbol) (node : Title) (piece marks : ℕ) (items : List ShapeItem)
     → items_weight (λ name. length (used name)) items + 1 ≡ length (items_flat used node piece marks items)
 items_weight-length used node piece marks [] = refl
 items_weight-length used node piece marks (item ∷ items) =
@@ -23,7 +23,7 @@ items_weight-length used node piece marks (item ∷ items) =
       length-append (item_flat used node piece marks item) (items_flat used node piece (marks_behind marks item) items),
     )
 
-pub pieces_weight-length : (used : List ℕ → List Part) (node : Title) (piece : ℕ) (pieces : Shape)
+pub pieces_weight-length : (used : List ℕ → List Symbol) (node : Title) (piece : ℕ) (pieces : Shape)
     → pieces_weight (λ name. length (used name)) pieces ≡ length (pieces_flat used node piece pieces)
 pieces_weight-length used node piece [] = refl
 pieces_weight-length used node piece (items ∷ pieces) =
@@ -49,9 +49,9 @@ pieces_weight-same : (f g : List ℕ → ℕ) (pieces : Shape) → ((name : List
 pieces_weight-same f g [] same = refl
 pieces_weight-same f g (items ∷ pieces) same = omega (arith, items_weight-same f g items same, pieces_weight-same f g pieces same)
 
-pub weight-length : (fuel : ℕ) (project : Project) (node : Title) → weight fuel project node ≡ length (flat fuel project node)
-weight-length zero project node = refl
-weight-length (suc fuel) project node =
-    pieces_weight-same (λ name. weight fuel project (Named name)) (λ name. length (flat fuel project (Named name))) (project node)
-    (λ name. weight-length fuel project (Named name))
-    ∙ pieces_weight-length (λ name. flat fuel project (Named name)) node 0 (project node)
+pub weight-length : (fuel : ℕ) (shapes : Shapes) (node : Title) → weight fuel shapes node ≡ length (flat fuel shapes node)
+weight-length zero shapes node = refl
+weight-length (suc fuel) shapes node =
+    pieces_weight-same (λ name. weight fuel shapes (Named name)) (λ name. length (flat fuel shapes (Named name))) (shapes node)
+    (λ name. weight-length fuel shapes (Named name))
+    ∙ pieces_weight-length (λ name. flat fuel shapes (Named name)) node 0 (shapes node)

@@ -3,14 +3,14 @@ use Rattle.std.proofs.Common.{◌≡◌, ℕ, false, List, [], ◌∷◌, ◌+�
 use Rattle.std.specs.Fmt.{digits}
 use Rattle.std.specs.Prelude.{codes, map, flat_map, true}
 use Rattle.tangle_lines.specs.Reading.{Line, SourceRead}
-use Rattle.tangle_lexer.specs.Steps.{lexeme, names_from, tokens_from}
+use Rattle.tangle_lexer.specs.Steps.{lexeme, occurrences_from, tokens_from}
 use Rattle.tangle_scan.specs.Web.{WebRead, web_of}
 use Rattle.tangle_names.specs.NameTable.{table_of}
 use Rattle.tangle_expansion.specs.Shapes.{Title, Program, Named, ContainsItself, here, on}
 use Rattle.tangle_expansion.specs.Flat.{flat, weight, depth}
-use Rattle.tangle_expansion.specs.Projects.{project}
+use Rattle.tangle_expansion.specs.WebShapes.{shapes}
 use Rattle.tangle_expansion.specs.Numbers.{numbers_of, text}
-use Rattle.tangle_expansion.specs.Standing.{Role, Own, Feed, Other, standing, standing_project}
+use Rattle.tangle_expansion.specs.Location.{Role, Own, Feed, Other, located, located_shapes}
 use Rattle.tangle_files.specs.declared.marks.MarkMode.TheVariants.{Full}
 
 -- the source lines of the file a.w from a line number on
@@ -26,18 +26,18 @@ abbrev web : List (List ℕ) → WebRead
 web lines = web_of (source lines)
 
 abbrev output : List (List ℕ) → List ℕ
-output lines = text (numbers_of (web lines) (table_of (web lines)) Full) (flat 1001 (project (web lines) (table_of (web lines))) Program) ++ codes "\n"
+output lines = text (numbers_of (web lines) (table_of (web lines)) Full) (flat 1001 (shapes (web lines) (table_of (web lines))) Program) ++ codes "\n"
 
 -- the text of a named node, and a line feed
 abbrev output_of : List (List ℕ) → List ℕ → List ℕ
 output_of lines name =
-    text (numbers_of (web lines) (table_of (web lines)) Full) (flat 1001 (project (web lines) (table_of (web lines))) (Named name)) ++ codes "\n"
+    text (numbers_of (web lines) (table_of (web lines)) Full) (flat 1001 (shapes (web lines) (table_of (web lines))) (Named name)) ++ codes "\n"
 
 abbrev weight_in : List (List ℕ) → Title → ℕ
-weight_in lines node = weight 16777217 (project (web lines) (table_of (web lines))) node
+weight_in lines node = weight 16777217 (shapes (web lines) (table_of (web lines))) node
 
 abbrev depth_in : List (List ℕ) → Title → ℕ
-depth_in lines node = depth 1001 (project (web lines) (table_of (web lines))) node
+depth_in lines node = depth 1001 (shapes (web lines) (table_of (web lines))) node
 
 abbrev lines_text : List (List ℕ) → List ℕ
 lines_text lines = flat_map (λ line. line ++ 10 ∷ []) lines
@@ -46,15 +46,15 @@ abbrev one_part : List (List ℕ)
 one_part = codes "@ A." ∷ codes "@c" ∷ codes "int x;" ∷ []
 
 one_part_output : output one_part ≡ lines_text (codes "/*1:*/" ∷ codes "#line 2 \"a.w\"" ∷ [] ∷ codes "int x;" ∷ codes "/*:1*/" ∷ [])
-unfolding lexeme tokens_from names_from digits
+unfolding lexeme tokens_from occurrences_from digits
 one_part_output = refl
 
 one_part_weight : weight_in one_part Program ≡ 11
-unfolding lexeme tokens_from names_from
+unfolding lexeme tokens_from occurrences_from
 one_part_weight = refl
 
 one_part_depth : depth_in one_part Program ≡ 1
-unfolding lexeme tokens_from names_from
+unfolding lexeme tokens_from occurrences_from
 one_part_depth = refl
 
 -- a use of a name
@@ -64,30 +64,30 @@ one_use = codes "@ A." ∷ codes "@c" ∷ codes "int x=@<v@>;" ∷ codes "@ @<v@
 one_use_output : output one_use ≡ lines_text (
     codes "/*1:*/" ∷ codes "#line 2 \"a.w\"" ∷ [] ∷ codes "int x= /*2:*/" ∷ codes "#line 4 \"a.w\"" ∷ [] ∷ codes "1" ∷ codes "/*:2*/"
     ∷ codes "#line 3 \"a.w\"" ∷ codes ";" ∷ codes "/*:1*/" ∷ [])
-unfolding lexeme tokens_from names_from digits
+unfolding lexeme tokens_from occurrences_from digits
 one_use_output = refl
 
 one_use_program_weight : weight_in one_use Program ≡ 20
-unfolding lexeme tokens_from names_from
+unfolding lexeme tokens_from occurrences_from
 one_use_program_weight = refl
 
 one_use_name_weight : weight_in one_use (Named (codes "v")) ≡ 6
-unfolding lexeme tokens_from names_from
+unfolding lexeme tokens_from occurrences_from
 one_use_name_weight = refl
 
 one_use_program_depth : depth_in one_use Program ≡ 2
-unfolding lexeme tokens_from names_from
+unfolding lexeme tokens_from occurrences_from
 one_use_program_depth = refl
 
 one_use_name_depth : depth_in one_use (Named (codes "v")) ≡ 1
-unfolding lexeme tokens_from names_from
+unfolding lexeme tokens_from occurrences_from
 one_use_name_depth = refl
 
 -- with a line in front, all places go on by one line
 shifted_output : output (codes "% top" ∷ one_use) ≡ lines_text (
     codes "/*1:*/" ∷ codes "#line 3 \"a.w\"" ∷ [] ∷ codes "int x= /*2:*/" ∷ codes "#line 5 \"a.w\"" ∷ [] ∷ codes "1" ∷ codes "/*:2*/"
     ∷ codes "#line 4 \"a.w\"" ∷ codes ";" ∷ codes "/*:1*/" ∷ [])
-unfolding lexeme tokens_from names_from digits
+unfolding lexeme tokens_from occurrences_from digits
 shifted_output = refl
 
 -- the macros inside the program
@@ -96,7 +96,7 @@ macros_in_text = codes "@ A." ∷ codes "@d N 10" ∷ codes "@c" ∷ codes "@h" 
 
 macros_in_text_output : output macros_in_text ≡ lines_text (
     codes "/*1:*/" ∷ codes "#line 3 \"a.w\"" ∷ [] ∷ [] ∷ codes "#define N 10" ∷ [] ∷ codes "#line 4 \"a.w\"" ∷ [] ∷ codes "int x=N;" ∷ codes "/*:1*/" ∷ [])
-unfolding lexeme tokens_from names_from digits
+unfolding lexeme tokens_from occurrences_from digits
 macros_in_text_output = refl
 
 -- a join over a line end
@@ -105,7 +105,7 @@ joined = codes "@ A." ∷ codes "@c" ∷ codes "a@&" ∷ codes "b;" ∷ codes "c
 
 joined_output : output joined ≡ lines_text (
     codes "/*1:*/" ∷ codes "#line 2 \"a.w\"" ∷ [] ∷ codes "ab;" ∷ codes "#line 5 \"a.w\"" ∷ codes "c;" ∷ codes "/*:1*/" ∷ [])
-unfolding lexeme tokens_from names_from digits
+unfolding lexeme tokens_from occurrences_from digits
 joined_output = refl
 
 -- An abbreviation that resolves to two names: the uses have no text, and both definitions are pieces of names that nothing uses.
@@ -114,24 +114,24 @@ ambiguous = codes "@ A." ∷ codes "@c" ∷ codes "@<Ini...@>" ∷ codes "@ @<In
 
 ambiguous_output : output ambiguous ≡ lines_text (
     codes "/*1:*/" ∷ codes "#line 2 \"a.w\"" ∷ [] ∷ codes " " ∷ codes "#line 3 \"a.w\"" ∷ [] ∷ codes "/*:1*/" ∷ [])
-unfolding lexeme tokens_from names_from digits
+unfolding lexeme tokens_from occurrences_from digits
 ambiguous_output = refl
 
--- An abbreviation that stands in front of the one name that it resolves to.
+-- An abbreviation that is in front of the one name that it resolves to.
 abbrev early : List (List ℕ)
 early = codes "@ A." ∷ codes "@c" ∷ codes "@<Ini...@>" ∷ codes "@ @<Initialize@>=" ∷ codes "x=0;" ∷ []
 
 early_output : output early ≡ lines_text (
     codes "/*1:*/" ∷ codes "#line 2 \"a.w\"" ∷ [] ∷ codes " /*2:*/" ∷ codes "#line 4 \"a.w\"" ∷ [] ∷ codes "x=0;" ∷ codes "/*:2*/" ∷ codes "#line 3 \"a.w\""
     ∷ [] ∷ codes "/*:1*/" ∷ [])
-unfolding lexeme tokens_from names_from digits
+unfolding lexeme tokens_from occurrences_from digits
 early_output = refl
 
 -- with a section in front, section numbers and places go on
 renumbered_output : output (codes "@ Z." ∷ one_use) ≡ lines_text (
     codes "/*2:*/" ∷ codes "#line 3 \"a.w\"" ∷ [] ∷ codes "int x= /*3:*/" ∷ codes "#line 5 \"a.w\"" ∷ [] ∷ codes "1" ∷ codes "/*:3*/"
     ∷ codes "#line 4 \"a.w\"" ∷ codes ";" ∷ codes "/*:2*/" ∷ [])
-unfolding lexeme tokens_from names_from digits
+unfolding lexeme tokens_from occurrences_from digits
 renumbered_output = refl
 
 -- Two names that use each other, and a named file.
@@ -140,15 +140,15 @@ cyclic =
     codes "@ P." ∷ codes "@c" ∷ codes "@<A@>" ∷ codes "@ @<A@>=" ∷ codes "@<B@>" ∷ codes "@ @<B@>=" ∷ codes "@<A@>" ∷ codes "@ @(h.h@>=" ∷ codes "int h;" ∷ []
 
 cyclic_file : output_of cyclic (codes "h.h") ≡ lines_text (codes "/*4:*/" ∷ codes "#line 8 \"a.w\"" ∷ [] ∷ codes "int h;" ∷ codes "/*:4*/" ∷ [])
-unfolding lexeme tokens_from names_from digits
+unfolding lexeme tokens_from occurrences_from digits
 cyclic_file = refl
 
-cyclic_name : ContainsItself (project (web cyclic) (table_of (web cyclic))) (Named (codes "A"))
-unfolding lexeme tokens_from names_from digits
+cyclic_name : ContainsItself (shapes (web cyclic) (table_of (web cyclic))) (Named (codes "A"))
+unfolding lexeme tokens_from occurrences_from digits
 cyclic_name = (codes "B", inl (inr (inl refl)), on (inl (inr (inl refl))) here)
 
-cyclic_other : ContainsItself (project (web cyclic) (table_of (web cyclic))) (Named (codes "B"))
-unfolding lexeme tokens_from names_from digits
+cyclic_other : ContainsItself (shapes (web cyclic) (table_of (web cyclic))) (Named (codes "B"))
+unfolding lexeme tokens_from occurrences_from digits
 cyclic_other = (codes "A", inl (inr (inl refl)), on (inl (inr (inl refl))) here)
 
 -- the same web without the cycle
@@ -158,7 +158,7 @@ acyclic = codes "@ P." ∷ codes "@c" ∷ codes "@<A@>" ∷ codes "@ @<A@>=" ∷
 acyclic_output : output acyclic ≡ lines_text (
     codes "/*1:*/" ∷ codes "#line 2 \"a.w\"" ∷ [] ∷ codes " /*2:*/" ∷ codes "#line 4 \"a.w\"" ∷ [] ∷ codes " /*3:*/" ∷ codes "#line 6 \"a.w\"" ∷ [] ∷ codes "b;"
     ∷ codes "/*:3*/" ∷ codes "#line 5 \"a.w\"" ∷ [] ∷ codes "/*:2*/" ∷ codes "#line 3 \"a.w\"" ∷ [] ∷ codes "/*:1*/" ∷ [])
-unfolding lexeme tokens_from names_from digits
+unfolding lexeme tokens_from occurrences_from digits
 acyclic_output = refl
 
 -- names that each use the next one twice: the j-th before the last weighs 15 * 2 ^ j - 9
@@ -167,23 +167,23 @@ doubling =
     codes "@ @<a@>=" ∷ codes "@<b@>@<b@>" ∷ codes "@ @<b@>=" ∷ codes "@<d@>@<d@>" ∷ codes "@ @<d@>=" ∷ codes "@<e@>@<e@>" ∷ codes "@ @<e@>=" ∷ codes "1" ∷ []
 
 doubling_last : weight_in doubling (Named (codes "e")) ≡ 15 * 2 ^ 0 - 9
-unfolding lexeme tokens_from names_from
+unfolding lexeme tokens_from occurrences_from
 doubling_last = refl
 
 doubling_first : weight_in doubling (Named (codes "d")) ≡ 15 * 2 ^ 1 - 9
-unfolding lexeme tokens_from names_from
+unfolding lexeme tokens_from occurrences_from
 doubling_first = refl
 
 doubling_second : weight_in doubling (Named (codes "b")) ≡ 15 * 2 ^ 2 - 9
-unfolding lexeme tokens_from names_from
+unfolding lexeme tokens_from occurrences_from
 doubling_second = refl
 
 doubling_third : weight_in doubling (Named (codes "a")) ≡ 15 * 2 ^ 3 - 9
-unfolding lexeme tokens_from names_from
+unfolding lexeme tokens_from occurrences_from
 doubling_third = refl
 
 doubling_depth : depth_in doubling (Named (codes "a")) ≡ 4
-unfolding lexeme tokens_from names_from
+unfolding lexeme tokens_from occurrences_from
 doubling_depth = refl
 
 -- a macro over several lines
@@ -191,17 +191,17 @@ abbrev long_macro : List (List ℕ)
 long_macro = codes "@ A." ∷ codes "@d F(x) x" ∷ codes "  +1" ∷ [] ∷ codes "@d 3" ∷ codes "@c" ∷ codes "y" ∷ []
 
 long_macro_text : (numbers_of (web long_macro) (table_of (web long_macro)) Full).macros ≡ codes "#define F(x) x\\\n+1\n"
-unfolding lexeme tokens_from names_from digits
+unfolding lexeme tokens_from occurrences_from digits
 long_macro_text = refl
 
--- where the texts of the joined lines stand: the b and the sign behind it are in a stretch, and behind the mark it is over
+-- where the texts of the joined lines are: the b and the sign behind it are in a stretch, and behind the mark it is over
 abbrev role_byte : Role → ℕ
 role_byte (Own place false) = 48 + place.line
 role_byte (Own place true) = 97 + place.line
 role_byte Feed = 10
 role_byte Other = 32
 
-joined_roles : map (λ p. role_byte p.role) (standing 1001 (standing_project (source joined) (web joined) (table_of (web joined))) Program)
+joined_roles : map (λ p. role_byte p.role) (located 1001 (located_shapes (source joined) (web joined) (table_of (web joined))) Program)
     ≡ 32 ∷ 32 ∷ 10 ∷ (48 + 3) ∷ (97 + 4) ∷ (97 + 4) ∷ 32 ∷ (48 + 5) ∷ (48 + 5) ∷ 10 ∷ 32 ∷ []
-unfolding lexeme tokens_from names_from digits
+unfolding lexeme tokens_from occurrences_from digits
 joined_roles = refl

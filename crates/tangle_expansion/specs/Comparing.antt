@@ -2,20 +2,20 @@
 use Rattle.std.specs.Prelude.{◌≡◌, ℕ, Bool, List, filter}
 use Rattle.tangle_scan.specs.Web.{PieceRead}
 use Rattle.tangle_names.specs.NameTable.{TableRead}
-use Rattle.tangle_expansion.specs.Codes.{shape_codes, shape_bytes}
-use Rattle.tangle_expansion.specs.ItemCodes.{pieces_names, shape_of}
+use Rattle.tangle_expansion.specs.Tags.{shape_tags, shape_bytes}
+use Rattle.tangle_expansion.specs.ItemTags.{pieces_names, shape_of}
 use Rattle.tangle_expansion.specs.ItemSlots.{pieces_slots}
-use Rattle.tangle_expansion.specs.NodeTexts.{node_title, node_bytes, node_codes, node_uses, plan_slots, plan_uses}
-use Rattle.tangle_expansion.specs.declared.expansion.NodeText.{NodeText}
+use Rattle.tangle_expansion.specs.NodeBodies.{node_title, node_bytes, node_tags, node_uses, plan_slots, plan_uses}
+use Rattle.tangle_expansion.specs.declared.expansion.NodeBody.{NodeBody}
 
--- the codes, bytes and uses that are kept of a node are those of the items of these pieces
-pub record HasItemsOf (texts : List (List ℕ)) (table : TableRead) (pieces : List PieceRead) (node : NodeText) : Type 0 where
-  pub codes : node_codes node ≡ shape_codes (shape_of texts table pieces)
+-- the tags, bytes and uses that are kept of a node are those of the items of these pieces
+pub record HasItemsOf (texts : List (List ℕ)) (table : TableRead) (pieces : List PieceRead) (node : NodeBody) : Type 0 where
+  pub tags : node_tags node ≡ shape_tags (shape_of texts table pieces)
   pub bytes : node_bytes node ≡ shape_bytes (shape_of texts table pieces)
   pub uses : node_uses node ≡ pieces_names table pieces
 
 -- what is kept of a node is that of some pieces, of some web, where these names have a piece
-pub record IsPlanned (has_piece : ℕ → Bool) (node : NodeText) : Type 0 where
+pub record IsPlanned (has_piece : ℕ → Bool) (node : NodeBody) : Type 0 where
   pub texts : List (List ℕ)
   pub table : TableRead
   pub pieces : List PieceRead

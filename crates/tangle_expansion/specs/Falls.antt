@@ -8,4 +8,4 @@ use Rattle.tangle_expansion.specs.declared.expansion.Expansion.TheDeep.{deep-Exp
 
 pub falls : (e : Inside) → deep-Expansion e ≤ length (meaning e)
 falls e =
-    omega (arith, plan_falls (title_of e.body.value.node.value.name) e.body.value.node.value.text.items 0 0 0 e.body.value.node.value.plan.items e.body.value.used.items)
+    omega (arith, plan_falls (title_of e.shared.value.node.value.name) e.shared.value.node.value.text.items 0 0 0 e.shared.value.node.value.plan.items e.shared.value.used.items)

@@ -10,7 +10,7 @@ use Rattle.tangle_names.specs.declared.Resolved.TheVariants.{Name, NoFullName, A
 use Rattle.tangle_names.specs.NameTable.{TableRead}
 use Rattle.tangle_expansion.specs.Shapes.{Title}
 use Rattle.tangle_expansion.specs.Flat.{Byte, Opening, MarkOf, Closing, AllMacros}
-use Rattle.tangle_expansion.specs.Projects.{resolved_at}
+use Rattle.tangle_expansion.specs.WebShapes.{resolved_at}
 use Rattle.tangle_expansion.specs.Slots.{Slot, Own, Used, byte_slots}
 
 -- how many marks there are behind an item
@@ -60,7 +60,7 @@ module _ (texts : List (List ℕ)) (table : TableRead) (has_piece : ℕ → Bool
   pieces_slots piece (p ∷ pieces) = piece_slots piece p.items ++ pieces_slots (piece + 1) pieces
 
 abbrev pub no_piece : PieceRead
-no_piece = record { section = 0; place = record { file = 0; line = 0 }; name = None; items = [] }
+no_piece = record { section = 0; place = record { file = 0; line = 0 }; occurrence = None; items = [] }
 
 -- the pieces with these numbers
 abbrev pub pieces_at : List PieceRead → List ℕ → List PieceRead

@@ -1,23 +1,23 @@
 -- Kept expansions, as a map from nodes.
 use Rattle.std.specs.Prelude.{◌≡◌, ◌≢◌, ℕ, List, [], Option, Some, None, unwrap_or, slice_index_or}
-use Rattle.tangle_expansion.specs.Flat.{Part}
+use Rattle.tangle_expansion.specs.Flat.{Symbol}
 use Rattle.tangle_expansion.specs.declared.nodes.Node.{Node}
 use Rattle.tangle_expansion.specs.declared.nodes.Node.TheVariants.{Program, Name}
 use Rattle.tangle_expansion.specs.declared.kept.Kept.{Kept}
 
 -- the expansion that is kept of the node
-abbrev pub kept_at : Kept → Node → Option (List Part)
+abbrev pub kept_at : Kept → Node → Option (List Symbol)
 kept_at kept Program = kept.program
 kept_at kept (Name id) = slice_index_or kept.names.items id None
 
 -- the node has this expansion now, and each other one what it had
-pub record PutsKept (old new : Kept) (node : Node) (parts : List Part) : Type 0 where
-  pub put : kept_at new node ≡ Some parts
+pub record PutsKept (old new : Kept) (node : Node) (symbols : List Symbol) : Type 0 where
+  pub put : kept_at new node ≡ Some symbols
   pub others : (other : Node) → other ≢ node → kept_at new other ≡ kept_at old other
 
 abbrev pub SameKept : Kept → Kept → Type 0
 SameKept old new = (node : Node) → kept_at new node ≡ kept_at old node
 
--- the parts that are kept of the name with this number
-abbrev pub used_parts : Kept → ℕ → List Part
-used_parts kept id = unwrap_or (kept_at kept (Name id)) []
+-- the symbols that are kept of the name with this number
+abbrev pub used_symbols : Kept → ℕ → List Symbol
+used_symbols kept id = unwrap_or (kept_at kept (Name id)) []

@@ -2,9 +2,9 @@ pub mod Shapes
 pub mod Flat
 pub mod Affected
 pub mod Limits
-pub mod Projects
+pub mod WebShapes
 pub mod Numbers
-pub mod Standing
+pub mod Location
 pub mod Meaning
 pub mod Expanded
 pub mod Falls
@@ -16,10 +16,10 @@ pub mod Slots
 pub mod Outputs
 pub mod Planned
 pub mod ItemSlots
-pub mod Codes
-pub mod ItemCodes
+pub mod Tags
+pub mod ItemTags
 pub mod Runs
 pub mod MacroTexts
-pub mod NodeTexts
+pub mod NodeBodies
 pub mod Comparing
 pub mod Fronts

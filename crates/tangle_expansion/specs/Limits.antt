@@ -1,7 +1,7 @@
 -- The limits, and what is said at them.
 use Rattle.std.specs.Prelude.{ℕ, List, min}
-use Rattle.tangle_expansion.specs.Shapes.{Title, Project}
-use Rattle.tangle_expansion.specs.Flat.{Part, flat, weight, depth}
+use Rattle.tangle_expansion.specs.Shapes.{Title, Shapes}
+use Rattle.tangle_expansion.specs.Flat.{Symbol, flat, weight, depth}
 use Rattle.tangle_expansion.specs.Affected.{IsExpandable}
 
 -- one more than the greatest depth
@@ -16,14 +16,14 @@ heaviest = 16777216
 unfoldable pub weight_cap : ℕ
 weight_cap = 16777217
 
-abbrev pub flat_of : Project → Title → List Part
-flat_of project node = flat levels project node
+abbrev pub flat_of : Shapes → Title → List Symbol
+flat_of shapes node = flat levels shapes node
 
-abbrev pub weight_of : Project → Title → ℕ
-weight_of project node = min weight_cap (weight weight_cap project node)
+abbrev pub weight_of : Shapes → Title → ℕ
+weight_of shapes node = min weight_cap (weight weight_cap shapes node)
 
-abbrev pub depth_of : Project → Title → ℕ
-depth_of project node = depth levels project node
+abbrev pub depth_of : Shapes → Title → ℕ
+depth_of shapes node = depth levels shapes node
 
-abbrev pub IsExpandableNode : Project → Title → Type 0
-IsExpandableNode project node = IsExpandable levels heaviest project node
+abbrev pub IsExpandableNode : Shapes → Title → Type 0
+IsExpandableNode shapes node = IsExpandable levels heaviest shapes node

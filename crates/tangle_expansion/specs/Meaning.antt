@@ -1,9 +1,9 @@
--- What an expansion means: the parts of its plan over its text, with the parts of the expansions that it shares where it uses them.
+-- What an expansion means: the symbols of its plan over its text, with the symbols of the expansions that it shares where it uses them.
 use Rattle.std.specs.Prelude.{ℕ, ◌+◌, ◌-◌, Bool, true, false, if◌then◌else◌, List, [], ◌∷◌, ◌++◌, map, take, drop, Option, None, Some, Vec}
 use Rattle.std.specs.Global.{Global}
 use Rattle.tangle_files.specs.Bytes.{space}
 use Rattle.tangle_expansion.specs.Shapes.{Title, Program, Named}
-use Rattle.tangle_expansion.specs.Flat.{Part, Byte, Opening, MarkOf, Closing, AllMacros}
+use Rattle.tangle_expansion.specs.Flat.{Symbol, Byte, Opening, MarkOf, Closing, AllMacros}
 use Rattle.tangle_expansion.specs.declared.expansion.Step.{Step}
 use Rattle.tangle_expansion.specs.declared.expansion.Step.TheVariants as step
 
@@ -16,15 +16,15 @@ title_of (Some name) = Named name.items
 abbrev pub bytes_between : List ℕ → ℕ → ℕ → List ℕ
 bytes_between text start end = take (end - start) (drop start text)
 
--- a shared expansion that no step uses stands at the end, behind a space; an expansion that is made has none
-abbrev pub left_over : List (List Part) → List Part
+-- a shared expansion that no step uses is at the end, behind a space; an expansion that is made has none
+abbrev pub left_over : List (List Symbol) → List Symbol
 left_over [] = []
-left_over (parts ∷ rest) = Byte space ∷ parts ++ left_over rest
+left_over (symbols ∷ rest) = Byte space ∷ symbols ++ left_over rest
 
 module _ (node : Title) (text : List ℕ) where
-  -- The parts of a plan from one step on: behind so many pieces, so many marks of this piece and so many bytes of the text, with what is
+  -- The symbols of a plan from one step on: behind so many pieces, so many marks of this piece and so many bytes of the text, with what is
   -- left of the shared expansions. At a use without one it ends; an expansion that is made has one for each use.
-  abbrev pub plan_flat : ℕ → ℕ → ℕ → List Step → List (List Part) → List Part
+  abbrev pub plan_flat : ℕ → ℕ → ℕ → List Step → List (List Symbol) → List Symbol
   plan_flat piece marks start [] used = left_over used
   plan_flat piece marks start (step.Open ∷ plan) used = Opening node piece ∷ MarkOf node piece 0 ∷ plan_flat piece 0 start plan used
   plan_flat piece marks start (step.Run end ∷ plan) used = map Byte (bytes_between text start end) ++ plan_flat piece marks end plan used
@@ -32,7 +32,7 @@ module _ (node : Title) (text : List ℕ) where
   plan_flat piece marks start (step.Macros ∷ plan) used = AllMacros ∷ plan_flat piece marks start plan used
   plan_flat piece marks start (step.Space ∷ plan) used = Byte space ∷ plan_flat piece marks start plan used
   plan_flat piece marks start (step.Use id ∷ plan) [] = []
-  plan_flat piece marks start (step.Use id ∷ plan) (parts ∷ used) = Byte space ∷ parts ++ plan_flat piece marks start plan used
+  plan_flat piece marks start (step.Use id ∷ plan) (symbols ∷ used) = Byte space ∷ symbols ++ plan_flat piece marks start plan used
   plan_flat piece marks start (step.Close ∷ plan) used = Closing node piece ∷ plan_flat (piece + 1) 0 start plan used
 
 -- how the writing of a plan goes on
@@ -73,7 +73,7 @@ bytes_passed start step.Space = start
 bytes_passed start (step.Use id) = start
 bytes_passed start step.Close = start
 
--- where the writing of a plan stands
+-- where the writing of a plan is
 pub record Rest : Type 0 where
   pub piece : ℕ
   pub marks : ℕ
@@ -88,19 +88,19 @@ behind_use piece marks start (s ∷ plan) =
     else behind_use (pieces_passed piece s) (marks_passed marks s) (bytes_passed start s) plan
 
 module _ (node : Title) (text : List ℕ) where
-  -- the parts of a step that is no use
-  abbrev pub own_parts : ℕ → ℕ → ℕ → Step → List Part
-  own_parts piece marks start step.Open = Opening node piece ∷ MarkOf node piece 0 ∷ []
-  own_parts piece marks start (step.Run end) = map Byte (bytes_between text start end)
-  own_parts piece marks start step.Mark = MarkOf node piece (marks + 1) ∷ []
-  own_parts piece marks start step.Macros = AllMacros ∷ []
-  own_parts piece marks start step.Space = Byte space ∷ []
-  own_parts piece marks start (step.Use id) = []
-  own_parts piece marks start step.Close = Closing node piece ∷ []
+  -- the symbols of a step that is no use
+  abbrev pub own_symbols : ℕ → ℕ → ℕ → Step → List Symbol
+  own_symbols piece marks start step.Open = Opening node piece ∷ MarkOf node piece 0 ∷ []
+  own_symbols piece marks start (step.Run end) = map Byte (bytes_between text start end)
+  own_symbols piece marks start step.Mark = MarkOf node piece (marks + 1) ∷ []
+  own_symbols piece marks start step.Macros = AllMacros ∷ []
+  own_symbols piece marks start step.Space = Byte space ∷ []
+  own_symbols piece marks start (step.Use id) = []
+  own_symbols piece marks start step.Close = Closing node piece ∷ []
 
-  -- the parts up to the next use, or to the end
-  abbrev pub before_use : ℕ → ℕ → ℕ → List Step → List Part
+  -- the symbols up to the next use, or to the end
+  abbrev pub before_use : ℕ → ℕ → ℕ → List Step → List Symbol
   before_use piece marks start [] = []
   before_use piece marks start (s ∷ plan) =
       if is_use s then []
-      else own_parts piece marks start s ++ before_use (pieces_passed piece s) (marks_passed marks s) (bytes_passed start s) plan
+      else own_symbols piece marks start s ++ before_use (pieces_passed piece s) (marks_passed marks s) (bytes_passed start s) plan

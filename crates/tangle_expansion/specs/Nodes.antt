@@ -5,7 +5,7 @@ use Rattle.tangle_scan.specs.Web.{WebRead}
 use Rattle.tangle_names.specs.NameTable.{TableRead}
 use Rattle.tangle_expansion.specs.Shapes.{Title, Named}
 use Rattle.tangle_expansion.specs.Shapes as title
-use Rattle.tangle_expansion.specs.Projects.{pieces_of}
+use Rattle.tangle_expansion.specs.WebShapes.{pieces_of}
 use Rattle.tangle_expansion.specs.ItemSlots.{pieces_at}
 use Rattle.tangle_expansion.specs.declared.nodes.Node.{Node}
 use Rattle.tangle_expansion.specs.declared.nodes.Node.TheVariants.{Program, Name}

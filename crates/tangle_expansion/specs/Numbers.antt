@@ -9,8 +9,8 @@ use Rattle.tangle_scan.specs.declared.items.Item.TheVariants as item
 use Rattle.tangle_scan.specs.Web.{WebRead, PieceRead}
 use Rattle.tangle_names.specs.NameTable.{TableRead}
 use Rattle.tangle_expansion.specs.Shapes.{Title, Program, Named}
-use Rattle.tangle_expansion.specs.Flat.{Part, Byte, Opening, MarkOf, Closing, AllMacros}
-use Rattle.tangle_expansion.specs.Projects.{pieces_of}
+use Rattle.tangle_expansion.specs.Flat.{Symbol, Byte, Opening, MarkOf, Closing, AllMacros}
+use Rattle.tangle_expansion.specs.WebShapes.{pieces_of}
 use Rattle.tangle_files.specs.declared.marks.MarkMode.{MarkMode}
 use Rattle.tangle_files.specs.declared.marks.MarkMode.TheVariants.{Full, Bare}
 use Rattle.tangle_expansion.specs.MacroTexts.{macro_text}
@@ -100,12 +100,12 @@ module _ (numbers : NumbersRead) where
   abbrev pub place_text : Origin → List ℕ
   place_text place = marked_text numbers.marks (get_or numbers.file_names place.file []) place.line
 
-  abbrev pub part_text : Part → List ℕ
-  part_text (Byte b) = b ∷ []
-  part_text (Opening node piece) = opening_text (numbers_at node piece).section
-  part_text (MarkOf node piece mark) = place_text (place_of_mark node piece mark)
-  part_text (Closing node piece) = closing_text (numbers_at node piece).section
-  part_text AllMacros = line_feed ∷ numbers.macros
+  abbrev pub symbol_text : Symbol → List ℕ
+  symbol_text (Byte b) = b ∷ []
+  symbol_text (Opening node piece) = opening_text (numbers_at node piece).section
+  symbol_text (MarkOf node piece mark) = place_text (place_of_mark node piece mark)
+  symbol_text (Closing node piece) = closing_text (numbers_at node piece).section
+  symbol_text AllMacros = line_feed ∷ numbers.macros
 
-  abbrev pub text : List Part → List ℕ
-  text parts = flat_map part_text parts
+  abbrev pub text : List Symbol → List ℕ
+  text symbols = flat_map symbol_text symbols

@@ -5,22 +5,22 @@ use Rattle.tangle_lines.specs.Reading.{SourceRead}
 use Rattle.tangle_scan.specs.Web.{WebRead}
 use Rattle.tangle_names.specs.NameTable.{table_of}
 use Rattle.tangle_expansion.specs.Shapes.{Title}
-use Rattle.tangle_expansion.specs.Flat.{Part}
+use Rattle.tangle_expansion.specs.Flat.{Symbol}
 use Rattle.tangle_expansion.specs.Limits.{levels, heaviest}
 use Rattle.tangle_expansion.specs.Numbers.{NumbersRead, numbers_of, text}
 use Rattle.tangle_expansion.specs.Kept.{kept_at}
 use Rattle.tangle_files.specs.declared.marks.MarkMode.TheVariants.{Full}
 use Rattle.tangle_expansion.specs.declared.nodes.Node.{Node}
 use Rattle.tangle_expansion.specs.declared.kept.Kept.{Kept}
-use Rattle.tangle_expansion.specs.Standing.{StandingPart, standing, standing_project, StandAtTheirPlaces}
+use Rattle.tangle_expansion.specs.Location.{LocatedSymbol, located, located_shapes, AreAtTheirPlaces}
 
 abbrev pub front_text : NumbersRead → Bool → List ℕ
 front_text numbers has_macros = if has_macros then numbers.macros else []
 
 -- a file: the macros, if they begin it, and the text of its node and a line feed, if the node has a piece
-abbrev pub file_text : NumbersRead → Bool → Bool → List Part → List ℕ
-file_text numbers has_macros has_piece parts =
-    front_text numbers has_macros ++ (if has_piece then text numbers parts ++ line_feed ∷ [] else [])
+abbrev pub file_text : NumbersRead → Bool → Bool → List Symbol → List ℕ
+file_text numbers has_macros has_piece symbols =
+    front_text numbers has_macros ++ (if has_piece then text numbers symbols ++ line_feed ∷ [] else [])
 
 -- an output file: its name, the node whose text it has, whether all macros begin it, and whether the node has a piece
 pub record OutputRead : Type 0 where
@@ -29,24 +29,24 @@ pub record OutputRead : Type 0 where
   pub has_macros : Bool
   pub has_piece : Bool
 
--- the parts that are kept of the node, none where nothing is
-abbrev pub node_parts : Kept → Node → List Part
-node_parts kept node = unwrap_or (kept_at kept node) []
+-- the symbols that are kept of the node, none where nothing is
+abbrev pub node_symbols : Kept → Node → List Symbol
+node_symbols kept node = unwrap_or (kept_at kept node) []
 
 -- the expansion of its node is kept, if that has a piece, and is within the limit of weight
 pub record IsReady (output : OutputRead) (kept : Kept) : Type 0 where
   pub there : output.has_piece ≡ true → IsSome (kept_at kept output.node)
-  pub light : length (node_parts kept output.node) ≤ heaviest
+  pub light : length (node_symbols kept output.node) ≤ heaviest
 
 abbrev pub output_text : NumbersRead → Kept → OutputRead → List ℕ
-output_text numbers kept output = file_text numbers output.has_macros output.has_piece (node_parts kept output.node)
+output_text numbers kept output = file_text numbers output.has_macros output.has_piece (node_symbols kept output.node)
 
--- what a node expands to, with where each text stands
-abbrev pub standing_of : SourceRead → WebRead → Title → List StandingPart
-standing_of source web node = standing levels (standing_project source web (table_of web)) node
+-- what a node expands to, with where each text is
+abbrev pub located_of : SourceRead → WebRead → Title → List LocatedSymbol
+located_of source web node = located levels (located_shapes source web (table_of web)) node
 
--- The bytes are the text of what the node expands to, and each byte of a text in it that is in no stretch stands at the compiler's place
+-- The bytes are the text of what the node expands to, and each byte of a text in it that is in no stretch is at the compiler's place
 -- that is its own line's, where marks are written in full. In front of a file's first mark no place is known.
 pub record IsTrueToLines (source : SourceRead) (web : WebRead) (node : Title) (bytes : List ℕ) : Type 0 where
-  pub written : bytes ≡ text (numbers_of web (table_of web) Full) (map (λ p. p.part) (standing_of source web node))
-  pub places : StandAtTheirPlaces (numbers_of web (table_of web) Full) None (standing_of source web node)
+  pub written : bytes ≡ text (numbers_of web (table_of web) Full) (map (λ p. p.symbol) (located_of source web node))
+  pub places : AreAtTheirPlaces (numbers_of web (table_of web) Full) None (located_of source web node)

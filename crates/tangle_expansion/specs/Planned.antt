@@ -3,17 +3,17 @@ use Rattle.std.specs.Prelude.{ℕ, List, [], ◌++◌, drop}
 use Rattle.tangle_expansion.specs.Meaning.{title_of}
 use Rattle.tangle_expansion.specs.Shapes.{Title}
 use Rattle.tangle_expansion.specs.Slots.{Slot, slots, byte_slots}
-use Rattle.tangle_expansion.specs.declared.codes.ItemCode.{ItemCode}
+use Rattle.tangle_expansion.specs.declared.tags.ItemTag.{ItemTag}
 use Rattle.tangle_expansion.specs.declared.planning.Planning.TheInside.{Inside}
 
--- what was made so far: the pieces and marks counted, the slots, and of all items the bytes, the codes and the names that they use
+-- what was made so far: the pieces and marks counted, the slots, and of all items the bytes, the tags and the names that they use
 pub record Making : Type 0 where
   pub node : Title
   pub piece : ℕ
   pub marks : ℕ
   pub made : List Slot
   pub bytes : List ℕ
-  pub codes : List ItemCode
+  pub tags : List ItemTag
   pub uses : List ℕ
 
 abbrev pub making : Inside → Making
@@ -23,10 +23,10 @@ making p = record {
   marks = p.marks;
   made = slots (title_of p.name) p.text.items 0 0 0 p.plan.items ++ byte_slots (drop p.start p.text.items);
   bytes = p.text.items;
-  codes = p.codes.items;
+  tags = p.tags.items;
   uses = p.uses.items;
 }
 
 -- nothing yet
 abbrev pub nothing_made : Title → Making
-nothing_made node = record { node = node; piece = 0; marks = 0; made = []; bytes = []; codes = []; uses = [] }
+nothing_made node = record { node = node; piece = 0; marks = 0; made = []; bytes = []; tags = []; uses = [] }

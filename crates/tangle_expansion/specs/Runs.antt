@@ -1,4 +1,4 @@
--- Texts of items that stand side by side in the source.
+-- Texts of items that are side by side in the source.
 use Rattle.std.specs.Prelude.{◌≡◌, ◌≤◌, ℕ, ◌-◌, Bool, List, [], ◌∷◌, ◌++◌, length, take, drop, flat_map, get_or}
 use Rattle.tangle_scan.specs.declared.items.Item.{Item}
 use Rattle.tangle_lexer.specs.declared.spans.Span.{Span}
@@ -6,12 +6,12 @@ use Rattle.tangle_scan.specs.Rules.{span_text}
 use Rattle.tangle_scan.specs.SourceOrder.{IsInRange, IsSpan}
 use Rattle.tangle_names.specs.NameTable.{TableRead}
 use Rattle.tangle_expansion.specs.Shapes.{Title}
-use Rattle.tangle_expansion.specs.ItemCodes.{bytes_in, code_in, names_in}
+use Rattle.tangle_expansion.specs.ItemTags.{bytes_in, tag_in, names_in}
 use Rattle.tangle_expansion.specs.ItemSlots.{marks_behind_item, item_slots, items_slots}
 use Rattle.tangle_expansion.specs.Slots.{byte_slots}
 use Rattle.tangle_expansion.specs.Planned.{Making}
-use Rattle.tangle_expansion.specs.declared.codes.ItemCode.{ItemCode}
-use Rattle.tangle_expansion.specs.declared.codes.ItemKind.{ItemKind}
+use Rattle.tangle_expansion.specs.declared.tags.ItemTag.{ItemTag}
+use Rattle.tangle_expansion.specs.declared.tags.ItemKind.{ItemKind}
 use Rattle.tangle_expansion.specs.declared.runs.Run.{Run}
 
 -- the item is its text, of this kind and this range
@@ -21,7 +21,7 @@ pub record IsTextOf (item : Item) (kind : ItemKind) (s : Span) : Type 0 where
   pub slots : (texts : List (List ℕ)) (table : TableRead) (has_piece : ℕ → Bool) (node : Title) (piece marks : ℕ)
       → item_slots texts table has_piece node piece marks item ≡ byte_slots (span_text texts s)
   pub marks : (marks : ℕ) → marks_behind_item marks item ≡ marks
-  pub code : (table : TableRead) → code_in table item ≡ record { kind = kind; size = s.end - s.start }
+  pub tag : (table : TableRead) → tag_in table item ≡ record { kind = kind; size = s.end - s.start }
   pub no_use : (table : TableRead) → names_in table item ≡ []
 
 -- the bytes of a range that is still to be copied
@@ -39,14 +39,14 @@ pub record IsJoined (run : Run) (span : Span) (more : Run) : Type 0 where
   pub range : (texts : List (List ℕ)) → IsKept texts run → IsSpan texts span → IsKept texts more
   pub text : (texts : List (List ℕ)) → IsKept texts run → IsSpan texts span → run_bytes run ++ span_text texts span ≡ run_bytes more
 
--- a range with an item behind it, which has this code, is a longer one
-pub record IsRunWith (run : Run) (item : Item) (code : ItemCode) (more : Run) : Type 0 where
+-- a range with an item behind it, which has this tag, is a longer one
+pub record IsRunWith (run : Run) (item : Item) (tag : ItemTag) (more : Run) : Type 0 where
   pub range : (texts : List (List ℕ)) → IsKept texts run → IsInRange texts item → IsKept texts more
   pub bytes : (texts : List (List ℕ)) → IsKept texts run → IsInRange texts item → run_bytes run ++ bytes_in texts item ≡ run_bytes more
   pub slots : (texts : List (List ℕ)) (table : TableRead) (has_piece : ℕ → Bool) (node : Title) (piece marks : ℕ)
       → item_slots texts table has_piece node piece marks item ≡ byte_slots (bytes_in texts item)
   pub marks : (marks : ℕ) → marks_behind_item marks item ≡ marks
-  pub item_code : (table : TableRead) → code_in table item ≡ code
+  pub item_tag : (table : TableRead) → tag_in table item ≡ tag
   pub no_use : (table : TableRead) → names_in table item ≡ []
 
 -- a range with all these items behind it is a longer one
@@ -66,7 +66,7 @@ pub record AddsItem (texts : List (List ℕ)) (table : TableRead) (has_piece : �
   pub made : new.made ++ byte_slots (run_bytes next)
       ≡ (old.made ++ byte_slots (run_bytes run)) ++ item_slots texts table has_piece old.node old.piece old.marks item
   pub bytes : new.bytes ++ run_bytes next ≡ (old.bytes ++ run_bytes run) ++ bytes_in texts item
-  pub codes : new.codes ≡ old.codes ++ code_in table item ∷ []
+  pub tags : new.tags ≡ old.tags ++ tag_in table item ∷ []
   pub uses : new.uses ≡ old.uses ++ names_in table item
 
 -- a text of this kind, which is a range, was added so
@@ -76,5 +76,5 @@ pub record AddsText (texts : List (List ℕ)) (kind : ItemKind) (s : Span) (run 
   pub marks : new.marks ≡ old.marks
   pub made : new.made ++ byte_slots (run_bytes next) ≡ (old.made ++ byte_slots (run_bytes run)) ++ byte_slots (span_text texts s)
   pub bytes : new.bytes ++ run_bytes next ≡ (old.bytes ++ run_bytes run) ++ span_text texts s
-  pub codes : new.codes ≡ old.codes ++ record { kind = kind; size = s.end - s.start } ∷ []
+  pub tags : new.tags ≡ old.tags ++ record { kind = kind; size = s.end - s.start } ∷ []
   pub uses : new.uses ≡ old.uses

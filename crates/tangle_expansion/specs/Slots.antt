@@ -1,16 +1,16 @@
--- What a plan says of a node by itself: its own parts, and where it uses which names.
+-- What a plan says of a node by itself: its own symbols, and where it uses which names.
 use Rattle.std.specs.Prelude.{◌≡◌, ◌≤◌, ℕ, ◌+◌, Bool, true, false, nat_lt, if◌then◌else◌, List, [], ◌∷◌, ◌++◌, length, map, flat_map}
 use Rattle.std.specs.List.{AllByRecursion}
 use Rattle.tangle_files.specs.Bytes.{space}
 use Rattle.tangle_expansion.specs.Shapes.{Title}
-use Rattle.tangle_expansion.specs.Flat.{Part, Byte, Opening, MarkOf, Closing, AllMacros}
+use Rattle.tangle_expansion.specs.Flat.{Symbol, Byte, Opening, MarkOf, Closing, AllMacros}
 use Rattle.tangle_expansion.specs.Meaning.{bytes_between, pieces_passed, marks_passed, bytes_passed}
 use Rattle.tangle_expansion.specs.declared.expansion.Step.{Step}
 use Rattle.tangle_expansion.specs.declared.expansion.Step.TheVariants as step
 
--- a part of its own, or a use of the name with this number
+-- a symbol of its own, or a use of the name with this number
 pub data Slot : Type 0 where
-  Own : Part → Slot
+  Own : Symbol → Slot
   Used : ℕ → Slot
 
 module _ (node : Title) (text : List ℕ) where
@@ -28,13 +28,13 @@ module _ (node : Title) (text : List ℕ) where
   slots piece marks start (s ∷ plan) =
       step_slots piece marks start s ++ slots (pieces_passed piece s) (marks_passed marks s) (bytes_passed start s) plan
 
--- a slot with the parts of the names
-abbrev pub filled_slot : (ℕ → List Part) → Slot → List Part
-filled_slot parts (Own part) = part ∷ []
-filled_slot parts (Used id) = Byte space ∷ parts id
+-- a slot with the symbols of the names
+abbrev pub filled_slot : (ℕ → List Symbol) → Slot → List Symbol
+filled_slot symbols (Own symbol) = symbol ∷ []
+filled_slot symbols (Used id) = Byte space ∷ symbols id
 
-abbrev pub filled : (ℕ → List Part) → List Slot → List Part
-filled parts ss = flat_map (filled_slot parts) ss
+abbrev pub filled : (ℕ → List Symbol) → List Slot → List Symbol
+filled symbols ss = flat_map (filled_slot symbols) ss
 
 -- the names that a step uses
 abbrev pub step_uses : Step → List ℕ
@@ -50,7 +50,7 @@ abbrev pub uses_of : List Step → List ℕ
 uses_of [] = []
 uses_of (s ∷ plan) = step_uses s ++ uses_of plan
 
--- where a plan stands at its end
+-- where a plan is at its end
 
 abbrev pub pieces_after : ℕ → List Step → ℕ
 pieces_after piece [] = piece

@@ -1,16 +1,16 @@
--- How long the text of a part can be.
+-- How long the text of a symbol can be.
 use Rattle.std.specs.Prelude.{◌<◌, ◌≤◌, ◌^◌, ℕ, List, length}
 use Rattle.std.specs.List.{All}
 use Rattle.tangle_lines.specs.declared.faults.Origin.{Origin}
-use Rattle.tangle_expansion.specs.Flat.{Part}
-use Rattle.tangle_expansion.specs.Numbers.{PieceNumbersRead, NumbersRead, part_text}
+use Rattle.tangle_expansion.specs.Flat.{Symbol}
+use Rattle.tangle_expansion.specs.Numbers.{PieceNumbersRead, NumbersRead, symbol_text}
 
--- the text of a part has at most so many bytes: a file name and the macros have less than 2 ^ 64
-unfoldable pub longest_part : ℕ
-longest_part = 2 ^ 66
+-- the text of a symbol has at most so many bytes: a file name and the macros have less than 2 ^ 64
+unfoldable pub longest_symbol : ℕ
+longest_symbol = 2 ^ 66
 
-abbrev pub PartsAreShort : NumbersRead → Type 0
-PartsAreShort numbers = (part : Part) → length (part_text numbers part) ≤ longest_part
+abbrev pub SymbolsAreShort : NumbersRead → Type 0
+SymbolsAreShort numbers = (symbol : Symbol) → length (symbol_text numbers symbol) ≤ longest_symbol
 
 abbrev pub IsLow : Origin → Type 0
 IsLow place = place.line < 2 ^ 32

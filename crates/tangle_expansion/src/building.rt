@@ -1,12 +1,16 @@
-//! Taking the numbers of a web: of each node's pieces the section numbers and the places of the marks.
-ghost use Rattle.std.specs.Prelude.{◌≡◌, ◌<◌, ◌^◌, ◌∷◌, ◌++◌, ℕ, length, map, flat_map, vec_len, IfOk, OnOk};
+//! Taking the numbers of a web: of each node's pieces the section numbers and the places of the
+//! marks.
+ghost use Rattle.std.specs.Prelude.{◌≡◌, ◌<◌, ◌^◌, ◌∷◌, ◌++◌, ℕ, length, map, flat_map, vec_len};
+ghost use Rattle.std.specs.Prelude.{IfOk, OnOk};
 ghost use Rattle.std.specs.List.{All};
 ghost use Rattle.tangle_names.specs.NameTable.{table_of};
 ghost use Rattle.tangle_expansion.specs.Shapes.{Program};
-ghost use Rattle.tangle_expansion.specs.Projects.{pieces_of};
+ghost use Rattle.tangle_expansion.specs.WebShapes.{pieces_of};
 ghost use Rattle.tangle_expansion.specs.ItemSlots.{pieces_at};
 ghost use Rattle.tangle_expansion.specs.Nodes.{IsGroupedBy};
-ghost use Rattle.tangle_expansion.specs.Numbers.{escaped_byte, escaped, item_places, piece_numbers as numbers_of_piece_read, numbers_of, name_numbers};
+ghost use Rattle.tangle_expansion.specs.Numbers.{escaped_byte, escaped, item_places};
+ghost use Rattle.tangle_expansion.specs.Numbers.{piece_numbers as numbers_of_piece_read};
+ghost use Rattle.tangle_expansion.specs.Numbers.{numbers_of, name_numbers};
 ghost use Rattle.tangle_expansion.specs.NumbersKept.{entries_of};
 ghost use Rattle.tangle_expansion.specs.TextLimits.{IsShort, IsLow, EntryIsShort};
 
@@ -45,7 +49,8 @@ fn add_place(places: &mut Vec<Origin>, item: Item) -> Result<(), NoMemory>
 
 /// The places of a piece's marks, its opening mark's first.
 fn mark_places(alloc: Global, piece: &Piece) -> Result<Vec<Origin>, NoMemory>
-    ensures are { IfOk result (λ places. places.items ≡ piece.now.place ∷ flat_map item_places piece.now.items) }
+    ensures are { IfOk result
+        (λ places. places.items ≡ piece.now.place ∷ flat_map item_places piece.now.items) }
     ensures low { IfOk result (λ places. All IsLow places.items) }
 {
     let mut places = Vec::new(alloc);
@@ -75,7 +80,8 @@ fn numbers_of_pieces(
     pieces: &[usize],
 ) -> Result<Vec<PieceNumbers>, NoMemory>
     requires { All (λ n. n < length web.now.pieces) pieces.now }
-    ensures are { IfOk result (λ all. all.items ≡ map numbers_of_piece_read (pieces_at web.now.pieces pieces.now)) }
+    ensures are { IfOk result
+        (λ all. all.items ≡ map numbers_of_piece_read (pieces_at web.now.pieces pieces.now)) }
     ensures short { IfOk result (λ all. All IsShort all.items) }
 {
     let mut all = Vec::new(alloc);
@@ -110,7 +116,8 @@ fn escaped_name(alloc: Global, name: &[u8]) -> Result<Vec<u8>, NoMemory>
 
 /// The names of the files, as line marks have them.
 fn escaped_names(alloc: Global, web: &Web) -> Result<Vec<Vec<u8>>, NoMemory>
-    ensures are { IfOk result (λ names. map (λ n. n.items) names.items ≡ map escaped web.now.file_names) }
+    ensures are { IfOk result
+        (λ names. map (λ n. n.items) names.items ≡ map escaped web.now.file_names) }
     ensures short { IfOk result (λ names. All (λ n. vec_len n < 2 ^ 64) names.items) }
 {
     let mut names = Vec::new(alloc);
@@ -131,7 +138,8 @@ fn numbers_of_names<S: PiecesByNode>(
     store: &S,
 ) -> Result<IndexMap<Vec<u8>, Vec<PieceNumbers>>, NoMemory>
     requires { IsGroupedBy web.now (table_of web.now) (S.names store.now) (S.pieces store.now) }
-    ensures are { IfOk result (λ names. entries_of names ≡ name_numbers web.now (table_of web.now)) }
+    ensures are { IfOk result
+        (λ names. entries_of names ≡ name_numbers web.now (table_of web.now)) }
     ensures short { IfOk result (λ names. All EntryIsShort (entries_of names)) }
 {
     names_are_the_full_names();
@@ -145,11 +153,12 @@ fn numbers_of_names<S: PiecesByNode>(
 }
 
 impl Numbers {
-    /// What the texts of a web's expansions take from it: section numbers, the places of marks and the text of the macros.
+    /// What the texts of a web's expansions take from it: section numbers, the places of marks and
+    /// the text of the macros.
     ///
     /// # Errors
     ///
-    /// `NoMemory`, where a growth was refused.
+    /// `NoMemory`, where an allocation failed.
     pub fn build<S: PiecesByNode>(
         alloc: Global,
         web: &Web,

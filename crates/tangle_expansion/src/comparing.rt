@@ -1,30 +1,33 @@
 //! Comparing what is kept of a node with the pieces of a web that it has now, item by item. Nothing
 //! is made for it.
-ghost use Rattle.std.specs.Prelude.{◌≡◌, ◌≢◌, ◌↔◌, ◌∷◌, ◌++◌, ◌<◌, ◌≤◌, true, ℕ, Bool, List, [], length, drop, filter, MatchOption, IfSome};
+ghost use Rattle.std.specs.Prelude.{◌≡◌, ◌≢◌, ◌↔◌, ◌∷◌, ◌++◌, ◌<◌, ◌≤◌, true, ℕ, Bool, List, []};
+ghost use Rattle.std.specs.Prelude.{length, drop, filter, MatchOption, IfSome};
 ghost use Rattle.std.specs.List.{All};
 ghost use Rattle.tangle_scan.specs.SourceOrder.{IsInRange, IsSpan};
 ghost use Rattle.tangle_scan.specs.WellFormed.{IsUseBelow};
 ghost use Rattle.tangle_expansion.specs.Comparing.{HasItemsOf, IsPlanned};
-ghost use Rattle.tangle_expansion.specs.Fronts.{GoOnAs, IsBehind, IsNotBehind, IsBehindPlace, IsNotBehindPlace, lists_left, lists_at, no_lists, with_range, with_byte, with_code, with_text, with_item, with_items, with_shape};
-ghost use Rattle.tangle_expansion.specs.ItemCodes.{bytes_in, names_in, names_resolved, pieces_names, shape_of};
-ghost use Rattle.tangle_expansion.specs.Codes.{piece_end};
+ghost use Rattle.tangle_expansion.specs.Fronts.{GoOnAs, IsBehind, IsNotBehind, IsBehindPlace};
+ghost use Rattle.tangle_expansion.specs.Fronts.{IsNotBehindPlace, lists_left, lists_at, no_lists};
+ghost use Rattle.tangle_expansion.specs.Fronts.{with_range, with_byte, with_tag, with_text};
+ghost use Rattle.tangle_expansion.specs.Fronts.{with_item, with_items, with_shape};
+ghost use Rattle.tangle_expansion.specs.ItemTags.{bytes_in, names_in, names_resolved, pieces_names};
+ghost use Rattle.tangle_expansion.specs.ItemTags.{shape_of};
+ghost use Rattle.tangle_expansion.specs.Tags.{piece_end};
 ghost use Rattle.tangle_expansion.specs.ItemSlots.{pieces_at, pieces_slots};
-ghost use Rattle.tangle_expansion.specs.NodeTexts.{node_title, plan_slots, plan_uses, HoldsShape};
+ghost use Rattle.tangle_expansion.specs.NodeBodies.{node_title, plan_slots, plan_uses, HoldsShape};
 ghost use Rattle.tangle_expansion.specs.Runs.{IsKept, run_bytes};
 
-use crate::codes::{
-    ItemCode, ItemKind, code_of, code_of_blank, code_of_span, end_of_piece, same_code,
-};
-use crate::expansion::NodeText;
+use crate::expansion::NodeBody;
 use crate::runs::{Run, end_of, joined, no_run, run_of, text_of, with_space};
+use crate::tags::{ItemKind, ItemTag, end_of_piece, same_tag, tag_of, tag_of_blank, tag_of_span};
 use itoa::Buffer;
 use tangle_names::{NameTable, Resolved};
 use tangle_scan::{Item, Span, Web};
 
-/// The codes, bytes and uses of a node that are still to be compared.
+/// The tags, bytes and uses of a node that are still to be compared.
 #[derive(Clone, Copy)]
 pub(crate) struct Left<'o> {
-    pub(crate) codes: &'o [ItemCode],
+    pub(crate) tags: &'o [ItemTag],
     pub(crate) text: &'o [u8],
     pub(crate) uses: &'o [usize],
 }
@@ -121,12 +124,12 @@ fn behind_use<'o>(uses: &'o [usize], table: &NameTable, item: &Item) -> Option<&
     }
 }
 
-/// The place behind a text of this kind, if it comes next, with this code. One that begins where
+/// The place behind a text of this kind, if it comes next, with this tag. One that begins where
 /// the range ends makes that longer.
 #[inline(always)]
 fn behind_text<'w, 'o>(
     place: Place<'w, 'o>,
-    code: ItemCode,
+    tag: ItemTag,
     web: &'w Web,
     kind: ItemKind,
     span: Span,
@@ -135,10 +138,10 @@ fn behind_text<'w, 'o>(
     requires span { IsSpan web.now.texts span }
     ensures run { IfSome result (λ next. IsKept web.now.texts next.run) }
     ensures place { MatchOption result
-        (IsNotBehindPlace (with_text web.now.texts kind span) code place.entry)
-        (λ next. IsBehindPlace (with_text web.now.texts kind span) code place.entry next) }
+        (IsNotBehindPlace (with_text web.now.texts kind span) tag place.entry)
+        (λ next. IsBehindPlace (with_text web.now.texts kind span) tag place.entry next) }
 {
-    if !same_code(code, code_of_span(kind, span)) {
+    if !same_tag(tag, tag_of_span(kind, span)) {
         return None;
     }
     if let Some(end) = joined(place.run, span) {
@@ -150,13 +153,13 @@ fn behind_text<'w, 'o>(
     Some(Place { run, text, ..place })
 }
 
-/// The place behind an item of one byte, if it comes next: the code that is there has to be the
+/// The place behind an item of one byte, if it comes next: the tag that is there has to be the
 /// expected one.
 #[inline(always)]
 fn behind_one_byte<'w, 'o>(
     place: Place<'w, 'o>,
-    code: ItemCode,
-    expected: ItemCode,
+    tag: ItemTag,
+    expected: ItemTag,
     byte: u8,
 ) -> Option<Place<'w, 'o>>
     requires start { place.run.start ≤ place.run.end }
@@ -164,10 +167,10 @@ fn behind_one_byte<'w, 'o>(
     ensures run { IfSome result (λ next. (texts : List (List ℕ)) → IsKept texts place.entry.run
         → IsKept texts next.run) }
     ensures place { MatchOption result
-        (IsNotBehindPlace (with_byte expected byte) code place.entry)
-        (λ next. IsBehindPlace (with_byte expected byte) code place.entry next) }
+        (IsNotBehindPlace (with_byte expected byte) tag place.entry)
+        (λ next. IsBehindPlace (with_byte expected byte) tag place.entry next) }
 {
-    if !same_code(code, expected) {
+    if !same_tag(tag, expected) {
         return None;
     }
     let text = behind_run(place.text, place.run)?;
@@ -176,11 +179,11 @@ fn behind_one_byte<'w, 'o>(
     Some(Place { run, text, ..place })
 }
 
-/// The place behind an item, if it comes next, with this code. No range is made longer.
+/// The place behind an item, if it comes next, with this tag. No range is made longer.
 #[inline(always)]
 fn behind_rare<'w, 'o>(
     place: Place<'w, 'o>,
-    code: ItemCode,
+    tag: ItemTag,
     web: &'w Web,
     table: &NameTable,
     item: &Item,
@@ -190,10 +193,10 @@ fn behind_rare<'w, 'o>(
     requires run { IsKept web.now.texts place.run }
     ensures run { IfSome result (λ next. IsKept web.now.texts next.run) }
     ensures place { MatchOption result
-        (IsNotBehindPlace (with_item web.now.texts table.now item.now) code place.entry)
-        (λ next. IsBehindPlace (with_item web.now.texts table.now item.now) code place.entry next) }
+        (IsNotBehindPlace (with_item web.now.texts table.now item.now) tag place.entry)
+        (λ next. IsBehindPlace (with_item web.now.texts table.now item.now) tag place.entry next) }
 {
-    if !same_code(code, code_of(item, table)) {
+    if !same_tag(tag, tag_of(item, table)) {
         return None;
     }
     let text = behind_run(place.text, place.run)?;
@@ -203,12 +206,12 @@ fn behind_rare<'w, 'o>(
     Some(Place { run, text, uses })
 }
 
-/// The place behind an item without a text, if it comes next, with this code. White space and line
+/// The place behind an item without a text, if it comes next, with this tag. White space and line
 /// ends are common, so they have their own ways.
 #[inline(always)]
 fn behind_other<'w, 'o>(
     place: Place<'w, 'o>,
-    code: ItemCode,
+    tag: ItemTag,
     web: &'w Web,
     table: &NameTable,
     item: &Item,
@@ -218,30 +221,30 @@ fn behind_other<'w, 'o>(
     requires run { IsKept web.now.texts place.run }
     ensures run { IfSome result (λ next. IsKept web.now.texts next.run) }
     ensures place { MatchOption result
-        (IsNotBehindPlace (with_item web.now.texts table.now item.now) code place.entry)
-        (λ next. IsBehindPlace (with_item web.now.texts table.now item.now) code place.entry next) }
+        (IsNotBehindPlace (with_item web.now.texts table.now item.now) tag place.entry)
+        (λ next. IsBehindPlace (with_item web.now.texts table.now item.now) tag place.entry next) }
 {
     match *item {
         Item::Blank => {
             if let Some(end) = with_space(place.run, item) {
-                if !same_code(code, code_of_blank()) {
+                if !same_tag(tag, tag_of_blank()) {
                     return None;
                 }
                 let run = Run { end, ..place.run };
                 return Some(Place { run, ..place });
             }
-            behind_one_byte(place, code, code_of_blank(), b' ')
+            behind_one_byte(place, tag, tag_of_blank(), b' ')
         }
-        Item::LineEnd => behind_one_byte(place, code, code_of(item, table), b'\n'),
-        _ => behind_rare(place, code, web, table, item),
+        Item::LineEnd => behind_one_byte(place, tag, tag_of(item, table), b'\n'),
+        _ => behind_rare(place, tag, web, table, item),
     }
 }
 
-/// The place behind an item, if it comes next, with this code.
+/// The place behind an item, if it comes next, with this tag.
 #[inline(always)]
 fn behind_item<'w, 'o>(
     place: Place<'w, 'o>,
-    code: ItemCode,
+    tag: ItemTag,
     web: &'w Web,
     table: &NameTable,
     item: &Item,
@@ -251,16 +254,16 @@ fn behind_item<'w, 'o>(
     requires run { IsKept web.now.texts place.run }
     ensures run { IfSome result (λ next. IsKept web.now.texts next.run) }
     ensures place { MatchOption result
-        (IsNotBehindPlace (with_item web.now.texts table.now item.now) code place.entry)
-        (λ next. IsBehindPlace (with_item web.now.texts table.now item.now) code place.entry next) }
+        (IsNotBehindPlace (with_item web.now.texts table.now item.now) tag place.entry)
+        (λ next. IsBehindPlace (with_item web.now.texts table.now item.now) tag place.entry next) }
 {
     match text_of(item) {
-        Some((kind, span)) => behind_text(place, code, web, kind, span),
-        None => behind_other(place, code, web, table, item),
+        Some((kind, span)) => behind_text(place, tag, web, kind, span),
+        None => behind_other(place, tag, web, table, item),
     }
 }
 
-/// The place behind these items, if they come next, with these codes. Texts of items that stand
+/// The place behind these items, if they come next, with these tags. Texts of items that are
 /// side by side in the source are compared at once.
 fn behind_items<'w, 'o>(
     left: Left<'o>,
@@ -270,22 +273,22 @@ fn behind_items<'w, 'o>(
 ) -> Option<Place<'w, 'o>>
     requires spans { All (IsInRange web.now.texts) items.now }
     requires names { All (IsUseBelow (length table.now.resolved)) items.now }
-    requires room { length items.now < length left.codes.now }
+    requires room { length items.now < length left.tags.now }
     ensures run { IfSome result (λ next. IsKept web.now.texts next.run) }
     ensures place { MatchOption result
         (IsNotBehind (with_items web.now.texts table.now items.now) (lists_left left.entry))
         (λ next. GoOnAs (lists_left left.entry) (with_items web.now.texts table.now items.now)
-        (lists_at (drop (length items.now) left.entry.codes.now) next)
-        (λ more. with_range next (with_code piece_end more))) }
+        (lists_at (drop (length items.now) left.entry.tags.now) next)
+        (λ more. with_range next (with_tag piece_end more))) }
 {
-    let codes = left.codes;
+    let tags = left.tags;
     let mut place = Place {
         run: no_run(web),
         text: left.text,
         uses: left.uses,
     };
     for (i, item) in items.iter().enumerate() {
-        place = behind_item(place, codes[i], web, table, item)?;
+        place = behind_item(place, tags[i], web, table, item)?;
     }
     Some(place)
 }
@@ -305,16 +308,16 @@ fn behind_piece<'o>(
         (lists_left next)) }
 {
     let count = items.len();
-    if left.codes.len() <= count {
+    if left.tags.len() <= count {
         return None;
     }
     let place = behind_items(left, web, table, items)?;
-    if !same_code(left.codes[count], end_of_piece()) {
+    if !same_tag(left.tags[count], end_of_piece()) {
         return None;
     }
     let text = behind_run(place.text, place.run)?;
     Some(Left {
-        codes: &left.codes[count + 1..],
+        tags: &left.tags[count + 1..],
         text,
         uses: place.uses,
     })
@@ -348,13 +351,13 @@ fn behind_pieces<'o>(
 fn is_nothing(left: Left) -> bool
     ensures { (result ≡ true) ↔ (lists_left left.entry ≡ no_lists) }
 {
-    left.codes.is_empty() && left.text.is_empty() && left.uses.is_empty()
+    left.tags.is_empty() && left.text.is_empty() && left.uses.is_empty()
 }
 
-/// Whether the codes, bytes and uses that are kept of a node are those of the pieces with these
+/// Whether the tags, bytes and uses that are kept of a node are those of the pieces with these
 /// numbers: then what is kept of it is what would be made of these pieces, under the same name and
 /// where the same names have a piece.
-pub fn is_same_node(old: &NodeText, web: &Web, table: &NameTable, numbers: &[usize]) -> bool
+pub fn is_same_node(old: &NodeBody, web: &Web, table: &NameTable, numbers: &[usize]) -> bool
     requires numbers { All (λ n. n < length web.now.pieces) numbers.now }
     requires ours { length table.now.resolved ≡ length web.now.occurrences }
     ensures same { (result ≡ true) ↔ HasItemsOf web.now.texts table.now
@@ -369,7 +372,7 @@ pub fn is_same_node(old: &NodeText, web: &Web, table: &NameTable, numbers: &[usi
         (pieces_at web.now.pieces numbers.now)) }
 {
     let left = Left {
-        codes: &old.codes,
+        tags: &old.tags,
         text: &old.text,
         uses: &old.uses,
     };

@@ -1,16 +1,17 @@
-//! How many parts a node has of its own, by its plan.
+//! How many symbols a node has of its own, by its plan.
 ghost use Rattle.std.specs.Prelude.{◌≡◌, ◌<◌, ◌^◌, ℕ, List, length, min};
-ghost use Rattle.tangle_expansion.specs.NodeTexts.{node_uses, plan_slots};
+ghost use Rattle.tangle_expansion.specs.NodeBodies.{node_uses, plan_slots};
 ghost use Rattle.tangle_expansion.specs.Shapes.{Program};
 ghost use Rattle.tangle_expansion.specs.Slots.{step_slots};
 
-use crate::expansion::{NodeText, Step};
+use crate::expansion::{NodeBody, Step};
 use crate::steps::bytes_behind;
 
-/// How many parts a step has behind so many bytes of a text of this size.
+/// How many symbols a step has behind so many bytes of a text of this size.
 #[tactic(auto, using(crate::proofs::CountLemmas::between_counted))]
-fn parts_of_step(step: Step, start: usize, size: usize) -> usize
-    ensures { (text : List ℕ) → length text ≡ size → length (step_slots Program text 0 0 start step) ≡ result }
+fn symbols_of_step(step: Step, start: usize, size: usize) -> usize
+    ensures { (text : List ℕ) → length text ≡ size → length (step_slots Program text 0 0 start step)
+        ≡ result }
 {
     match step {
         Step::Run(end) => end.min(size).saturating_sub(start),
@@ -19,17 +20,18 @@ fn parts_of_step(step: Step, start: usize, size: usize) -> usize
     }
 }
 
-impl NodeText {
-    /// How many parts the node has of its own, where each use of a name with a piece counts as one. What is more than a number can be counts
-    /// as the greatest number.
-    pub fn part_count(&self) -> usize
-        ensures { (cap : ℕ) → cap < 2 ^ 64 → min cap result ≡ min cap (length (plan_slots self.now)) }
+impl NodeBody {
+    /// How many symbols the node has of its own, where each use of a name with a piece counts as
+    /// one. What is more than a number can be counts as the greatest number.
+    pub fn symbol_count(&self) -> usize
+        ensures { (cap : ℕ) → cap < 2 ^ 64 → min cap result
+            ≡ min cap (length (plan_slots self.now)) }
     {
         let size = self.text.len();
         let mut count: usize = 0;
         let mut start = 0;
         for step in self.plan.as_slice() {
-            count = count.saturating_add(parts_of_step(*step, start, size));
+            count = count.saturating_add(symbols_of_step(*step, start, size));
             start = bytes_behind(start, *step);
         }
         count

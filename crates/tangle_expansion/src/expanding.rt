@@ -1,13 +1,14 @@
 //! The expansion of a node, by those of the names that it uses.
-ghost use Rattle.std.specs.Prelude.{◌≡◌, ◌++◌, ℕ, map, Contains, IfOk, OnOk, OnErr, IsSome, Some, ◌∷◌, []};
-ghost use Rattle.tangle_expansion.specs.Kept.{kept_at, used_parts};
+ghost use Rattle.std.specs.Prelude.{◌≡◌, ◌++◌, ℕ, map, Contains, IfOk, OnOk, OnErr, IsSome, Some};
+ghost use Rattle.std.specs.Prelude.{◌∷◌, []};
+ghost use Rattle.tangle_expansion.specs.Kept.{kept_at, used_symbols};
 ghost use Rattle.tangle_expansion.specs.Meaning.{title_of};
 ghost use Rattle.tangle_expansion.specs.Slots.{slots, filled, step_uses, uses_of};
-ghost use Rattle.tangle_expansion.specs.NodeTexts.{plan_uses, plan_slots};
-ghost use Rattle.tangle_expansion.specs.declared.expansion.NodeText.{NodeText};
+ghost use Rattle.tangle_expansion.specs.NodeBodies.{plan_uses, plan_slots};
+ghost use Rattle.tangle_expansion.specs.declared.expansion.NodeBody.{NodeBody};
 ghost use Rattle.tangle_expansion.specs.declared.nodes.Node.TheVariants as node_kind;
 
-use crate::expansion::{Body, Expansion, NodeText, Step};
+use crate::expansion::{Expansion, NodeBody, SharedExpansion, Step};
 use crate::kept::Kept;
 use crate::nodes::{Node, PiecesByNode};
 use crate::work::Work;
@@ -17,8 +18,10 @@ use tangle_lines::NoMemory;
 
 /// Shares the expansion of the name that a step uses, if it uses one.
 fn share_used(used: &mut Vec<Expansion>, step: Step, kept: &Kept) -> Result<(), NoMemory>
-    requires { (id : ℕ) → Contains (step_uses step) id → IsSome (kept_at kept.now (node_kind.Name id)) }
-    ensures { OnOk result (used.new.items ≡ used.old.items ++ map (used_parts kept.now) (step_uses step)) }
+    requires { (id : ℕ) → Contains (step_uses step) id
+        → IsSome (kept_at kept.now (node_kind.Name id)) }
+    ensures { OnOk result (used.new.items ≡ used.old.items
+        ++ map (used_symbols kept.now) (step_uses step)) }
 {
     match step {
         Step::Use(id) => {
@@ -30,12 +33,16 @@ fn share_used(used: &mut Vec<Expansion>, step: Step, kept: &Kept) -> Result<(), 
     }
 }
 
-/// The expansion of a node: it shares the node's text and the kept expansions of the names that the node uses.
-fn expansion_of(alloc: Global, node: &Rc<NodeText>, kept: &Kept) -> Result<Expansion, NoMemory>
-    requires { (id : ℕ) → Contains (uses_of node.now.value.plan.items) id → IsSome (kept_at kept.now (node_kind.Name id)) }
-    ensures { IfOk result (λ e. e ≡ filled (used_parts kept.now) (slots (title_of node.now.value.name) node.now.value.text.items 0 0 0 node.now.value.plan.items)) }
+/// The expansion of a node: it shares the node's text and the kept expansions of the names that the
+/// node uses.
+fn expansion_of(alloc: Global, node: &Rc<NodeBody>, kept: &Kept) -> Result<Expansion, NoMemory>
+    requires { (id : ℕ) → Contains (uses_of node.now.value.plan.items) id
+        → IsSome (kept_at kept.now (node_kind.Name id)) }
+    ensures { IfOk result (λ e. e ≡ filled (used_symbols kept.now)
+        (slots (title_of node.now.value.name) node.now.value.text.items 0 0 0
+        node.now.value.plan.items)) }
 {
-    let stored: &NodeText = node;
+    let stored: &NodeBody = node;
     let mut used = Vec::new(alloc);
     for step in &stored.plan {
         share_used(&mut used, *step, kept)?;
@@ -44,14 +51,14 @@ fn expansion_of(alloc: Global, node: &Rc<NodeText>, kept: &Kept) -> Result<Expan
         Ok(node) => node,
         Err(_) => return Err(NoMemory),
     };
-    match Rc::new(alloc, Body { node, used }) {
-        Ok(body) => Ok(Expansion { body }),
+    match Rc::new(alloc, SharedExpansion { node, used }) {
+        Ok(shared) => Ok(Expansion { shared }),
         Err(_) => Err(NoMemory),
     }
 }
 
-/// Expands a node of a store: its own parts, with the expansions that are kept of the names with a
-/// piece that it uses where it uses them. The node goes last in the work's list.
+/// Expands a node of a store: its own symbols, with the expansions that are kept of the names with
+/// a piece that it uses where it uses them. The node goes last in the work's list.
 ///
 /// # Errors
 ///
@@ -64,14 +71,14 @@ pub fn expand<S: PiecesByNode>(
     work: &mut Work,
 ) -> Result<Expansion, NoMemory>
     requires text { IsSome (S.texts store.now node) }
-    requires kept { (text : NodeText) → S.texts store.now node ≡ Some text
+    requires kept { (text : NodeBody) → S.texts store.now node ≡ Some text
         → (id : ℕ) → Contains (plan_uses text) id → IsSome (kept_at kept.now (node_kind.Name id)) }
-    ensures right { IfOk result (λ e. (text : NodeText) → S.texts store.now node ≡ Some text
-        → e ≡ filled (used_parts kept.now) (plan_slots text)) }
+    ensures right { IfOk result (λ e. (text : NodeBody) → S.texts store.now node ≡ Some text
+        → e ≡ filled (used_symbols kept.now) (plan_slots text)) }
     ensures listed { OnOk result (work.new ≡ work.old ++ node ∷ []) }
     ensures err { OnErr result (work.new ≡ work.old) }
 {
-    let stored = store.node_text(node).unwrap();
+    let stored = store.node_body(node).unwrap();
     let expansion = expansion_of(alloc, stored, kept)?;
     work.add(node)?;
     Ok(expansion)

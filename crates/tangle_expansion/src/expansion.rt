@@ -1,7 +1,7 @@
 //! Expansions, which share the texts of their nodes and the expansions of the names that they use.
 ghost use Rattle.std.specs.Prelude.{◌≡◌, IfOk};
 
-use crate::codes::ItemCode;
+use crate::tags::ItemTag;
 use std::marker::Model;
 use std::rc::Rc;
 use tangle_lines::NoMemory;
@@ -19,42 +19,42 @@ pub(crate) enum Step {
     Macros,
     /// A use without a text: a space.
     Space,
-    /// A use of the name with this number, which has a piece: a space and the name's parts.
+    /// A use of the name with this number, which has a piece: a space and the name's symbols.
     Use(usize),
     /// A piece ends, with its closing.
     Close,
 }
 
-/// What is kept of a node: its name, the bytes of all its items, the plan of its parts, and besides, for comparing shapes, the codes of its
-/// items and the numbers of the names that they use.
+/// What is kept of a node: its name, the bytes of all its items, the plan of its symbols, and
+/// besides, for comparing shapes, the tags of its items and the numbers of the names that they use.
 #[derive(Drop)]
-pub struct NodeText {
+pub struct NodeBody {
     pub(crate) name: Option<Vec<u8>>,
     pub(crate) text: Vec<u8>,
     pub(crate) plan: Vec<Step>,
-    pub(crate) codes: Vec<ItemCode>,
+    pub(crate) tags: Vec<ItemTag>,
     pub(crate) uses: Vec<usize>,
 }
 
-/// What a node expands to: a list of parts.
+/// What a node expands to: a list of symbols.
 #[cycle(expansion)]
 #[derive(Drop)]
 pub struct Expansion {
-    pub(crate) body: Rc<Body>,
+    pub(crate) shared: Rc<SharedExpansion>,
 }
 
 #[cycle(expansion)]
 #[derive(Drop)]
-pub(crate) struct Body {
-    pub(crate) node: Rc<NodeText>,
+pub(crate) struct SharedExpansion {
+    pub(crate) node: Rc<NodeBody>,
     pub(crate) used: Vec<Expansion>,
 }
 
 impl Model for Expansion {
     ghost use Rattle.std.specs.Prelude.{List, length};
-    ghost use Rattle.tangle_expansion.specs.Flat.{Part};
+    ghost use Rattle.tangle_expansion.specs.Flat.{Symbol};
 
-    ghost Value = { List Part };
+    ghost Value = { List Symbol };
 
     ghost use Rattle.tangle_expansion.specs.Expanded.{meaning};
 
@@ -68,7 +68,7 @@ impl Model for Expansion {
 }
 
 impl Expansion {
-    /// The same parts, shared.
+    /// The same symbols, shared.
     ///
     /// # Errors
     ///
@@ -76,8 +76,8 @@ impl Expansion {
     pub fn share(&self) -> Result<Expansion, NoMemory>
         ensures { IfOk result (λ e. e ≡ self.now) }
     {
-        match self.body.clone() {
-            Ok(body) => Ok(Expansion { body }),
+        match self.shared.clone() {
+            Ok(shared) => Ok(Expansion { shared }),
             Err(_) => Err(NoMemory),
         }
     }

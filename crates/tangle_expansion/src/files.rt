@@ -1,8 +1,8 @@
 //! Output files, and their writing.
 ghost use Rattle.std.specs.Prelude.{◌≡◌, Bool, length, IsSome};
-ghost use Rattle.tangle_streams.specs.Streams.{PutsOut};
+ghost use Rattle.tangle_streams.specs.Streams.{IsWritten};
 ghost use Rattle.tangle_expansion.specs.Kept.{kept_at};
-ghost use Rattle.tangle_expansion.specs.Outputs.{IsReady, front_text, node_parts, output_text};
+ghost use Rattle.tangle_expansion.specs.Outputs.{IsReady, front_text, node_symbols, output_text};
 
 use crate::expansion::Expansion;
 use crate::kept::Kept;
@@ -11,7 +11,8 @@ use crate::numbers::Numbers;
 use std::marker::Model;
 use tangle_lines::{Sink, WriteFault, put};
 
-/// An output file of a web: the text of a node, with all macros in front where it is the main file and no C part has `@h`.
+/// An output file of a web: the text of a node, with all macros in front where it is the main file
+/// and no C part has `@h`.
 #[derive(Drop)]
 pub struct Output {
     name: Vec<u8>,
@@ -25,13 +26,26 @@ impl Model for Output {
 
     ghost Value = { OutputRead };
 
-    ghost view = { λ o. record { name = o.name.items; node = o.node; has_macros = o.has_macros; has_piece = o.has_piece } };
+    ghost view = { λ o. record {
+      name = o.name.items;
+      node = o.node;
+      has_macros =
+          o.has_macros;
+      has_piece = o.has_piece;
+    } };
 }
 
 impl Output {
-    /// The file of this name with the text of a node: whether all macros begin it, and whether the node has a piece.
+    /// The file of this name with the text of a node: whether all macros begin it, and whether the
+    /// node has a piece.
     pub fn new(name: Vec<u8>, node: Node, has_macros: bool, has_piece: bool) -> Output
-        ensures { result ≡ record { name = name.items; node = node; has_macros = has_macros; has_piece = has_piece } }
+        ensures { result ≡ record {
+          name = name.items;
+          node = node;
+          has_macros =
+              has_macros;
+          has_piece = has_piece;
+        } }
     {
         Output {
             name,
@@ -70,7 +84,7 @@ impl Output {
     }
 }
 
-/// What stands in front of the text of a file's node: the macros, or nothing.
+/// What is in front of the text of a file's node: the macros, or nothing.
 fn front_of<'a>(output: &Output, numbers: &'a Numbers) -> &'a [u8]
     ensures { result.now ≡ front_text numbers.now output.now.has_macros }
 {
@@ -84,13 +98,13 @@ fn front_of<'a>(output: &Output, numbers: &'a Numbers) -> &'a [u8]
 /// The expansion that is kept of the node.
 fn expansion_of(kept: &Kept, node: Node) -> &Expansion
     requires { IsSome (kept_at kept.now node) }
-    ensures { result.now ≡ node_parts kept.now node }
+    ensures { result.now ≡ node_symbols kept.now node }
 {
     kept.get(node).unwrap()
 }
 
-/// Writes an output file: the macros, if they begin it, and the text of its node and a line feed, if the node has a piece. It answers how many
-/// bytes the file has.
+/// Writes an output file: the macros, if they begin it, and the text of its node and a line feed,
+/// if the node has a piece. It answers how many bytes the file has.
 ///
 /// # Errors
 ///
@@ -102,10 +116,10 @@ pub fn write_file<S: Sink>(
     sink: &mut S,
 ) -> Result<u128, WriteFault>
     requires { IsReady output.now kept.now }
-    ensures { PutsOut (S.stream sink.old) (S.stream sink.new)
+    ensures { IsWritten (S.stream sink.old) (S.stream sink.new)
         (output_text numbers.now kept.now output.now) result }
 {
-    numbers.parts_are_short();
+    numbers.symbols_are_short();
     let begun = put(sink, Ok(0), front_of(output, numbers));
     if !output.has_piece() {
         return begun;

@@ -2,8 +2,9 @@
 ghost use Rattle.std.specs.Prelude.{◌≡◌, ◌++◌, ◌<◌, ◌^◌, IfOk, OnOk, decimal, flat_map, length};
 ghost use Rattle.std.specs.List.{All};
 ghost use Rattle.tangle_scan.specs.SourceOrder.{IsInRange};
-ghost use Rattle.tangle_expansion.specs.ItemCodes.{bytes_in};
-ghost use Rattle.tangle_expansion.specs.MacroTexts.{is_gap_item, trimmed, macro_item_text, macro_text};
+ghost use Rattle.tangle_expansion.specs.ItemTags.{bytes_in};
+ghost use Rattle.tangle_expansion.specs.MacroTexts.{is_gap_item, without_end_gaps, macro_item_text};
+ghost use Rattle.tangle_expansion.specs.MacroTexts.{macro_text};
 
 use itoa::Buffer;
 use std::alloc::Global;
@@ -56,7 +57,7 @@ fn is_gap(item: Item) -> bool
 
 /// The items without the blanks and line ends at their end.
 fn without_end_gaps(items: &[Item]) -> &[Item]
-    ensures { result.now ≡ trimmed items.now }
+    ensures { result.now ≡ without_end_gaps items.now }
 {
     let mut end = items.len();
     while end > 0 {
@@ -83,7 +84,8 @@ fn push_macro(text: &mut Vec<u8>, web: &Web, items: &[Item]) -> Result<(), NoMem
 
 /// The text of all macros, in the order of the source.
 pub(crate) fn macros_text(alloc: Global, web: &Web) -> Result<Vec<u8>, NoMemory>
-    ensures { IfOk result (λ text. text.items ≡ flat_map (macro_text web.now.texts) web.now.macros) }
+    ensures { IfOk result (λ text. text.items
+        ≡ flat_map (macro_text web.now.texts) web.now.macros) }
 {
     let mut text = Vec::new(alloc);
     for definition in web.macros() {

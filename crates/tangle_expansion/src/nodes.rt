@@ -1,11 +1,12 @@
-//! The nodes of a web, and what a store tells of them.
-ghost use Rattle.std.specs.Prelude.{◌≡◌, ◌<◌, ℕ, List, [], length, slice_index_or, Option, Some, None, IfSome, IfNone};
+//! The nodes of a web, and what a store reports them.
+ghost use Rattle.std.specs.Prelude.{◌≡◌, ◌<◌, ℕ, List, [], length, slice_index_or, Option, Some};
+ghost use Rattle.std.specs.Prelude.{None, IfSome, IfNone};
 ghost use Rattle.tangle_expansion.specs.Nodes.{IsNodeBelow};
-ghost use Rattle.tangle_expansion.specs.declared.expansion.NodeText.{NodeText};
+ghost use Rattle.tangle_expansion.specs.declared.expansion.NodeBody.{NodeBody};
 ghost use Rattle.tangle_expansion.specs.declared.nodes.Node.{Node};
 ghost use Rattle.tangle_expansion.specs.declared.nodes.Node.TheVariants as node_kind;
 
-use crate::expansion::NodeText;
+use crate::expansion::NodeBody;
 use std::rc::Rc;
 
 /// A node of a web: a full name by its number in the table of names, or the unnamed program.
@@ -33,7 +34,8 @@ impl Node {
     }
 }
 
-/// What tells the full names of a web and, of each node by its number, the pieces and what is kept of them.
+/// What gives the full names of a web and, of each node by its number, the pieces and what is kept
+/// of them.
 pub trait PiecesByNode {
     // The texts of the names, in the order of their numbers.
     ghost names: { Self → List (List ℕ) };
@@ -42,7 +44,7 @@ pub trait PiecesByNode {
     ghost pieces: { Self → Node → List ℕ };
 
     // What is kept of a node, if it is one of the web.
-    ghost texts: { Self → Node → Option NodeText };
+    ghost texts: { Self → Node → Option NodeBody };
 
     /// How many full names there are.
     fn name_count(&self) -> usize
@@ -59,7 +61,7 @@ pub trait PiecesByNode {
         ensures { result.now ≡ pieces self.now node };
 
     /// What is kept of the node, if it is one of the web.
-    fn node_text(&self, node: Node) -> Option<&Rc<NodeText>>
+    fn node_body(&self, node: Node) -> Option<&Rc<NodeBody>>
         ensures some { IfSome result (λ text. texts self.now node ≡ Some text.now.value) }
         ensures none { IfNone result (texts self.now node ≡ None) };
 }

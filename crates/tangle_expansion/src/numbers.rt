@@ -2,10 +2,11 @@
 ghost use Rattle.std.specs.Prelude.{◌≡◌, ◌<◌, ◌^◌, ℕ, [], get_or, map, vec_len};
 ghost use Rattle.std.specs.List.{All};
 ghost use Rattle.tangle_expansion.specs.Meaning.{title_of};
-ghost use Rattle.tangle_expansion.specs.Numbers.{PieceNumbersRead, node_numbers, no_numbers, no_place};
+ghost use Rattle.tangle_expansion.specs.Numbers.{PieceNumbersRead, node_numbers, no_numbers};
+ghost use Rattle.tangle_expansion.specs.Numbers.{no_place};
 ghost use Rattle.tangle_expansion.specs.NumbersKept.{entries_of};
 ghost use Rattle.tangle_files.specs.declared.marks.MarkMode.TheVariants.{Full as full};
-ghost use Rattle.tangle_expansion.specs.TextLimits.{IsShort, EntryIsShort, PartsAreShort};
+ghost use Rattle.tangle_expansion.specs.TextLimits.{IsShort, EntryIsShort, SymbolsAreShort};
 
 use indexmap::IndexMap;
 use std::alloc::Global;
@@ -36,7 +37,8 @@ impl PieceNumbers {
     }
 }
 
-/// What the texts of a web's expansions take from it: section numbers, places and the text of the macros.
+/// What the texts of a web's expansions take from it: section numbers, places and the text of the
+/// macros.
 #[derive(Drop)]
 pub struct Numbers {
     file_names: Vec<Vec<u8>>,
@@ -49,17 +51,17 @@ pub struct Numbers {
 impl Model for Numbers {
     ghost use Rattle.tangle_expansion.specs.Numbers.{NumbersRead};
     ghost use Rattle.tangle_expansion.specs.NumbersKept.{numbers_read};
-    ghost use Rattle.tangle_expansion.specs.TextLimits.{PartsAreShort};
+    ghost use Rattle.tangle_expansion.specs.TextLimits.{SymbolsAreShort};
 
     ghost Value = { NumbersRead };
 
     ghost view = { numbers_read };
 
-    ghost invariant = { λ n. PartsAreShort (numbers_read n) };
+    ghost invariant = { λ n. SymbolsAreShort (numbers_read n) };
 }
 
 impl Numbers {
-    /// Numbers of these parts.
+    /// Numbers of these symbols.
     pub(crate) fn new(
         file_names: Vec<Vec<u8>>,
         program: Vec<PieceNumbers>,
@@ -70,7 +72,14 @@ impl Numbers {
         requires file_names { All (λ n. vec_len n < 2 ^ 64) file_names.items }
         requires program { All IsShort program.items }
         requires names { All EntryIsShort (entries_of names) }
-        ensures { result ≡ record { file_names = map (λ n. n.items) file_names.items; program = program.items; names = entries_of names; macros = macros.items; marks = marks } }
+        ensures { result ≡ record {
+          file_names = map (λ n. n.items) file_names.items;
+          program =
+              program.items;
+          names = entries_of names;
+          macros = macros.items;
+          marks = marks;
+        } }
     {
         let _bytes = macros.len();
         Numbers {
@@ -84,7 +93,14 @@ impl Numbers {
 
     /// The numbers of a web without files, pieces and macros. It takes no memory yet.
     pub fn none(alloc: Global) -> Self
-        ensures { result ≡ record { file_names = []; program = []; names = []; macros = []; marks = full } }
+        ensures { result ≡ record {
+          file_names = [];
+          program = [];
+          names = [];
+          macros = [];
+          marks =
+              full;
+        } }
     {
         Numbers::new(
             Vec::new(alloc),
@@ -95,9 +111,9 @@ impl Numbers {
         )
     }
 
-    /// The text of each part is short.
-    pub(crate) fn parts_are_short(&self)
-        ensures { PartsAreShort self.now }
+    /// The text of each symbol is short.
+    pub(crate) fn symbols_are_short(&self)
+        ensures { SymbolsAreShort self.now }
     {
         let _bytes = self.macros.len();
     }

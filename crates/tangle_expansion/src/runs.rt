@@ -1,15 +1,16 @@
-//! Texts of items that stand side by side in the source, so that they are copied at once.
+//! Texts of items that are side by side in the source, so that they are copied at once.
 ghost use Rattle.std.specs.Prelude.{◌≡◌, ◌≤◌, ◌++◌, true, [], ℕ, List, IfSome, length, map, take};
 ghost use Rattle.std.specs.List.{All};
 ghost use Rattle.tangle_names.specs.NameTable.{TableRead};
 ghost use Rattle.tangle_scan.specs.Rules.{span_text};
 ghost use Rattle.tangle_scan.specs.SourceOrder.{IsInRange, IsSpan};
 ghost use Rattle.tangle_scan.specs.declared.items.Item.TheVariants as item_kind;
-ghost use Rattle.tangle_expansion.specs.ItemCodes.{code_in};
-ghost use Rattle.tangle_expansion.specs.Codes.{blank_code};
-ghost use Rattle.tangle_expansion.specs.Runs.{IsJoined, IsKept, IsRunOver, IsRunWith, IsTextOf, run_bytes};
+ghost use Rattle.tangle_expansion.specs.ItemTags.{tag_in};
+ghost use Rattle.tangle_expansion.specs.Tags.{blank_tag};
+ghost use Rattle.tangle_expansion.specs.Runs.{IsJoined, IsKept, IsRunOver, IsRunWith, IsTextOf};
+ghost use Rattle.tangle_expansion.specs.Runs.{run_bytes};
 
-use crate::codes::{ItemCode, ItemKind, code_of_blank, code_of_span};
+use crate::tags::{ItemKind, ItemTag, tag_of_blank, tag_of_span};
 use tangle_scan::{Item, Span, Web};
 
 /// The kind and the range of an item with a text.
@@ -102,7 +103,8 @@ fn is_blank(item: &Item) -> bool
 
 /// Where a range ends with an item behind it, if that is white space, and a space in the source.
 pub(crate) fn with_space(run: Run, item: &Item) -> Option<usize>
-    ensures { IfSome result (λ end. IsRunWith run.entry item.now blank_code (record run.entry { end = end })) }
+    ensures { IfSome result (λ end. IsRunWith run.entry item.now blank_tag
+        (record run.entry { end = end })) }
 {
     if !is_blank(item) {
         return None;
@@ -115,28 +117,29 @@ pub(crate) fn with_space(run: Run, item: &Item) -> Option<usize>
 }
 
 /// Where a range ends with an item behind it, if the text of the item is what comes next in the
-/// source, and the code of the item.
-fn with_item(web: &Web, run: Run, item: &Item) -> Option<(usize, ItemCode)>
+/// source, and the tag of the item.
+fn with_item(web: &Web, run: Run, item: &Item) -> Option<(usize, ItemTag)>
     requires { IsInRange web.now.texts item.now }
-    ensures { IfSome result (λ more. IsRunWith run.entry item.now more.1 (record run.entry { end = more.0 })) }
+    ensures { IfSome result (λ more. IsRunWith run.entry item.now more.1
+        (record run.entry { end = more.0 })) }
 {
     match text_of(item) {
         Some((kind, span)) => match joined(run, span) {
-            Some(end) => Some((end, code_of_span(kind, span))),
+            Some(end) => Some((end, tag_of_span(kind, span))),
             None => None,
         },
         None => match with_space(run, item) {
-            Some(end) => Some((end, code_of_blank())),
+            Some(end) => Some((end, tag_of_blank())),
             None => None,
         },
     }
 }
 
 /// Where a range ends with the items behind it whose texts come next in the source, one after the
-/// other, and how many these are. Their codes are added, and no more items are passed than there is
-/// room for codes.
+/// other, and how many these are. Their tags are added, and no more items are passed than there is
+/// room for tags.
 pub(crate) fn pass_items(
-    codes: &mut Vec<ItemCode>,
+    tags: &mut Vec<ItemTag>,
     web: &Web,
     run: Run,
     items: &[Item],
@@ -144,17 +147,19 @@ pub(crate) fn pass_items(
     requires run { IsKept web.now.texts run }
     requires spans { All (IsInRange web.now.texts) items.now }
     ensures few { result.1 ≤ length items.now }
-    ensures range { IsRunOver web.now.texts run.entry (take result.1 items.now) (record run.entry { end = result.0 }) }
-    ensures codes { (table : TableRead) → codes.new.items ≡ codes.old.items ++ map (code_in table) (take result.1 items.now) }
+    ensures range { IsRunOver web.now.texts run.entry (take result.1 items.now)
+        (record run.entry { end = result.0 }) }
+    ensures tags { (table : TableRead) → tags.new.items ≡ tags.old.items
+        ++ map (tag_in table) (take result.1 items.now) }
 {
-    let room = codes.capacity().saturating_sub(codes.len());
+    let room = tags.capacity().saturating_sub(tags.len());
     let most = items.len().min(room);
     let mut end = run.end;
     let mut passed = 0;
     while passed < most {
         match with_item(web, Run { end, ..run }, &items[passed]) {
-            Some((more, code)) => {
-                codes.push_reserved(code);
+            Some((more, tag)) => {
+                tags.push_reserved(tag);
                 end = more;
                 passed += 1;
             }

@@ -2,11 +2,12 @@
 ghost use Rattle.std.specs.Prelude.{◌≡◌, ◌<◌, ◌↔◌, true, false, length};
 ghost use Rattle.std.specs.List.{All};
 ghost use Rattle.tangle_expansion.specs.Shapes.{Shape};
-ghost use Rattle.tangle_expansion.specs.NodeTexts.{node_codes, node_bytes, node_uses, texts_at, HoldsShape};
+ghost use Rattle.tangle_expansion.specs.NodeBodies.{node_tags, node_bytes, node_uses, texts_at};
+ghost use Rattle.tangle_expansion.specs.NodeBodies.{HoldsShape};
 
-use crate::codes::same_codes;
-use crate::expansion::NodeText;
+use crate::expansion::NodeBody;
 use crate::nodes::PiecesByNode;
+use crate::tags::same_tags;
 
 /// Whether the names with these numbers are, one by one, the same.
 fn same_names<S: PiecesByNode>(
@@ -17,7 +18,9 @@ fn same_names<S: PiecesByNode>(
 ) -> bool
     requires inside { All (λ id. id < length (S.names store.now)) uses.now }
     requires other_inside { All (λ id. id < length (S.names other_store.now)) other_uses.now }
-    ensures { (result ≡ true) ↔ (texts_at (S.names store.now) uses.now ≡ texts_at (S.names other_store.now) other_uses.now) }
+    ensures { (result ≡ true)
+        ↔ (texts_at (S.names store.now) uses.now
+        ≡ texts_at (S.names other_store.now) other_uses.now) }
 {
     if uses.len() != other_uses.len() {
         return false;
@@ -31,27 +34,32 @@ fn same_names<S: PiecesByNode>(
 }
 
 /// Whether the items of two nodes are of the same kinds and have the same texts.
-fn same_items(node: &NodeText, other: &NodeText) -> bool
-    ensures some { result ≡ true → (node_codes node.now ≡ node_codes other.now) × (node_bytes node.now ≡ node_bytes other.now) }
-    ensures none { result ≡ false → node_codes node.now ≡ node_codes other.now → node_bytes node.now ≡ node_bytes other.now → ⊥ }
+fn same_items(node: &NodeBody, other: &NodeBody) -> bool
+    ensures some { result ≡ true → (node_tags node.now ≡ node_tags other.now)
+        × (node_bytes node.now ≡ node_bytes other.now) }
+    ensures none { result ≡ false → node_tags node.now ≡ node_tags other.now → node_bytes node.now
+        ≡ node_bytes other.now → ⊥ }
 {
-    if !same_codes(&node.codes, &other.codes) {
+    if !same_tags(&node.tags, &other.tags) {
         return false;
     }
     node.text == other.text
 }
 
-/// Whether two nodes, of the same store or of two, have the same shape: the same pieces, items of the same kinds and texts, and uses of the
-/// same names. Section numbers and places are no part of a shape, but where the marks stand is.
+/// Whether two nodes, of the same store or of two, have the same shape: the same pieces, items of
+/// the same kinds and texts, and uses of the same names. Section numbers and places are no part of
+/// a shape, but where the marks are is.
 pub fn same_shape<S: PiecesByNode>(
     store: &S,
-    node: &NodeText,
+    node: &NodeBody,
     other_store: &S,
-    other: &NodeText,
+    other: &NodeBody,
 ) -> bool
     requires inside { All (λ id. id < length (S.names store.now)) (node_uses node.now) }
-    requires other_inside { All (λ id. id < length (S.names other_store.now)) (node_uses other.now) }
-    ensures { (shape other_shape : Shape) → HoldsShape (S.names store.now) shape node.now → HoldsShape (S.names other_store.now) other_shape other.now
+    requires other_inside { All (λ id. id < length (S.names other_store.now))
+        (node_uses other.now) }
+    ensures { (shape other_shape : Shape) → HoldsShape (S.names store.now) shape node.now
+        → HoldsShape (S.names other_store.now) other_shape other.now
         → ((result ≡ true) ↔ (shape ≡ other_shape)) }
 {
     if !same_items(node, other) {

@@ -15,7 +15,8 @@ pub(crate) fn pieces_behind(piece: usize, step: Step) -> usize
     }
 }
 
-/// How many marks of its piece stand behind a step, with so many before it. The opening mark is none of them.
+/// How many marks of its piece are behind a step, with so many before it. The opening mark is none
+/// of them.
 pub(crate) fn marks_behind(marks: usize, step: Step) -> usize
     requires { marks + 1 < 2 ^ 64 }
     ensures { result ≡ marks_passed marks step }

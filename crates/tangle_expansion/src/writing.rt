@@ -1,17 +1,21 @@
 //! Writing the text of an expansion.
 ghost use Rattle.std.specs.Prelude.{◌≡◌, ◌+◌, ◌-◌, ◌^◌, ◌<◌, ◌≤◌, take, drop, length};
-ghost use Rattle.tangle_streams.specs.Streams.{PutsOut, PutsOutMore};
+ghost use Rattle.tangle_streams.specs.Streams.{IsWritten, IsWrittenBehind};
 ghost use Rattle.tangle_expansion.specs.Limits.{heaviest};
-ghost use Rattle.tangle_expansion.specs.Meaning.{title_of, bytes_between, is_use as is_use_step, pieces_passed, marks_passed, bytes_passed, own_parts, before_use, behind_use};
-ghost use Rattle.tangle_expansion.specs.Numbers.{node_numbers, opening_text, closing_text, mark_text, place_text, text};
+ghost use Rattle.tangle_expansion.specs.Meaning.{title_of, bytes_between, is_use as is_use_step};
+ghost use Rattle.tangle_expansion.specs.Meaning.{pieces_passed, marks_passed, bytes_passed};
+ghost use Rattle.tangle_expansion.specs.Meaning.{own_symbols, before_use, behind_use};
+ghost use Rattle.tangle_expansion.specs.Numbers.{node_numbers, opening_text, closing_text};
+ghost use Rattle.tangle_expansion.specs.Numbers.{mark_text, place_text, text};
 
-use crate::expansion::{Body, Expansion, NodeText, Step};
+use crate::expansion::{Expansion, NodeBody, SharedExpansion, Step};
 use crate::numbers::{Numbers, PieceNumbers, place_at, section_at};
 use crate::steps::{bytes_behind, marks_behind, pieces_behind};
 use itoa::Buffer;
 use tangle_lines::{MarkMode, Origin, Sink, WriteFault, put};
 
-/// Where the writing of a plan stands: behind so many steps, so many pieces, so many marks of this piece, and so many bytes of the text.
+/// Where the writing of a plan is: behind so many steps, so many pieces, so many marks of this
+/// piece, and so many bytes of the text.
 #[derive(Clone, Copy, Debug)]
 struct Cursor {
     step: usize,
@@ -37,13 +41,13 @@ fn first() -> Cursor
     }
 }
 
-/// Puts out the opening of a piece.
+/// Writes the opening of a piece.
 fn put_opening<S: Sink>(
     section: usize,
     sink: &mut S,
     so_far: Result<u128, WriteFault>,
 ) -> Result<u128, WriteFault>
-    ensures { PutsOutMore (S.stream sink.old) (S.stream sink.new)
+    ensures { IsWrittenBehind (S.stream sink.old) (S.stream sink.new)
         so_far (opening_text section) result }
 {
     let mut digits = Buffer::new();
@@ -52,13 +56,13 @@ fn put_opening<S: Sink>(
     put(sink, numbered, b":*/")
 }
 
-/// Puts out the closing of a piece.
+/// Writes the closing of a piece.
 fn put_closing<S: Sink>(
     section: usize,
     sink: &mut S,
     so_far: Result<u128, WriteFault>,
 ) -> Result<u128, WriteFault>
-    ensures { PutsOutMore (S.stream sink.old) (S.stream sink.new)
+    ensures { IsWrittenBehind (S.stream sink.old) (S.stream sink.new)
         so_far (closing_text section) result }
 {
     let mut digits = Buffer::new();
@@ -67,14 +71,14 @@ fn put_closing<S: Sink>(
     put(sink, numbered, b"*/")
 }
 
-/// Puts out a line mark in full.
+/// Writes a line mark in full.
 fn put_full_mark<S: Sink>(
     file: &[u8],
     line: u32,
     sink: &mut S,
     so_far: Result<u128, WriteFault>,
 ) -> Result<u128, WriteFault>
-    ensures { PutsOutMore (S.stream sink.old) (S.stream sink.new)
+    ensures { IsWrittenBehind (S.stream sink.old) (S.stream sink.new)
         so_far (mark_text file.now line) result }
 {
     let mut digits = Buffer::new();
@@ -85,14 +89,14 @@ fn put_full_mark<S: Sink>(
     put(sink, named, b"\"\n")
 }
 
-/// Puts out a line mark.
+/// Writes a line mark.
 fn put_mark<S: Sink>(
     numbers: &Numbers,
     place: Origin,
     sink: &mut S,
     so_far: Result<u128, WriteFault>,
 ) -> Result<u128, WriteFault>
-    ensures { PutsOutMore (S.stream sink.old) (S.stream sink.new)
+    ensures { IsWrittenBehind (S.stream sink.old) (S.stream sink.new)
         so_far (place_text numbers.now place) result }
 {
     match numbers.marks() {
@@ -118,10 +122,10 @@ fn is_use(step: Step) -> bool
     }
 }
 
-/// Puts out the parts of a step that is no use.
+/// Writes the symbols of a step that is no use.
 fn put_step<S: Sink>(
     numbers: &Numbers,
-    node: &NodeText,
+    node: &NodeBody,
     pieces: &[PieceNumbers],
     at: Cursor,
     step: Step,
@@ -130,8 +134,9 @@ fn put_step<S: Sink>(
 ) -> Result<u128, WriteFault>
     requires ours { pieces.now ≡ node_numbers numbers.now (title_of node.now.name) }
     requires room { at.step + 1 < 2 ^ 64 }
-    ensures { PutsOutMore (S.stream sink.old) (S.stream sink.new)
-        so_far (text numbers.now (own_parts (title_of node.now.name) node.now.text.items at.piece at.marks at.start step)) result }
+    ensures { IsWrittenBehind (S.stream sink.old) (S.stream sink.new)
+        so_far (text numbers.now (own_symbols (title_of node.now.name) node.now.text.items at.piece
+        at.marks at.start step)) result }
 {
     match step {
         Step::Open => {
@@ -155,7 +160,7 @@ fn put_step<S: Sink>(
     }
 }
 
-/// Where the writing stands behind a step.
+/// Where the writing is behind a step.
 fn passed(at: Cursor, step: Step) -> Cursor
     requires { at.step + 1 < 2 ^ 64 }
     ensures step { result.step ≡ at.step + 1 }
@@ -171,20 +176,27 @@ fn passed(at: Cursor, step: Step) -> Cursor
     }
 }
 
-/// Puts out the parts up to the next use, or to the end: where the writing then stands.
+/// Writes the symbols up to the next use, or to the end: where the writing then is.
 fn put_to_use<S: Sink>(
     numbers: &Numbers,
-    node: &NodeText,
+    node: &NodeBody,
     pieces: &[PieceNumbers],
     from: Cursor,
     sink: &mut S,
     so_far: Result<u128, WriteFault>,
 ) -> (Cursor, Result<u128, WriteFault>)
     requires { pieces.now ≡ node_numbers numbers.now (title_of node.now.name) }
-    ensures puts { PutsOutMore (S.stream sink.old) (S.stream sink.new) so_far
-        (text numbers.now (before_use (title_of node.now.name) node.now.text.items from.piece from.marks from.start (drop from.step node.now.plan.items))) result.1 }
+    ensures puts { IsWrittenBehind (S.stream sink.old) (S.stream sink.new) so_far
+        (text numbers.now (before_use (title_of node.now.name) node.now.text.items from.piece
+        from.marks from.start (drop from.step node.now.plan.items))) result.1 }
     ensures rest { behind_use from.piece from.marks from.start (drop from.step node.now.plan.items)
-        ≡ record { piece = result.0.piece; marks = result.0.marks; start = result.0.start; plan = drop result.0.step node.now.plan.items } }
+        ≡ record {
+          piece = result.0.piece;
+          marks = result.0.marks;
+          start = result.0.start;
+          plan =
+              drop result.0.step node.now.plan.items;
+        } }
 {
     let mut at = from;
     let mut so_far = so_far;
@@ -200,26 +212,28 @@ fn put_to_use<S: Sink>(
 }
 
 impl Expansion {
-    /// Puts the text of the expansion out after what was put out so far, unless that met a fault: how many bytes went out in all.
+    /// Writes the text of the expansion after what was written so far, unless that met a fault: how
+    /// many bytes were written in all.
     ///
     /// # Errors
     ///
-    /// The fault so far, or `WriteFault(n)` where the sink failed, or took no byte, after `n` bytes in all.
+    /// The fault so far, or `WriteFault(n)` where the sink failed, or took no byte, after `n` bytes
+    /// in all.
     pub fn put_text<S: Sink>(
         &self,
         numbers: &Numbers,
         sink: &mut S,
         so_far: Result<u128, WriteFault>,
     ) -> Result<u128, WriteFault>
-        ensures { PutsOutMore (S.stream sink.old) (S.stream sink.new)
+        ensures { IsWrittenBehind (S.stream sink.old) (S.stream sink.new)
             so_far (text numbers.now self.now) result }
     {
-        let body: &Body = &self.body;
-        let node: &NodeText = &body.node;
+        let shared: &SharedExpansion = &self.shared;
+        let node: &NodeBody = &shared.node;
         let pieces = numbers.of_node(&node.name);
         let mut at = first();
         let mut so_far = so_far;
-        for used in &body.used {
+        for used in &shared.used {
             let (next, before) = put_to_use(numbers, node, pieces, at, sink, so_far);
             let spaced = put(sink, before, b" ");
             so_far = used.put_text(numbers, sink, spaced);
@@ -241,9 +255,9 @@ pub fn write_text<S: Sink>(
     sink: &mut S,
 ) -> Result<u128, WriteFault>
     requires { length expansion.now ≤ heaviest }
-    ensures { PutsOut (S.stream sink.old) (S.stream sink.new)
+    ensures { IsWritten (S.stream sink.old) (S.stream sink.new)
         (text numbers.now expansion.now) result }
 {
-    numbers.parts_are_short();
+    numbers.symbols_are_short();
     expansion.put_text(numbers, sink, Ok(0))
 }

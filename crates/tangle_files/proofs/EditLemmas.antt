@@ -47,7 +47,7 @@ files_of-same old new name v w found is written =
     ap (map file_of) written ∙ map-set_value name old.entries w ∙ ap (set_value (bytes_eq name) (files_of old)) is
     ∙ set_value_same (bytes_eq name) (files_of old) v.value.items (lines_of-found old name v found)
 
--- a line that is set stands in place of the old one
+-- a line that is set replaces the old one
 pub spliced-set : (lines : List (List ℕ)) (start : ℕ) (line : List ℕ) → start < length lines → set lines start line ≡ spliced lines start (line ∷ []) (start + 1)
 spliced-set lines start line inside =
     sym (take-append-drop start (set lines start line)) ∙ (λ i. take-set lines start line i ++ drop-set lines start line inside i)

@@ -164,7 +164,7 @@ place-entries : (name : List ℕ) (es : List (Vec ℕ Global × SharedLines))
 place-entries name [] = refl
 place-entries name (e ∷ es) = ap (λ n. cond (not (bytes_eq name e.0.items)) (1 + n) 0) (place-entries name es)
 
--- a name stands at the same place in the table as among the files
+-- a name is at the same place in the table as among the files
 pub position-entries : (name : List ℕ) (es : List (Vec ℕ Global × SharedLines))
     → position (λ (f : List ℕ × List (List ℕ)). bytes_eq name f.0) (map file_of es) ≡ position (λ (k : Vec ℕ Global). bytes_eq name k.items) (map (λ e. e.0) es)
 position-entries name es =

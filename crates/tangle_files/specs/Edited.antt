@@ -16,7 +16,7 @@ spliced lines start new_lines end = take start lines ++ new_lines ++ drop end li
 abbrev pub with_lines_changed : FileTable → List ℕ → (List (List ℕ) → List (List ℕ)) → FileTable
 with_lines_changed files name change = option_map_or (λ lines. set_value (bytes_eq name) files (change lines)) (lines_of files name) files
 
--- the files after an edit: a text becomes the line of its number, or goes, or stands in place of it; a new file has no
+-- the files after an edit: a text becomes the line of its number, or goes, or replaces it; a new file has no
 -- lines and is the last; one that is discarded closes up
 abbrev pub edited : FileTable → Edit → FileTable
 edited files (Insert file at text) = with_lines_changed files file.items (λ lines. spliced lines (at - 1) (trimmed text.items ∷ []) (at - 1))

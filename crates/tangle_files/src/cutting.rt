@@ -1,5 +1,6 @@
 //! The cutting of bytes into lines.
-ghost use Rattle.std.specs.Prelude.{◌≡◌, ◌+◌, ◌-◌, ◌<◌, ◌≤◌, ◌^◌, [], ◌∷◌, ◌++◌, length, take, drop, None, unwrap_or, IfErr, IfOk, IfSome, OnOk};
+ghost use Rattle.std.specs.Prelude.{◌≡◌, ◌+◌, ◌-◌, ◌<◌, ◌≤◌, ◌^◌, [], ◌∷◌, ◌++◌, length, take};
+ghost use Rattle.std.specs.Prelude.{drop, None, unwrap_or, IfErr, IfOk, IfSome, OnOk};
 ghost use Rattle.std.specs.List.{list_any};
 ghost use Rattle.tangle_files.specs.Lines.{raw_lines, trimmed, cut};
 ghost use Rattle.tangle_files.specs.Adding.{cut_refusal, is_too_long};
@@ -51,7 +52,8 @@ pub(crate) fn measure_lines(bytes: &[u8]) -> LineMeasure
 pub(crate) fn cut_lines(alloc: Global, bytes: Vec<u8>) -> Result<Vec<Line>, Refusal>
     ensures ok { IfOk result (λ lines. lines.items ≡ cut bytes.items) }
     ensures accepted { IfOk result (λ lines. cut_refusal bytes.items ≡ None) }
-    ensures refused { IfErr result (λ refusal. refusal ≡ unwrap_or (cut_refusal bytes.items) Refusal.NoMemory) }
+    ensures refused { IfErr result
+        (λ refusal. refusal ≡ unwrap_or (cut_refusal bytes.items) Refusal.NoMemory) }
 {
     match Rc::new(alloc, bytes) {
         Ok(text) => match share_lines(alloc, &text) {
@@ -62,7 +64,7 @@ pub(crate) fn cut_lines(alloc: Global, bytes: Vec<u8>) -> Result<Vec<Line>, Refu
     }
 }
 
-/// Why the bytes were not cut: want of memory, if their lines are within the limits.
+/// Why the bytes were not cut: lack of memory, if their lines are within the limits.
 fn why_not_cut(bytes: &[u8]) -> Refusal
     ensures { result ≡ unwrap_or (cut_refusal bytes.now) Refusal.NoMemory }
 {
@@ -76,7 +78,8 @@ fn why_not_cut(bytes: &[u8]) -> Refusal
     Refusal::NoMemory
 }
 
-/// The lines of a text, which share it: `None`, if one is too long, if they are too many, or if a growth was refused.
+/// The lines of a text, which share it: `None`, if one is too long, if they are too many, or if an
+/// allocation failed.
 fn share_lines(alloc: Global, text: &Rc<Vec<u8>>) -> Option<Vec<Line>>
     ensures lines { IfSome result (λ lines. lines.items ≡ cut text.now.value.items) }
     ensures within { IfSome result (λ lines. cut_refusal text.now.value.items ≡ None) }
@@ -114,7 +117,8 @@ fn add_line(
 ) -> Result<(), AllocError>
     requires near { start < 2 ^ 48 }
     requires within { start + size ≤ length text.now.value.items }
-    ensures { OnOk result (lines.new.items ≡ lines.old.items ++ part_of text.now.value.items start size ∷ []) }
+    ensures { OnOk result (lines.new.items ≡ lines.old.items
+        ++ part_of text.now.value.items start size ∷ []) }
 {
     lines.push(Line::new(text.clone()?, start, size))?;
     Ok(())
@@ -125,7 +129,8 @@ fn end_of_line(bytes: &[u8], start: usize) -> usize
     requires { start < length bytes.now }
     ensures low { start ≤ result }
     ensures high { result ≤ length bytes.now }
-    ensures line { raw_lines (drop start bytes.now) ≡ take (result - start) (drop start bytes.now) ∷ raw_lines (drop (result + 1) bytes.now) }
+    ensures line { raw_lines (drop start bytes.now) ≡ take (result - start) (drop start bytes.now)
+        ∷ raw_lines (drop (result + 1) bytes.now) }
 {
     match memchr(b'\n', &bytes[start..]) {
         Some(count) => start + count,

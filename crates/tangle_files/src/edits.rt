@@ -1,6 +1,8 @@
 //! Edits of files, and why they are refused.
 ghost use Rattle.std.specs.Prelude.{◌≡◌, ℕ, List, Option, Some, not, IfOk, IfErr};
-ghost use Rattle.tangle_files.specs.Edits.{create_refusal, edit_refusal, insert_refusal, is_line_number, refusal_if, refusal_in, replace_refusal, text_refusal};
+ghost use Rattle.tangle_files.specs.Edits.{create_refusal, edit_refusal, insert_refusal};
+ghost use Rattle.tangle_files.specs.Edits.{is_line_number, refusal_if, refusal_in, replace_refusal};
+ghost use Rattle.tangle_files.specs.Edits.{text_refusal};
 ghost use Rattle.tangle_files.specs.declared.refusal.Refusal.{Refusal};
 ghost use Rattle.tangle_files.specs.declared.refusal.Refusal.TheVariants.{NoSuchLine};
 
@@ -24,7 +26,7 @@ pub enum Edit {
         file: Vec<u8>,
         at: usize,
     },
-    /// The text stands in place of line `at`.
+    /// The text replaces line `at`.
     Replace {
         file: Vec<u8>,
         at: usize,
@@ -45,10 +47,11 @@ pub enum Edit {
 }
 
 impl Files {
-    /// Why an edit is refused, but for want of memory: the first of these that applies. `BadName` for what is no file's
-    /// name; `FileExists` where a file to be created is there, `UnknownFile` where another isn't; `NoSuchLine`;
-    /// `BadLine` for a text with a line feed; `TooManyFiles` at 256 files; `LineTooLong` for a text of more than 65,535
-    /// bytes without its trailing spaces; `TooManyLines` at 1,000,000 lines.
+    /// Why an edit is refused, but for lack of memory: the first of these that applies. `BadName`
+    /// for what is no file's name; `FileExists` where a file to be created is there, `UnknownFile`
+    /// where another isn't; `NoSuchLine`; `BadLine` for a text with a line feed; `TooManyFiles` at
+    /// 256 files; `LineTooLong` for a text of more than 65,535 bytes without its trailing spaces;
+    /// `TooManyLines` at 1,000,000 lines.
     pub fn refusal_to_edit(&self, edit: &Edit) -> Option<Refusal>
         ensures { result ≡ edit_refusal self.now edit.now }
     {
@@ -76,8 +79,10 @@ impl Files {
 
     /// The lines of the file of this name, or why there are none to edit.
     fn lines_to_edit(&self, file: &[u8]) -> Result<&[Line], Refusal>
-        ensures ok { (within : List (List ℕ) → Option Refusal) → IfOk result (λ lines. refusal_in self.now file.now within ≡ within lines.now) }
-        ensures err { (within : List (List ℕ) → Option Refusal) → IfErr result (λ refusal. refusal_in self.now file.now within ≡ Some refusal) }
+        ensures ok { (within : List (List ℕ) → Option Refusal)
+            → IfOk result (λ lines. refusal_in self.now file.now within ≡ within lines.now) }
+        ensures err { (within : List (List ℕ) → Option Refusal)
+            → IfErr result (λ refusal. refusal_in self.now file.now within ≡ Some refusal) }
     {
         if !is_file_name(file) {
             return Err(Refusal::BadName);

@@ -1,8 +1,11 @@
 //! The table of files.
-ghost use Rattle.std.specs.Prelude.{◌≡◌, ◌≤◌, [], length, slice_get, OnOk, OnErr, IsOkUnless, IfOk, IfSome, IfNone, Err};
+ghost use Rattle.std.specs.Prelude.{◌≡◌, ◌≤◌, [], length, slice_get, OnOk, OnErr, IsOkUnless, IfOk};
+ghost use Rattle.std.specs.Prelude.{IfSome, IfNone, Err};
 ghost use Rattle.std.specs.Option.{option_copied, option_map};
-ghost use Rattle.tangle_files.specs.Lines.{file_number, name_at as name_in_table, lines_at as lines_in_table, lines_of};
-ghost use Rattle.tangle_files.specs.Adding.{HasDistinctNames, with_file, add_refusal, name_refusal, has_file, is_name, most_files, most_lines};
+ghost use Rattle.tangle_files.specs.Lines.{file_number, name_at as name_in_table};
+ghost use Rattle.tangle_files.specs.Lines.{lines_at as lines_in_table, lines_of};
+ghost use Rattle.tangle_files.specs.Adding.{HasDistinctNames, with_file, add_refusal, name_refusal};
+ghost use Rattle.tangle_files.specs.Adding.{has_file, is_name, most_files, most_lines};
 ghost use Rattle.tangle_files.specs.Edits.{edit_refusal};
 ghost use Rattle.tangle_files.specs.Edited.{edited};
 
@@ -26,8 +29,8 @@ pub(crate) const MOST_FILES: usize = 256;
 /// The most lines of a file.
 pub(crate) const MOST_LINES: usize = 1_000_000;
 
-/// Files with distinct names and their lines, in the order in which they were added: at most 256 files, each of
-/// at most 1,000,000 lines. A file's number is its place in that order, from 0.
+/// Files with distinct names and their lines, in the order in which they were added: at most 256
+/// files, each of at most 1,000,000 lines. A file's number is its place in that order, from 0.
 #[derive(Drop)]
 pub struct Files {
     table: IndexMap<Vec<u8>, Rc<Vec<Line>>>,
@@ -56,18 +59,20 @@ impl Files {
         }
     }
 
-    /// Adds a file as the last one. Its bytes are cut at line feeds: a last line without one is a line, and no bytes
-    /// give no lines. CWEB drops trailing blanks of a line, and so does this.
+    /// Adds a file as the last one. Its bytes are cut at line feeds: a last line without one is a
+    /// line, and no bytes give no lines. CWEB drops trailing blanks of a line, and so does this.
     ///
     /// # Errors
     ///
-    /// The first of these that applies, and then the table stays as it was: `BadName` for a name that is empty, longer
-    /// than 255 bytes or has a line feed; `FileExists`; `TooManyFiles` at 256 files; `LineTooLong` for a line of more
-    /// than 65,535 bytes; `TooManyLines` for more than 1,000,000 lines; `NoMemory`.
+    /// The first of these that applies, and then the table stays as it was: `BadName` for a name
+    /// that is empty, longer than 255 bytes or has a line feed; `FileExists`; `TooManyFiles` at 256
+    /// files; `LineTooLong` for a line of more than 65,535 bytes; `TooManyLines` for more than
+    /// 1,000,000 lines; `NoMemory`.
     pub fn add(&mut self, name: &[u8], bytes: &[u8]) -> Result<(), Refusal>
         ensures ok { OnOk result (self.new ≡ with_file self.old name.now bytes.now) }
         ensures refused { IfSome (add_refusal self.old name.now bytes.now) (λ e. result ≡ Err e) }
-        ensures only { IfNone (add_refusal self.old name.now bytes.now) (IsOkUnless result Refusal.NoMemory) }
+        ensures only { IfNone (add_refusal self.old name.now bytes.now)
+            (IsOkUnless result Refusal.NoMemory) }
         ensures err { OnErr result (self.new ≡ self.old) }
     {
         if let Some(refusal) = self.refusal_to_add(name, bytes) {
@@ -78,8 +83,8 @@ impl Files {
         self.add_owned(name, bytes)
     }
 
-    /// Adds a file as [`Files::add`] does. Its bytes are handed over, and its lines share them: they are cut in one pass,
-    /// and not copied.
+    /// Adds a file as [`Files::add`] does. Its bytes are handed over, and its lines share them:
+    /// they are cut in one pass, and not copied.
     ///
     /// # Errors
     ///
@@ -87,7 +92,8 @@ impl Files {
     pub fn add_owned(&mut self, name: &[u8], bytes: Vec<u8>) -> Result<(), Refusal>
         ensures ok { OnOk result (self.new ≡ with_file self.old name.now bytes.items) }
         ensures refused { IfSome (add_refusal self.old name.now bytes.items) (λ e. result ≡ Err e) }
-        ensures only { IfNone (add_refusal self.old name.now bytes.items) (IsOkUnless result Refusal.NoMemory) }
+        ensures only { IfNone (add_refusal self.old name.now bytes.items)
+            (IsOkUnless result Refusal.NoMemory) }
         ensures err { OnErr result (self.new ≡ self.old) }
     {
         if let Some(refusal) = self.refusal_of_name(name) {
@@ -119,11 +125,13 @@ impl Files {
     ///
     /// # Errors
     ///
-    /// That of [`Files::refusal_to_edit`] if there is one, else `NoMemory`; and then the table stays as it was.
+    /// That of [`Files::refusal_to_edit`] if there is one, else `NoMemory`; and then the table
+    /// stays as it was.
     pub fn edit(&mut self, edit: &Edit) -> Result<(), Refusal>
         ensures ok { OnOk result (self.new ≡ edited self.old edit.now) }
         ensures refused { IfSome (edit_refusal self.old edit.now) (λ e. result ≡ Err e) }
-        ensures only { IfNone (edit_refusal self.old edit.now) (IsOkUnless result Refusal.NoMemory) }
+        ensures only { IfNone (edit_refusal self.old edit.now)
+            (IsOkUnless result Refusal.NoMemory) }
         ensures err { OnErr result (self.new ≡ self.old) }
     {
         if let Some(refusal) = self.refusal_to_edit(edit) {
@@ -149,7 +157,7 @@ impl Files {
         None
     }
 
-    /// Why a file is not to be added, but for want of memory.
+    /// Why a file is not to be added, but for lack of memory.
     fn refusal_to_add(&self, name: &[u8], bytes: &[u8]) -> Option<Refusal>
         ensures { result ≡ add_refusal self.now name.now bytes.now }
     {

@@ -1,6 +1,7 @@
 //! Files cut into lines, edits of them, and the names of those that have roles.
 //!
-//! [`Files`] is the table of files, an [`Edit`] changes it, and [`Roles`] names the web, the change file and the main file.
+//! [`Files`] is the table of files, an [`Edit`] changes it, and [`Roles`] names the web, the change
+//! file and the main file.
 #![tactic(auto)]
 
 mod cutting;
@@ -18,5 +19,5 @@ pub use files::{Files, is_file_name};
 pub use line::Line;
 pub use marks::MarkMode;
 pub use refusal::Refusal;
-pub use role_names::RoleNames;
+pub use role_names::Words;
 pub use roles::Roles;

@@ -7,14 +7,15 @@ use std::alloc::AllocError;
 use std::marker::Model;
 use std::rc::Rc;
 
-/// How many places the low number of a place tells apart.
+/// How many places the low number of a place distinguishes.
 const LOW_PLACES: usize = 4_294_967_296;
 
-/// How many places the two numbers of a place tell apart: more than bytes that fit a memory.
+/// How many places the two numbers of a place distinguish: more than bytes that fit a memory.
 pub(crate) const MOST_PLACES: usize = 281_474_976_710_656;
 
-/// A line without its trailing spaces and its line feed: at most 65,535 bytes. It stands in a text that the lines of
-/// its file share. Its place there is two numbers, so that a line takes 16 bytes though a text may pass 4 GiB.
+/// A line without its trailing spaces and its line feed: at most 65,535 bytes. It is in a text that
+/// the lines of its file share. Its place there is two numbers, so that a line takes 16 bytes
+/// though a text may pass 4 GiB.
 #[derive(Drop)]
 pub struct Line {
     text: Rc<Vec<u8>>,

@@ -23,7 +23,7 @@ pub enum Refusal {
     /// A file has more than 1,000,000 lines.
     #[error("too many lines")]
     TooManyLines,
-    /// A growth was refused.
+    /// An allocation failed.
     #[error("no memory")]
     NoMemory,
     /// There is no file of this name.

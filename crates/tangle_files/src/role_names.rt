@@ -10,28 +10,34 @@ use std::marker::Model;
 /// given: nothing is known of them. [`Roles`](crate::Roles) has such names that are files' names.
 /// Beside them is how line marks are written.
 #[derive(Drop)]
-pub struct RoleNames {
+pub struct Words {
     web: Vec<u8>,
     change: Option<Vec<u8>>,
     out: Vec<u8>,
     marks: MarkMode,
 }
 
-impl Model for RoleNames {
+impl Model for Words {
     ghost use Rattle.std.specs.Option.{option_map};
     ghost use Rattle.tangle_files.specs.Roles.{RolesRead};
 
     ghost Value = { RolesRead };
 
-    ghost view = { λ r. record { web = r.web.items; change = option_map (λ c. c.items) r.change; out = r.out.items; marks = r.marks } };
+    ghost view = { λ r. record {
+      web = r.web.items;
+      change =
+          option_map (λ c. c.items) r.change;
+      out = r.out.items;
+      marks = r.marks;
+    } };
 }
 
-impl RoleNames {
+impl Words {
     /// These names. Line marks are written in full.
     pub fn new(web: Vec<u8>, change: Option<Vec<u8>>, out: Vec<u8>) -> Self
         ensures { result ≡ roles_of web.items (option_map (λ c. c.items) change) out.items }
     {
-        RoleNames {
+        Words {
             web,
             change,
             out,

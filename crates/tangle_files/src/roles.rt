@@ -7,7 +7,7 @@ ghost use Rattle.tangle_files.specs.Roles.{fits as roles_fit, is_there, is_there
 use crate::files::{Files, is_file_name};
 use crate::marks::MarkMode;
 use crate::refusal::Refusal;
-use crate::role_names::RoleNames;
+use crate::role_names::Words;
 use std::alloc::Global;
 use std::marker::Model;
 use tangle_streams::NoMemory;
@@ -16,7 +16,7 @@ use tangle_streams::NoMemory;
 /// and how line marks are written. CWEB's programs take the three names from the command line.
 #[derive(Drop)]
 pub struct Roles {
-    names: RoleNames,
+    names: Words,
 }
 
 impl Model for Roles {
@@ -33,7 +33,8 @@ impl Roles {
     ///
     /// # Errors
     ///
-    /// `BadName` where one of the names is empty, longer than 255 bytes or has a line feed; else `NoMemory`.
+    /// `BadName` where one of the names is empty, longer than 255 bytes or has a line feed; else
+    /// `NoMemory`.
     pub fn new(
         alloc: Global,
         web: &[u8],
@@ -42,9 +43,11 @@ impl Roles {
     ) -> Result<Self, Refusal>
         ensures roles { IfOk result (λ r.
             r ≡ roles_of web.now (option_copied change.entry) out.now) }
-        ensures refused { IfSome (roles_refusal (roles_of web.now (option_copied change.entry) out.now))
+        ensures refused { IfSome (roles_refusal
+            (roles_of web.now (option_copied change.entry) out.now))
             (λ refusal. result ≡ Err refusal) }
-        ensures only { IfNone (roles_refusal (roles_of web.now (option_copied change.entry) out.now))
+        ensures only { IfNone (roles_refusal
+            (roles_of web.now (option_copied change.entry) out.now))
             (IsOkUnless result Refusal.NoMemory) }
     {
         if !(is_file_name(web) && is_file_name_if_any(change) && is_file_name(out)) {
@@ -54,7 +57,7 @@ impl Roles {
         let change = copy_if_any(alloc, change)?;
         let out = Vec::from_slice(alloc, out)?;
         Ok(Roles {
-            names: RoleNames::new(web, change, out),
+            names: Words::new(web, change, out),
         })
     }
 

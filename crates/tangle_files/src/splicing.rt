@@ -1,5 +1,6 @@
 //! The table of files after an edit.
-ghost use Rattle.std.specs.Prelude.{◌≡◌, ◌≤◌, ◌+◌, ◌++◌, [], ◌∷◌, None, false, length, IfOk, IfSome, OnErr, OnOk};
+ghost use Rattle.std.specs.Prelude.{◌≡◌, ◌≤◌, ◌+◌, ◌++◌, [], ◌∷◌, None, false, length, IfOk};
+ghost use Rattle.std.specs.Prelude.{IfSome, OnErr, OnOk};
 ghost use Rattle.std.specs.Option.{option_to_list};
 ghost use Rattle.std.specs.Map.{remove_entry};
 ghost use Rattle.std.specs.Str.{bytes_eq};
@@ -16,8 +17,8 @@ use indexmap::IndexMap;
 use std::alloc::{AllocError, Global};
 use std::rc::Rc;
 
-/// Makes an edit that is not refused. A list of lines that another table shares is made anew for the edited file, and
-/// one that no other has is changed where it is.
+/// Makes an edit that is not refused. A list of lines that another table shares is made anew for
+/// the edited file, and one that no other has is changed where it is.
 pub(crate) fn make_edit(
     table: &mut IndexMap<Vec<u8>, Rc<Vec<Line>>>,
     edit: &Edit,
@@ -56,7 +57,8 @@ fn line_of_text(alloc: Global, text: &[u8]) -> Result<Line, AllocError>
     Ok(Line::new(shared, 0, bytes.len() as u16))
 }
 
-/// Puts a line, or none, in place of the line between two places, or of none, in the file of this name.
+/// Puts a line, or none, in place of the line between two places, or of none, in the file of this
+/// name.
 fn change_lines(
     table: &mut IndexMap<Vec<u8>, Rc<Vec<Line>>>,
     file: &[u8],
@@ -65,8 +67,11 @@ fn change_lines(
     end: usize,
 ) -> Result<(), AllocError>
     requires places { (start ≤ end) × (end ≤ start + 1) }
-    requires within { IfSome (lines_of (files_of table.old) file.now) (λ lines. end ≤ length lines) }
-    ensures ok { OnOk result (files_of table.new ≡ with_lines_changed (files_of table.old) file.now (λ lines. spliced lines start (option_to_list line) end)) }
+    requires within { IfSome (lines_of (files_of table.old) file.now)
+        (λ lines. end ≤ length lines) }
+    ensures ok { OnOk result (files_of table.new
+        ≡ with_lines_changed (files_of table.old) file.now
+        (λ lines. spliced lines start (option_to_list line) end)) }
     ensures err { OnErr result (files_of table.new ≡ files_of table.old) }
 {
     match table.get_mut(file) {
@@ -75,8 +80,8 @@ fn change_lines(
     }
 }
 
-/// Puts a line, or none, in place of the line between two places, or of none. A list that another table shares stays
-/// as it is, and a new one is made.
+/// Puts a line, or none, in place of the line between two places, or of none. A list that another
+/// table shares stays as it is, and a new one is made.
 fn splice_shared(
     shared: &mut Rc<Vec<Line>>,
     start: usize,
@@ -85,7 +90,8 @@ fn splice_shared(
 ) -> Result<(), AllocError>
     requires places { (start ≤ end) × (end ≤ start + 1) }
     requires within { end ≤ length shared.old.value.items }
-    ensures ok { OnOk result (shared.new.value.items ≡ spliced shared.old.value.items start (option_to_list line) end) }
+    ensures ok { OnOk result (shared.new.value.items
+        ≡ spliced shared.old.value.items start (option_to_list line) end) }
     ensures err { OnErr result (shared.new.value.items ≡ shared.old.value.items) }
 {
     let alloc = *shared.allocator();
@@ -108,7 +114,8 @@ fn splice_in_place(
 ) -> Result<(), AllocError>
     requires places { (start ≤ end) × (end ≤ start + 1) }
     requires within { end ≤ length lines.old.items }
-    ensures ok { OnOk result (lines.new.items ≡ spliced lines.old.items start (option_to_list line) end) }
+    ensures ok { OnOk result (lines.new.items
+        ≡ spliced lines.old.items start (option_to_list line) end) }
     ensures err { OnErr result (lines.new.items ≡ lines.old.items) }
 {
     match line {

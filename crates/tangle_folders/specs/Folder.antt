@@ -20,7 +20,7 @@ file_limit = 67108864
 abbrev pub bytes_of : List File → List ℕ → Option (List ℕ)
 bytes_of files name = lookup (bytes_eq name) files
 
--- what a folder answers that tells its files
+-- what a folder answers that reports its files
 abbrev pub Reads : Option (List File) → List ℕ → Result (Vec ℕ Global) FolderFault → Type 0
 Reads None name result = ⊤
 Reads (Some files) name (Ok bytes) = bytes_of files name ≡ Some bytes.items
@@ -29,25 +29,25 @@ Reads (Some files) name (Err TooBig) = IsSomeAnd (bytes_of files name) (λ bytes
 Reads (Some files) name (Err Failed) = ⊤
 Reads (Some files) name (Err NoMemory) = ⊤
 
--- the files created, where they are told, and these after them
+-- the files created, where they are reported, and these after them
 abbrev pub with_created : Option (List File) → List File → Option (List File)
 with_created None files = None
 with_created (Some old) files = Some (old ++ files)
 
--- the names asked for, where they are told, and this one after them
+-- the names asked for, where they are reported, and this one after them
 abbrev pub with_asked : Option (List (List ℕ)) → List ℕ → Option (List (List ℕ))
 with_asked None name = None
 with_asked (Some old) name = Some (old ++ name ∷ [])
 
--- The name is the last of those asked for. Where memory was wanting, it may be left out.
-abbrev pub Asks : Option (List (List ℕ)) → Option (List (List ℕ)) → List ℕ → Result (Vec ℕ Global) FolderFault → Type 0
-Asks old new name (Ok bytes) = new ≡ with_asked old name
-Asks old new name (Err Missing) = new ≡ with_asked old name
-Asks old new name (Err TooBig) = new ≡ with_asked old name
-Asks old new name (Err Failed) = new ≡ with_asked old name
-Asks old new name (Err NoMemory) = (new ≡ old) ⊎ (new ≡ with_asked old name)
+-- The name is the last of those asked for. Where memory ran out, it may be left out.
+abbrev pub AddsAsked : Option (List (List ℕ)) → Option (List (List ℕ)) → List ℕ → Result (Vec ℕ Global) FolderFault → Type 0
+AddsAsked old new name (Ok bytes) = new ≡ with_asked old name
+AddsAsked old new name (Err Missing) = new ≡ with_asked old name
+AddsAsked old new name (Err TooBig) = new ≡ with_asked old name
+AddsAsked old new name (Err Failed) = new ≡ with_asked old name
+AddsAsked old new name (Err NoMemory) = (new ≡ old) ⊎ (new ≡ with_asked old name)
 
--- the names at which it failed, where they are told: this one after them, if that is the answer
+-- the names at which it failed, where they are reported: this one after them, if that is the answer
 abbrev pub with_failed : Option (List (List ℕ)) → List ℕ → Result (Vec ℕ Global) FolderFault → Option (List (List ℕ))
 with_failed old name (Ok bytes) = old
 with_failed old name (Err Missing) = old
@@ -55,7 +55,7 @@ with_failed old name (Err TooBig) = old
 with_failed old name (Err Failed) = with_asked old name
 with_failed old name (Err NoMemory) = old
 
--- the sink of a folder that tells its files tells its bytes, and has none
+-- the sink of a folder that reports its files reports its bytes, and has none
 abbrev pub Begins : Option (List File) → Option (List ℕ) → Type 0
 Begins None taken = ⊤
 Begins (Some files) taken = taken ≡ Some []

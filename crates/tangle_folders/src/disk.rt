@@ -9,7 +9,7 @@ use std::rt::Files;
 use std::{fs, io, str};
 use tangle_streams::{IoSink, Sink};
 
-/// The folder that the program runs in. It tells nothing of its files.
+/// The folder that the program runs in. It says nothing of its files.
 ///
 /// Outputs are buffered, and are flushed when they are closed, so a full disk is found there.
 #[derive(Drop)]
@@ -57,8 +57,8 @@ fn read_at<R: Files>(rt: &R, alloc: Global, path: &str) -> io::Result<Vec<u8>> {
     Ok(bytes)
 }
 
-// The buffered writer of a new file. Where there is no memory for a buffer it has none, since a call that
-// is refused creates nothing.
+// The buffered writer of a new file. Where there is no memory for a buffer it has none, since a
+// call that is refused creates nothing.
 fn create_at<R: Files>(rt: &R, alloc: Global, path: &str) -> io::Result<BufWriter<R::File>> {
     match BufWriter::new(alloc, fs::create(rt, path)?) {
         Err(error) if error.kind() == ErrorKind::OutOfMemory => {

@@ -1,8 +1,12 @@
-//! A folder in memory, for tests: it tells its files, and can be made to fail.
-ghost use Rattle.std.specs.Prelude.{◌≡◌, ◌≢◌, ◌⊎◌, ◌≤◌, ◌-◌, ◌∷◌, ◌++◌, ℕ, min, List, [], None, Some, Err, Option, map, option_map, length, true, vec_len, IfErr, IfOk, IfSome, OnErr, OnOk};
+//! A folder in memory, for tests: it reports its files, and can be made to fail.
+ghost use Rattle.std.specs.Prelude.{◌≡◌, ◌≢◌, ◌⊎◌, ◌≤◌, ◌-◌, ◌∷◌, ◌++◌, ℕ, min, List, [], None};
+ghost use Rattle.std.specs.Prelude.{Some, Err, Option, map, option_map, length, true, vec_len};
+ghost use Rattle.std.specs.Prelude.{IfErr, IfOk, IfSome, OnErr, OnOk};
 ghost use Rattle.tangle_streams.specs.Streams.{Takes, counted, one_more_failure};
 ghost use Rattle.std.specs.Option.{option_copied};
-ghost use Rattle.tangle_folders.specs.Folder.{Asks, Reads, after_close, after_read, after_refusal, bytes_of, file_limit, with_failed, with_last};
+ghost use Rattle.tangle_folders.specs.Folder.{AddsAsked, Reads, after_close, after_read};
+ghost use Rattle.tangle_folders.specs.Folder.{after_refusal, bytes_of, file_limit, with_failed};
+ghost use Rattle.tangle_folders.specs.Folder.{with_last};
 ghost use Rattle.tangle_folders.specs.MemoryFolder.{after_call, file_of, held_files, is_due, texts};
 ghost use Rattle.tangle_folders.specs.declared.folder.FolderFault.TheVariants.{Failed, NoMemory};
 
@@ -54,7 +58,8 @@ impl Sink for MemorySink {
     // The clauses of the trait, and that it takes all for which it has room.
     fn take(&mut self, bytes: &[u8]) -> Option<usize>
         ensures within { IfSome result (λ n. n ≤ length bytes.now) }
-        ensures told { Takes (Some self.old.bytes.items) (Some self.new.bytes.items) bytes.now result }
+        ensures reported { Takes (Some self.old.bytes.items) (Some self.new.bytes.items) bytes.now
+            result }
         ensures failed { self.new.failures ≡ counted self.old.failures bytes.now result }
         ensures most { IfSome result (λ n. n ≡ min (length bytes.now) self.old.room) }
         ensures left { IfSome result (λ n. self.new.room ≡ self.old.room - n) }
@@ -76,8 +81,8 @@ impl Sink for MemorySink {
     }
 }
 
-/// A folder in memory, whose writers have room for so many bytes each. It notes the names that it was asked
-/// for, and can be made to fail once, at a later call.
+/// A folder in memory, whose writers have room for so many bytes each. It notes the names that it
+/// was asked for, and can be made to fail once, at a later call.
 #[derive(Drop)]
 pub struct MemoryFolder {
     files: IndexMap<Vec<u8>, Vec<u8>>,
@@ -111,15 +116,17 @@ impl MemoryFolder {
         }
     }
 
-    /// Puts a file of these bytes into the folder, in place of one of the same name. Files of other names stay.
+    /// Puts a file of these bytes into the folder, in place of one of the same name. Files of other
+    /// names stay.
     ///
     /// # Errors
     ///
-    /// `AllocError` where a growth is refused; the files are then what they were.
+    /// `AllocError` where an allocation fails; the files are then what they were.
     pub fn put(&mut self, alloc: Global, name: &[u8], bytes: &[u8]) -> Result<(), AllocError>
         ensures ok { OnOk result (bytes_of (held_files self.new.files) name.now ≡ Some bytes.now) }
         ensures others { OnOk result ((other : List ℕ) → other ≢ name.now
-            → bytes_of (held_files self.new.files) other ≡ bytes_of (held_files self.old.files) other) }
+            → bytes_of (held_files self.new.files) other
+            ≡ bytes_of (held_files self.old.files) other) }
         ensures err { OnErr result (held_files self.new.files ≡ held_files self.old.files) }
         ensures kept { self.new ≡ record self.old { files = self.new.files } }
     {
@@ -155,7 +162,8 @@ impl MemoryFolder {
     // Whether the call is the one that fails.
     fn is_due(&mut self) -> bool
         ensures due { result ≡ is_due self.old.calls_to_failure }
-        ensures after { self.new ≡ record self.old { calls_to_failure = after_call self.old.calls_to_failure } }
+        ensures after { self.new ≡ record self.old
+            { calls_to_failure = after_call self.old.calls_to_failure } }
     {
         let left = self.calls_to_failure;
         self.calls_to_failure = match left {
@@ -185,7 +193,8 @@ impl MemoryFolder {
         ensures counted { OnOk result (self.new.failures ≡ one_more_failure self.old.failures) }
         ensures err { OnErr result (self.new.failed.items ≡ self.old.failed.items) }
         ensures uncounted { OnErr result (self.new.failures ≡ self.old.failures) }
-        ensures others { self.new ≡ record self.old { failed = self.new.failed; failures = self.new.failures } }
+        ensures others { self.new ≡ record self.old
+            { failed = self.new.failed; failures = self.new.failures } }
     {
         let name = Vec::from_slice(alloc, name)?;
         self.failed.push(name)?;
@@ -232,9 +241,12 @@ impl Folder for MemoryFolder {
         ensures answer { Reads (Some (held_files self.old.files)) name.now result }
         ensures small { IfOk result (λ bytes. vec_len bytes ≤ file_limit) }
         ensures counted { self.new.failures ≡ after_read result self.old.failures }
-        ensures asks { Asks (Some (texts self.old.asked.items)) (Some (texts self.new.asked.items)) name.now result }
-        ensures fails { Some (texts self.new.failed.items) ≡ with_failed (Some (texts self.old.failed.items)) name.now result }
-        ensures due { is_due self.old.calls_to_failure ≡ true → (result ≡ Err Failed) ⊎ (result ≡ Err NoMemory) }
+        ensures asks { AddsAsked (Some (texts self.old.asked.items))
+            (Some (texts self.new.asked.items)) name.now result }
+        ensures fails { Some (texts self.new.failed.items)
+            ≡ with_failed (Some (texts self.old.failed.items)) name.now result }
+        ensures due { is_due self.old.calls_to_failure ≡ true → (result ≡ Err Failed)
+            ⊎ (result ≡ Err NoMemory) }
         ensures only_due { result ≡ Err Failed → is_due self.old.calls_to_failure ≡ true }
         ensures kept { self.new ≡ record self.old {
           asked = self.new.asked;
@@ -274,7 +286,8 @@ impl Folder for MemoryFolder {
         ensures empty { IfOk result (λ out. out.bytes.items ≡ []) }
         ensures unfailed { IfOk result (λ out. out.failures ≡ 0) }
         ensures room { IfOk result (λ out. out.room ≡ self.old.room) }
-        ensures refused { OnErr result (map file_of self.new.created.items ≡ map file_of self.old.created.items) }
+        ensures refused { OnErr result
+            (map file_of self.new.created.items ≡ map file_of self.old.created.items) }
         ensures counted { self.new.failures ≡ after_refusal result self.old.failures }
         ensures due { is_due self.old.calls_to_failure ≡ true → result ≡ Err Failed }
         ensures only_due { result ≡ Err Failed → is_due self.old.calls_to_failure ≡ true }

@@ -5,15 +5,15 @@ use Rattle.std.proofs.lemmas.List.{flat_map_more, get_or-map, take_all, take_mor
 use Rattle.std.specs.Prelude.{None, if◌then◌else◌}
 use Rattle.tangle_lines.specs.declared.faults.FaultKind.{FaultKind}
 use Rattle.tangle_lines.specs.declared.faults.FaultKind.TheVariants as kind
-use Rattle.tangle_lines.specs.Faults.{Finding, fault_unplaced}
+use Rattle.tangle_lines.specs.Faults.{FaultRead, fault_unplaced}
 use Rattle.tangle_lexer.specs.Occurrences.{OccurrenceRead}
 use Rattle.tangle_scan.specs.Web.{PieceRead, WebRead}
 use Rattle.tangle_names.specs.declared.Resolved.{Resolved}
 use Rattle.tangle_names.specs.NameTable.{TableRead}
 use Rattle.tangle_names.specs.Numbers.{NotesNumber, is_number}
 use Rattle.tangle_expansion.specs.ItemSlots.{pieces_at}
-use Rattle.tangle_expansion.specs.Projects.{project, shape_item}
-use Rattle.tangle_expansion.specs.Shapes.{Title, Named, Shape, Project}
+use Rattle.tangle_expansion.specs.WebShapes.{shapes, shape_item}
+use Rattle.tangle_expansion.specs.Shapes.{Title, Named, Shape, Shapes}
 use Rattle.tangle_expansion.specs.Shapes as title
 use Rattle.digraph.specs.Graph.{Graph, HasUse, rows_of, row_at}
 use Rattle.digraph.specs.Flags.{FlagsJust}
@@ -44,16 +44,16 @@ resolved_at : (f : OccurrenceRead → Resolved) (os : List OccurrenceRead) (rs :
     → rs ≡ map f os → r ≡ get_or rs i d → r ≡ f o
 resolved_at f os rs i o r d h read all at = at ∙ (ap (λ xs. get_or xs i d) all ∙ (get_or-map f os i o d h ∙ ap f (sym read)))
 
-pub use_step : (f : OccurrenceRead → Resolved) (os : List OccurrenceRead) (rs : List Resolved) (i id : ℕ) (o : OccurrenceRead) (r d : Resolved) (wanted : Bool) (old new : List ℕ)
-    → i < length os → o ≡ get_or os i o → rs ≡ map f os → r ≡ get_or rs i d → wanted ≡ is_use o.role → id < length old
-    → get_or old id 0 ≡ i + 1 + first_use_by_number f (drop (i + 1) os) id → NotesNumber old new wanted i r
+pub use_step : (f : OccurrenceRead → Resolved) (os : List OccurrenceRead) (rs : List Resolved) (i id : ℕ) (o : OccurrenceRead) (r d : Resolved) (needed : Bool) (old new : List ℕ)
+    → i < length os → o ≡ get_or os i o → rs ≡ map f os → r ≡ get_or rs i d → needed ≡ is_use o.role → id < length old
+    → get_or old id 0 ≡ i + 1 + first_use_by_number f (drop (i + 1) os) id → NotesNumber old new needed i r
     → get_or new id 0 ≡ i + first_use_by_number f (drop i os) id
-use_step f os rs i id o r d wanted old new h read all at is within sofar notes =
+use_step f os rs i id o r d needed old new h read all at is within sofar notes =
     let resolved = resolved_at f os rs i o r d h read all at in
     notes.numbers id within ∙ ((λ j. cond (is j && is_number id (resolved j)) i (sofar j)) ∙ sym (first_at (λ (o : OccurrenceRead). is_use o.role && is_number id (f o)) os i o h read))
 
 -- the faults of one name more
-pub range_more : (g : ℕ → List Finding) (a n : ℕ) → flat_map g (range_with_len a (n + 1)) ≡ flat_map g (range_with_len a n) ++ g (a + n)
+pub range_more : (g : ℕ → List FaultRead) (a n : ℕ) → flat_map g (range_with_len a (n + 1)) ≡ flat_map g (range_with_len a n) ++ g (a + n)
 range_more g a zero = append-nil (g a) ∙ ap g (sym (add-zero a))
 range_more g a (suc n) =
     let place : a + 1 + n ≡ a + suc n = omega arith in
@@ -61,27 +61,27 @@ range_more g a (suc n) =
     ap (λ k. flat_map g (range_with_len a k)) one_more ∙ ap (λ l. g a ++ l) (range_more g (a + 1) n) ∙ sym (append_assoc (g a) (flat_map g (range_with_len (a + 1) n)) (g (a + 1 + n)))
     ∙ ap (λ k. (g a ++ flat_map g (range_with_len (a + 1) n)) ++ g k) place
 
-pub listed_step : (g : ℕ → List Finding) (names : List ℕ) (i : ℕ) (before now next : List Finding) → i < length names → now ≡ before ++ flat_map g (take i names) → next ≡ now ++ g (get_or names i 0)
+pub listed_step : (g : ℕ → List FaultRead) (names : List ℕ) (i : ℕ) (before now next : List FaultRead) → i < length names → now ≡ before ++ flat_map g (take i names) → next ≡ now ++ g (get_or names i 0)
     → next ≡ before ++ flat_map g (take (i + 1) names)
 listed_step g names i before now next h sofar is =
     is ∙ ap (λ l. l ++ g (get_or names i 0)) sofar ∙ append_assoc before (flat_map g (take i names)) (g (get_or names i 0))
     ∙ ap (λ l. before ++ l) (flat_map_more g [] (take i names) (get_or names i 0) ∙ ap (flat_map g) (sym (take_more names i 0 h)))
 
 -- one number more of a list that may leave out what has no fault
-pub suspects_step : (g : ℕ → List Finding) (n : ℕ) (names : List ℕ) (wanted : Bool) → (wanted ≡ false → g n ≡ []) → flat_map g names ≡ flat_map g (range_with_len 0 n)
-    → flat_map g (names ++ cond wanted (n ∷ []) []) ≡ flat_map g (range_with_len 0 (n + 1))
+pub suspects_step : (g : ℕ → List FaultRead) (n : ℕ) (names : List ℕ) (needed : Bool) → (needed ≡ false → g n ≡ []) → flat_map g names ≡ flat_map g (range_with_len 0 n)
+    → flat_map g (names ++ cond needed (n ∷ []) []) ≡ flat_map g (range_with_len 0 (n + 1))
 suspects_step g n names true none sofar =
     sym (flat_map_more g [] names n) ∙ ap (λ l. l ++ g n) sofar ∙ ap (λ k. flat_map g (range_with_len 0 n) ++ g k) (sym (zero-add n)) ∙ sym (range_more g 0 n)
 suspects_step g n names false none sofar =
     ap (flat_map g) (append-nil names) ∙ sofar ∙ sym (append-nil (flat_map g (range_with_len 0 n))) ∙ ap (λ l. flat_map g (range_with_len 0 n) ++ l) (sym (ap g (zero-add n) ∙ none refl)) ∙ sym (range_more g 0 n)
 
 -- the faults of one kind more
-pub kinds_step : (f : FaultKind → List Finding) (ks : List FaultKind) (i : ℕ) (d : FaultKind) (before now : List Finding) → i < length ks
+pub kinds_step : (f : FaultKind → List FaultRead) (ks : List FaultKind) (i : ℕ) (d : FaultKind) (before now : List FaultRead) → i < length ks
     → before ≡ flat_map f (take i ks) → now ≡ before ++ f (get_or ks i d) → now ≡ flat_map f (take (i + 1) ks)
 kinds_step f ks i d before now h sofar is =
     is ∙ ap (λ l. l ++ f (get_or ks i d)) sofar ∙ flat_map_more f [] (take i ks) (get_or ks i d) ∙ ap (flat_map f) (sym (take_more ks i d h))
 
-pub kinds_whole : (f : FaultKind → List Finding) (ks : List FaultKind) (i : ℕ) (now : List Finding) → length ks ≤ i → now ≡ flat_map f (take i ks) → now ≡ flat_map f ks
+pub kinds_whole : (f : FaultKind → List FaultRead) (ks : List FaultKind) (i : ℕ) (now : List FaultRead) → length ks ≤ i → now ≡ flat_map f (take i ks) → now ≡ flat_map f ks
 kinds_whole f ks i now h is = is ∙ ap (flat_map f) (take_all i ks h)
 
 -- a node has a piece where there is a number of one
@@ -106,18 +106,18 @@ module _ (web : WebRead) (table : TableRead) (rows uses : Graph) (is : IsGraphOf
   defined_size flags filled = filled.size ∙ rows_size rows ∙ is.rows_size
 
   pub containing_flag : (flags : List Bool) → FlagsJust uses flags (graph.ContainsItself (HasUse uses)) → (n : ℕ) → n ≤ length table.names
-      → (flag_at flags n ≡ true) ↔ title.ContainsItself (project web table) (title_at table.names n)
+      → (flag_at flags n ≡ true) ↔ title.ContainsItself (shapes web table) (title_at table.names n)
   containing_flag flags just n h =
-      let alike = contains_alike uses (UsesTitle (project web table)) (title_at table.names) is.titled n (below n h) in
-      let titles = contains_by_titles (project web table) (title_at table.names n) in
+      let alike = contains_alike uses (UsesTitle (shapes web table)) (title_at table.names) is.titled n (below n h) in
+      let titles = contains_by_titles (shapes web table) (title_at table.names n) in
       let flag = just n (below n h) in
       (λ e. titles.0 (alike.0 (flag.0 e)), λ c. flag.1 (alike.1 (titles.1 c)))
 
   pub reaching_flag : (flags : List Bool) → FlagsJust uses flags (graph.ReachesCycle (HasUse uses)) → (n : ℕ) → n ≤ length table.names
-      → (flag_at flags n ≡ true) ↔ ReachesCycle (project web table) (title_at table.names n)
+      → (flag_at flags n ≡ true) ↔ ReachesCycle (shapes web table) (title_at table.names n)
   reaching_flag flags just n h =
-      let alike = cycle_alike uses (UsesTitle (project web table)) (title_at table.names) is.titled n (below n h) in
-      let titles = cycle_by_titles (project web table) (title_at table.names n) in
+      let alike = cycle_alike uses (UsesTitle (shapes web table)) (title_at table.names) is.titled n (below n h) in
+      let titles = cycle_by_titles (shapes web table) (title_at table.names n) in
       let flag = just n (below n h) in
       (λ e. titles.0 (alike.0 (flag.0 e)), λ c. flag.1 (alike.1 (titles.1 c)))
 
@@ -143,7 +143,7 @@ same_flag true false p q = sym (q.1 (p.0 refl))
 same_flag false true p q = p.1 (q.0 refl)
 same_flag false false p q = refl
 
-same_in_range : (f g : ℕ → List Finding) (a n : ℕ) → ((k : ℕ) → a ≤ k → k < a + n → f k ≡ g k) → flat_map f (range_with_len a n) ≡ flat_map g (range_with_len a n)
+same_in_range : (f g : ℕ → List FaultRead) (a n : ℕ) → ((k : ℕ) → a ≤ k → k < a + n → f k ≡ g k) → flat_map f (range_with_len a n) ≡ flat_map g (range_with_len a n)
 same_in_range f g a zero same = refl
 same_in_range f g a (suc n) same =
     let first : f a ≡ g a = same a (omega arith) (omega arith) in
@@ -153,7 +153,7 @@ same_in_range f g a (suc n) same =
 module _ (web : WebRead) (table : TableRead) (out : List ℕ) (c d r s : ℕ → Bool)
     (containing : (n : ℕ) → n ≤ length table.names → c n ≡ d n) (reaching : (n : ℕ) → n ≤ length table.names → r n ≡ s n) where
   same_large : (n : ℕ) → n ≤ length table.names → is_too_large web table r n ≡ is_too_large web table s n
-  same_large n h = ap (λ b. is_defined web table n && (not b && not (is_expandable (project web table) (title_at table.names n)))) (reaching n h)
+  same_large n h = ap (λ b. is_defined web table n && (not b && not (is_expandable (shapes web table) (title_at table.names n)))) (reaching n h)
 
   same_containing : faults_of_names web table out c r kind.SelfContaining ≡ faults_of_names web table out d s kind.SelfContaining
   same_containing = same_in_range _ _ 0 (length table.names) (λ k low high.
@@ -170,7 +170,7 @@ module _ (web : WebRead) (table : TableRead) (out : List ℕ) (c d r s : ℕ →
   same_faults = λ i. faults_of_names web table out c r kind.Undefined ++ (faults_of_names web table out c r kind.Unused ++ (same_containing i
       ++ (same_too_large i ++ (same_program i ++ (faults_of_names web table out c r kind.FileClash ++ no_program web table out c r)))))
 
-pub one_list : (web : WebRead) (table : TableRead) (out : List ℕ) (a b : List Finding) → AreGraphFaults web table out a → AreGraphFaults web table out b → a ≡ b
+pub one_list : (web : WebRead) (table : TableRead) (out : List ℕ) (a b : List FaultRead) → AreGraphFaults web table out a → AreGraphFaults web table out b → a ≡ b
 one_list web table out a b x y =
     x.list ∙ same_faults web table out x.contains_itself y.contains_itself x.reaches_cycle y.reaches_cycle
     (λ n h. same_flag (x.contains_itself n) (y.contains_itself n) (x.self_containing n h) (y.self_containing n h))

@@ -15,7 +15,7 @@ use Rattle.tangle_names.specs.NameTable.{TableRead}
 use Rattle.tangle_expansion.specs.Shapes.{Title, Named, Uses}
 use Rattle.tangle_expansion.specs.Shapes as title
 use Rattle.tangle_expansion.specs.ItemSlots.{pieces_at, no_piece}
-use Rattle.tangle_expansion.specs.Projects.{resolved_at, IsNameBelow, ResolvesInside, project}
+use Rattle.tangle_expansion.specs.WebShapes.{resolved_at, IsNameBelow, ResolvesInside, shapes}
 use Rattle.digraph.specs.Graph.{Graph, HasUse, rows_of, row_at}
 use Rattle.digraph.specs.Rows.{IsRowsOf, IsOnceEach}
 use Rattle.digraph.specs.Titles.{IsTitled}
@@ -65,7 +65,7 @@ module _ (web : WebRead) (table : TableRead) (rows : Graph) (used : List (List �
   uses_count : length uses ≡ length table.names + 1
   uses_count = omega (arith, same_size, collected.size)
 
-  -- what stands in a row is used by the node
+  -- what is in a row is used by the node
   use_down : (n m : ℕ) → HasUse uses n m → (n ≤ length table.names) × Contains (used_numbers table web.pieces n) m
   use_down n m u =
       let low : n < length uses = node_in uses n m u in
@@ -81,18 +81,18 @@ module _ (web : WebRead) (table : TableRead) (rows : Graph) (used : List (List �
   use_below : (n m : ℕ) → HasUse uses n m → m < length table.names
   use_below n m u = used_below table inside web.pieces n m (use_down n m u).1
 
-  to_title : (n : ℕ) (t : Title) → n ≤ length table.names → UsesTitle (project web table) (title_at table.names n) t
+  to_title : (n : ℕ) (t : Title) → n ≤ length table.names → UsesTitle (shapes web table) (title_at table.names n) t
       → (m : ℕ) × HasUse uses n m × (m < length uses) × (title_at table.names m ≡ t)
   to_title n title.Program low u = absurd u
   to_title n (Named name) low u =
       let found = title_uses web table distinct inside n name low u in
       (found.0, use_up n found.0 low found.1, omega (arith, found.2, uses_count), title_inside table.names found.0 found.2 ∙ ap Named found.3)
 
-  titled : IsTitled uses (UsesTitle (project web table)) (title_at table.names)
+  titled : IsTitled uses (UsesTitle (shapes web table)) (title_at table.names)
   titled = record {
     once = λ n m hn hm e. once_titled table.names n m distinct (omega (arith, hn, uses_count)) (omega (arith, hm, uses_count)) e;
     sound = λ n m u. (let down = use_down n m u in
-        subst (UsesTitle (project web table) (title_at table.names n)) (sym (title_inside table.names m (use_below n m u)))
+        subst (UsesTitle (shapes web table) (title_at table.names n)) (sym (title_inside table.names m (use_below n m u)))
         (number_uses web table distinct inside n m down.0 down.1));
     complete = λ n t h u. to_title n t (omega (arith, h, uses_count)) u;
   }

@@ -15,7 +15,7 @@ use Rattle.tangle_names.specs.declared.Resolved.TheVariants as resolved
 use Rattle.tangle_names.specs.NameTable.{TableRead}
 use Rattle.tangle_expansion.specs.Shapes.{Title, Named, title_eq, ShapeItem, Use, UsesInPiece, UsesInShape, Uses, IsUseOf}
 use Rattle.tangle_expansion.specs.Shapes as title
-use Rattle.tangle_expansion.specs.Projects.{resolved_at, use_of, node_of, node_of_name, is_node, IsNameBelow, ResolvesInside, shape_item, pieces_of, project}
+use Rattle.tangle_expansion.specs.WebShapes.{resolved_at, use_of, node_of, node_of_name, is_node, IsNameBelow, ResolvesInside, shape_item, pieces_of, shapes}
 use Rattle.tangle_graph.specs.Nodes.{title_at}
 use Rattle.tangle_graph.specs.Grouping.{number_of_name, number_of, used_by, used_in, is_number, is_piece_of_number, used_numbers}
 use Rattle.tangle_graph.proofs.NodeLemmas.{title_inside, title_past, once_named}
@@ -59,7 +59,7 @@ module _ (table : TableRead) (distinct : IsDistinct bytes_eq table.names) (insid
   named_is n (Some occurrence) hn = resolved_is n (resolved_at table occurrence) hn (inside occurrence)
 
   pub pieces_by_number : (web : WebRead) (n : ℕ) → n ≤ length table.names → filter (is_piece_of_number table n) web.pieces ≡ pieces_of web table (title_at table.names n)
-  pieces_by_number web n hn = λ i. filter (λ (piece : PieceRead). named_is n piece.name hn i) web.pieces
+  pieces_by_number web n hn = λ i. filter (λ (piece : PieceRead). named_is n piece.occurrence hn i) web.pieces
 
 -- The uses of the shape are those by number.
 module _ (texts : List (List ℕ)) (table : TableRead) (inside : ResolvesInside table) where
@@ -135,13 +135,13 @@ module _ (texts : List (List ℕ)) (table : TableRead) (inside : ResolvesInside 
 
 module _ (web : WebRead) (table : TableRead) (distinct : IsDistinct bytes_eq table.names) (inside : ResolvesInside table) where
   -- what the node with this number uses by number, it uses by title
-  pub number_uses : (n m : ℕ) → n ≤ length table.names → Contains (used_numbers table web.pieces n) m → Uses (project web table) (title_at table.names n) (get_or table.names m [])
+  pub number_uses : (n m : ℕ) → n ≤ length table.names → Contains (used_numbers table web.pieces n) m → Uses (shapes web table) (title_at table.names n) (get_or table.names m [])
   number_uses n m hn c =
       let by : flat_map (used_in table) (filter (is_piece_of_number table n) web.pieces) ≡ flat_map (used_in table) (pieces_of web table (title_at table.names n)) =
       ap (flat_map (used_in table)) (pieces_by_number table distinct inside web n hn) in
       pieces_use web.texts table inside (pieces_of web table (title_at table.names n)) m (subst (λ l. Contains l m) by c)
 
-  pub title_uses : (n : ℕ) (name : List ℕ) → n ≤ length table.names → Uses (project web table) (title_at table.names n) name
+  pub title_uses : (n : ℕ) (name : List ℕ) → n ≤ length table.names → Uses (shapes web table) (title_at table.names n) name
       → (m : ℕ) × Contains (used_numbers table web.pieces n) m × (m < length table.names) × (get_or table.names m [] ≡ name)
   title_uses n name hn u =
       let by : flat_map (used_in table) (filter (is_piece_of_number table n) web.pieces) ≡ flat_map (used_in table) (pieces_of web table (title_at table.names n)) =

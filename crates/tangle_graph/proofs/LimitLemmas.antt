@@ -6,7 +6,7 @@ use Rattle.tangle_names.specs.NameTable.{TableRead}
 use Rattle.tangle_expansion.specs.Shapes.{Program, Shape}
 use Rattle.tangle_expansion.specs.ItemSlots.{no_piece}
 use Rattle.tangle_expansion.specs.Limits.{weight_of, depth_of}
-use Rattle.tangle_expansion.specs.Projects.{pieces_of, project, shape_item}
+use Rattle.tangle_expansion.specs.WebShapes.{pieces_of, shapes, shape_item}
 use Rattle.digraph.specs.Graph.{Graph, rows_of, row_at}
 use Rattle.digraph.proofs.GraphLemmas.{rows_size}
 use Rattle.tangle_graph.specs.Groups.{IsGraphOf}
@@ -23,21 +23,21 @@ filled_alike (k ∷ row) [] e = absurd (omega (arith, e))
 filled_alike (k ∷ row) (x ∷ s) e = refl
 
 module _ (web : WebRead) (table : TableRead) (rows uses : Graph) (is : IsGraphOf web table rows uses) where
-  pub shape_size : (n : ℕ) → n < length uses → length (project web table (title_at table.names n)) ≡ length (row_at (rows_of rows) n)
+  pub shape_size : (n : ℕ) → n < length uses → length (shapes web table (title_at table.names n)) ≡ length (row_at (rows_of rows) n)
   shape_size n h =
       let pieces = is.pieces n (omega (arith, h, is.rows_size, is.uses_size)) in
       length-map (pieces_of web table (title_at table.names n)) (λ (p : PieceRead). map (shape_item web.texts table) p.items)
       ∙ ap length (sym pieces) ∙ length-map (row_at (rows_of rows) n) (λ k. get_or web.pieces k no_piece)
 
   pub limited : (weights depths : List ℕ) (flags : List Bool) → AreWithin (rows_of rows) weights depths flags
-      → ((n : ℕ) → n < length uses → get_or weights n 0 ≡ weight_of (project web table) (title_at table.names n))
-      → ((n : ℕ) → n < length uses → get_or depths n 0 ≡ depth_of (project web table) (title_at table.names n))
-      → (n : ℕ) → n < length uses → get_or flags n false ≡ is_expandable (project web table) (title_at table.names n)
+      → ((n : ℕ) → n < length uses → get_or weights n 0 ≡ weight_of (shapes web table) (title_at table.names n))
+      → ((n : ℕ) → n < length uses → get_or depths n 0 ≡ depth_of (shapes web table) (title_at table.names n))
+      → (n : ℕ) → n < length uses → get_or flags n false ≡ is_expandable (shapes web table) (title_at table.names n)
   limited weights depths flags within weighed measured n h =
       within.flag n (omega (arith, h, is.rows_size, is.uses_size, rows_size rows))
-      ∙ expandable_by_limits (project web table) (title_at table.names n) (row_at (rows_of rows) n) (get_or weights n 0) (get_or depths n 0) (shape_size n h) (weighed n h) (measured n h)
+      ∙ expandable_by_limits (shapes web table) (title_at table.names n) (row_at (rows_of rows) n) (get_or weights n 0) (get_or depths n 0) (shape_size n h) (weighed n h) (measured n h)
 
-  pub program_filled : is_filled (row_at (rows_of rows) (length table.names)) ≡ has_pieces (project web table Program)
+  pub program_filled : is_filled (row_at (rows_of rows) (length table.names)) ≡ has_pieces (shapes web table Program)
   program_filled =
-      filled_alike (row_at (rows_of rows) (length table.names)) (project web table (title_at table.names (length table.names))) (shape_size (length table.names) (omega (arith, is.uses_size)))
-      ∙ ap (λ t. has_pieces (project web table t)) (title_past table.names (length table.names) (omega arith))
+      filled_alike (row_at (rows_of rows) (length table.names)) (shapes web table (title_at table.names (length table.names))) (shape_size (length table.names) (omega (arith, is.uses_size)))
+      ∙ ap (λ t. has_pieces (shapes web table t)) (title_past table.names (length table.names) (omega arith))

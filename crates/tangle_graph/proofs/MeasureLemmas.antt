@@ -8,9 +8,9 @@ use Rattle.tangle_scan.specs.Web.{PieceRead}
 use Rattle.tangle_names.specs.declared.Resolved.{Resolved}
 use Rattle.tangle_names.specs.declared.Resolved.TheVariants as resolved
 use Rattle.tangle_names.specs.NameTable.{TableRead}
-use Rattle.tangle_expansion.specs.Shapes.{Title, Named, ShapeItem, Written, Mark, Macros, Use, NoUse, Shape, Project, IsUseOf, UsesInPiece, UsesInShape}
+use Rattle.tangle_expansion.specs.Shapes.{Title, Named, ShapeItem, Written, Mark, Macros, Use, NoUse, Shape, Shapes, IsUseOf, UsesInPiece, UsesInShape}
 use Rattle.tangle_expansion.specs.Flat.{item_weight, items_weight, pieces_weight, weight, item_depth, items_depth, pieces_depth, depth}
-use Rattle.tangle_expansion.specs.Projects.{resolved_at, use_of, shape_item, IsNameBelow, ResolvesInside}
+use Rattle.tangle_expansion.specs.WebShapes.{resolved_at, use_of, shape_item, IsNameBelow, ResolvesInside}
 use Rattle.tangle_graph.specs.Grouping.{number_of_name}
 use Rattle.tangle_graph.specs.Measures.{use_weight, weight_of_item, weight_of_piece, weight_of_pieces}
 
@@ -171,11 +171,11 @@ pieces_weight-on : (f g : List ℕ → ℕ) (pieces : Shape) → ((name : List �
 pieces_weight-on f g [] same = refl
 pieces_weight-on f g (items ∷ pieces) same = omega (arith, items_weight-on f g items (λ name u. same name (inl u)), pieces_weight-on f g pieces (λ name u. same name (inr u)))
 
-pub weight-settles : (fuel more : ℕ) (project : Project) (node : Title) → depth fuel project node < fuel → weight (fuel + more) project node ≡ weight fuel project node
-weight-settles zero more project node h = absurd (omega (arith, h))
-weight-settles (suc fuel) more project node h =
+pub weight-settles : (fuel more : ℕ) (shapes : Shapes) (node : Title) → depth fuel shapes node < fuel → weight (fuel + more) shapes node ≡ weight fuel shapes node
+weight-settles zero more shapes node h = absurd (omega (arith, h))
+weight-settles (suc fuel) more shapes node h =
     let moved : suc fuel + more ≡ suc (fuel + more) = omega arith in
-    ap (λ n. weight n project node) moved
-    ∙ pieces_weight-on (λ name. weight (fuel + more) project (Named name)) (λ name. weight fuel project (Named name)) (project node)
-    (λ name u. weight-settles fuel more project (Named name)
-    (let low = pieces_depth-use (λ other. depth fuel project (Named other)) (project node) name u in omega (arith, low, h)))
+    ap (λ n. weight n shapes node) moved
+    ∙ pieces_weight-on (λ name. weight (fuel + more) shapes (Named name)) (λ name. weight fuel shapes (Named name)) (shapes node)
+    (λ name u. weight-settles fuel more shapes (Named name)
+    (let low = pieces_depth-use (λ other. depth fuel shapes (Named other)) (shapes node) name u in omega (arith, low, h)))

@@ -12,13 +12,13 @@ use Rattle.tangle_expansion.specs.Shapes.{Title, Named}
 use Rattle.tangle_expansion.specs.Shapes as title
 use Rattle.tangle_expansion.specs.declared.nodes.Node.{Node}
 use Rattle.tangle_expansion.specs.declared.nodes.Node.TheVariants.{Program, Name}
-use Rattle.tangle_graph.specs.Nodes.{title_of_text, title_at, title_of_node, IsNodeOf, node_at, number_in}
+use Rattle.tangle_graph.specs.Nodes.{title_of_body, title_at, title_of_node, IsNodeOf, node_at, number_in}
 
 pub title_inside : (names : List (List ℕ)) (n : ℕ) → n < length names → title_at names n ≡ Named (get_or names n [])
-title_inside names n h = ap title_of_text (slice_get-get_or names n [] h)
+title_inside names n h = ap title_of_body (slice_get-get_or names n [] h)
 
 pub title_past : (names : List (List ℕ)) (n : ℕ) → length names ≤ n → title_at names n ≡ title.Program
-title_past names n h = ap title_of_text (slice_get_past names n h)
+title_past names n h = ap title_of_body (slice_get_past names n h)
 
 -- what has a name is one of the names
 pub named_inside : (names : List (List ℕ)) (n : ℕ) (name : List ℕ) → title_at names n ≡ Named name → n < length names
@@ -27,10 +27,10 @@ named_inside names n name e = elim (dec_lt n (length names)) [
   | no past ↦ (let is : title_at names n ≡ title.Program = title_past names n (omega (arith, past)) in let both : Named name ≡ title.Program = sym e ∙ is in absurd (cc))
 ]
 
-pub text_of_named : (a b : List ℕ) → Named a ≡ Named b → a ≡ b
-text_of_named a b e = cc
+pub body_of_named : (a b : List ℕ) → Named a ≡ Named b → a ≡ b
+body_of_named a b e = cc
 
--- each text stands once
+-- each text is once
 pub once_named : (names : List (List ℕ)) (n m : ℕ) → IsDistinct bytes_eq names → n < length names → m < length names → get_or names n [] ≡ get_or names m [] → n ≡ m
 once_named names n m distinct hn hm e = elim (ℕ_discrete n m) [
   | yes same ↦ same
@@ -46,7 +46,7 @@ once_titled names n m distinct hn hm e = elim (dec_lt n (length names)) [
   | yes low ↦ (let named : title_at names m ≡ Named (get_or names n []) = sym e ∙ title_inside names n low in
       let within : m < length names = named_inside names m (get_or names n []) named in
       let same : Named (get_or names n []) ≡ Named (get_or names m []) = sym named ∙ title_inside names m within in
-      once_named names n m distinct low within (text_of_named (get_or names n []) (get_or names m []) same))
+      once_named names n m distinct low within (body_of_named (get_or names n []) (get_or names m []) same))
   | no past ↦ elim (dec_lt m (length names)) [
     | yes low ↦ (let named : title_at names n ≡ Named (get_or names m []) = e ∙ title_inside names m low in
         let within : n < length names = named_inside names n (get_or names m []) named in
@@ -73,7 +73,7 @@ node_is names n h = elim (dec_lt n (length names)) [
   | no past ↦ (let end : length names ≤ n = omega (arith, past) in subst (IsNodeOf names) (sym (node_past (length names) n end)) tt)
 ]
 
--- each node has a number, by which its entries stand
+-- each node has a number, by which its entries are
 pub numbered : (names : List (List ℕ)) (node : Node) → IsNodeOf names node → (n : ℕ) × (n ≤ length names) × (node_at (length names) n ≡ node) × (number_in (length names) node ≡ Some n)
 numbered names Program h = (length names, omega arith, node_past (length names) (length names) (omega arith), refl)
 numbered names (Name id) h =

@@ -8,7 +8,7 @@ use Rattle.digraph.specs.Graph.{Graph, InRange}
 use Rattle.digraph.specs.Order.{IsAfterUses, IsOrder}
 use Rattle.digraph.specs.Titles.{IsTitled}
 use Rattle.digraph.proofs.GraphLemmas.{use_in}
-use Rattle.tangle_expansion.specs.Shapes.{Title, Program, Named, Project}
+use Rattle.tangle_expansion.specs.Shapes.{Title, Program, Named, Shapes}
 use Rattle.tangle_expansion.specs.Flat.{weight, depth}
 use Rattle.tangle_graph.specs.Nodes.{UsesTitle}
 use Rattle.tangle_graph.specs.Measures.{AreMeasured}
@@ -81,27 +81,27 @@ measured_all value other values order i n h sofar low rest =
 
 -- A use is one level more, and one more in weight.
 
-deeper : (steps : ℕ) (project : Project) (a b : Title) → UsesTitle project a b → steps ≤ depth steps project b → suc steps ≤ depth (suc steps) project a
-deeper steps project a Program u h = absurd u
-deeper steps project a (Named name) u h = omega (arith, h, pieces_depth-use (λ other. depth steps project (Named other)) (project a) name u)
+deeper : (steps : ℕ) (shapes : Shapes) (a b : Title) → UsesTitle shapes a b → steps ≤ depth steps shapes b → suc steps ≤ depth (suc steps) shapes a
+deeper steps shapes a Program u h = absurd u
+deeper steps shapes a (Named name) u h = omega (arith, h, pieces_depth-use (λ other. depth steps shapes (Named other)) (shapes a) name u)
 
-heavier : (steps : ℕ) (project : Project) (a b : Title) → UsesTitle project a b → steps ≤ weight steps project b → suc steps ≤ weight (suc steps) project a
-heavier steps project a Program u h = absurd u
-heavier steps project a (Named name) u h = omega (arith, h, pieces_weight-use (λ other. weight steps project (Named other)) (project a) name u)
+heavier : (steps : ℕ) (shapes : Shapes) (a b : Title) → UsesTitle shapes a b → steps ≤ weight steps shapes b → suc steps ≤ weight (suc steps) shapes a
+heavier steps shapes a Program u h = absurd u
+heavier steps shapes a (Named name) u h = omega (arith, h, pieces_weight-use (λ other. weight steps shapes (Named other)) (shapes a) name u)
 
 -- what is left out of an order is deeper, and heavier, than any number
-pub left_out_deepest : (graph : Graph) (project : Project) (title : ℕ → Title) (order : List ℕ) (steps n : ℕ) → IsTitled graph (UsesTitle project) title → InRange graph → IsOrder graph order
-    → n < length graph → ((c : Contains order n) → ⊥) → steps ≤ depth steps project (title n)
-left_out_deepest graph project title order zero n titled range is low out = omega arith
-left_out_deepest graph project title order (suc steps) n titled range is low out =
+pub left_out_deepest : (graph : Graph) (shapes : Shapes) (title : ℕ → Title) (order : List ℕ) (steps n : ℕ) → IsTitled graph (UsesTitle shapes) title → InRange graph → IsOrder graph order
+    → n < length graph → ((c : Contains order n) → ⊥) → steps ≤ depth steps shapes (title n)
+left_out_deepest graph shapes title order zero n titled range is low out = omega arith
+left_out_deepest graph shapes title order (suc steps) n titled range is low out =
     let next = is.rest n low out in
-    deeper steps project (title n) (title next.0) (titled.sound n next.0 next.1)
-    (left_out_deepest graph project title order steps next.0 titled range is (use_in graph range n next.0 next.1) next.2)
+    deeper steps shapes (title n) (title next.0) (titled.sound n next.0 next.1)
+    (left_out_deepest graph shapes title order steps next.0 titled range is (use_in graph range n next.0 next.1) next.2)
 
-pub left_out_heaviest : (graph : Graph) (project : Project) (title : ℕ → Title) (order : List ℕ) (steps n : ℕ) → IsTitled graph (UsesTitle project) title → InRange graph → IsOrder graph order
-    → n < length graph → ((c : Contains order n) → ⊥) → steps ≤ weight steps project (title n)
-left_out_heaviest graph project title order zero n titled range is low out = omega arith
-left_out_heaviest graph project title order (suc steps) n titled range is low out =
+pub left_out_heaviest : (graph : Graph) (shapes : Shapes) (title : ℕ → Title) (order : List ℕ) (steps n : ℕ) → IsTitled graph (UsesTitle shapes) title → InRange graph → IsOrder graph order
+    → n < length graph → ((c : Contains order n) → ⊥) → steps ≤ weight steps shapes (title n)
+left_out_heaviest graph shapes title order zero n titled range is low out = omega arith
+left_out_heaviest graph shapes title order (suc steps) n titled range is low out =
     let next = is.rest n low out in
-    heavier steps project (title n) (title next.0) (titled.sound n next.0 next.1)
-    (left_out_heaviest graph project title order steps next.0 titled range is (use_in graph range n next.0 next.1) next.2)
+    heavier steps shapes (title n) (title next.0) (titled.sound n next.0 next.1)
+    (left_out_heaviest graph shapes title order steps next.0 titled range is (use_in graph range n next.0 next.1) next.2)

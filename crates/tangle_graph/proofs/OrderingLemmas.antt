@@ -10,7 +10,7 @@ use Rattle.tangle_expansion.specs.Shapes.{Named}
 use Rattle.tangle_expansion.specs.Limits.{levels, heaviest, depth_of}
 use Rattle.tangle_expansion.specs.Nodes.{IsNodeBelow, IsGroupedBy, title_in}
 use Rattle.tangle_expansion.specs.ItemSlots.{pieces_at}
-use Rattle.tangle_expansion.specs.Projects.{project, pieces_of}
+use Rattle.tangle_expansion.specs.WebShapes.{shapes, pieces_of}
 use Rattle.tangle_expansion.specs.declared.nodes.Node.{Node}
 use Rattle.tangle_expansion.specs.declared.nodes.Node.TheVariants.{Program, Name}
 use Rattle.digraph.specs.Graph.{Graph, rows_of, row_at}
@@ -34,7 +34,7 @@ is_below a b e = grind (arith, nat_tests)
 
 module _ (web : WebRead) (table : TableRead) (rows uses : Graph) (order weights depths : List ℕ) (flags : List Bool) (store : StoreRead)
     (graph : IsGraphOf web table rows uses) (is : IsOrder uses order) (within : AreWithin (rows_of rows) weights depths flags)
-    (measured : (n : ℕ) → n < length uses → get_or depths n 0 ≡ depth_of (project web table) (title_at table.names n))
+    (measured : (n : ℕ) → n < length uses → get_or depths n 0 ≡ depth_of (shapes web table) (title_at table.names n))
     (names_are : store.names ≡ table.names) (uses_are : store.uses ≡ map (map (node_at (length table.names))) (rows_of uses)) (flags_are : store.expandable ≡ flags) where
   abbrev node : ℕ → Node
   node n = node_at (length table.names) n
@@ -98,7 +98,7 @@ module _ (web : WebRead) (table : TableRead) (rows uses : Graph) (order weights 
       let shallow : get_or depths n 0 < levels = is_below (get_or depths n 0) levels three.0 in
       elim (among order n) [
         | inl c ↦ subst (Contains (map (node_at (length table.names)) order)) found.2 (contains_mapped (node_at (length table.names)) order n c)
-        | inr none ↦ (let deep = left_out_deepest uses (project web table) (title_at table.names) order levels n graph.titled graph.range is here none in
+        | inr none ↦ (let deep = left_out_deepest uses (shapes web table) (title_at table.names) order levels n graph.titled graph.range is here none in
             absurd (omega (arith, deep, measured n here, shallow)))
       ]
 

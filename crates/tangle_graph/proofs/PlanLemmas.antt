@@ -1,4 +1,4 @@
--- What a plan uses are names with a piece, and a plan is right where these have their parts.
+-- What a plan uses are names with a piece, and a plan is right where these have their symbols.
 use Rattle.std.proofs.Common.{◌≡◌, ◌≢◌, ◌∙◌, ◌<◌, ℕ, zero, suc, Bool, true, false, List, [], ◌∷◌, length, filter, flat_map, get_or, option_to_list, refl, ap, sym, subst, arith}
 use Rattle.std.specs.Prelude.{Contains, if◌then◌else◌}
 use Rattle.std.proofs.lemmas.List.Elements.{All-contains}
@@ -8,11 +8,11 @@ use Rattle.tangle_scan.specs.Web.{WebRead, PieceRead}
 use Rattle.tangle_names.specs.declared.Resolved.{Resolved}
 use Rattle.tangle_names.specs.declared.Resolved.TheVariants as resolved
 use Rattle.tangle_names.specs.NameTable.{TableRead}
-use Rattle.tangle_expansion.specs.Shapes.{Title, Named, Shape, Project, Uses}
-use Rattle.tangle_expansion.specs.Flat.{Part, flat, pieces_flat}
-use Rattle.tangle_expansion.specs.ItemCodes.{names_resolved, names_in, pieces_names}
+use Rattle.tangle_expansion.specs.Shapes.{Title, Named, Shape, Shapes, Uses}
+use Rattle.tangle_expansion.specs.Flat.{Symbol, flat, pieces_flat}
+use Rattle.tangle_expansion.specs.ItemTags.{names_resolved, names_in, pieces_names}
 use Rattle.tangle_expansion.specs.Limits.{levels, flat_of}
-use Rattle.tangle_expansion.specs.Projects.{resolved_at, ResolvesInside, pieces_of, project}
+use Rattle.tangle_expansion.specs.WebShapes.{resolved_at, ResolvesInside, pieces_of, shapes}
 use Rattle.digraph.specs.Graph.{Graph, rows_of, row_at}
 use Rattle.tangle_graph.specs.Grouping.{number_of_name, used_by, used_in}
 use Rattle.tangle_graph.specs.Groups.{IsGraphOf}
@@ -74,7 +74,7 @@ no_shape : (row : List ℕ) (s : Shape) → length s ≡ length row → is_fille
 no_shape [] s e t = empty_shape s e
 no_shape (k ∷ row) s e t = absurd (let no : true ≡ false = t in cc)
 
-flat_empty : (p : Project) (node : Title) → p node ≡ [] → flat_of p node ≡ []
+flat_empty : (p : Shapes) (node : Title) → p node ≡ [] → flat_of p node ≡ []
 unfolding levels
 flat_empty p node e = ap (λ (s : Shape). pieces_flat (λ name. flat 1000 p (Named name)) node 0 s) e
 
@@ -82,10 +82,10 @@ module _ (web : WebRead) (table : TableRead) (rows uses : Graph) (is : IsGraphOf
     (flags : (id : ℕ) → id < length table.names → has id ≡ is_filled (row_at (rows_of rows) id)) where
   -- the node with this number uses the name with that one, which has a piece
   abbrev pub UsesWithPiece : ℕ → ℕ → Type 0
-  UsesWithPiece n id = (id < length table.names) × Uses (project web table) (title_at table.names n) (get_or table.names id []) × (project web table (Named (get_or table.names id [])) ≢ [])
+  UsesWithPiece n id = (id < length table.names) × Uses (shapes web table) (title_at table.names n) (get_or table.names id []) × (shapes web table (Named (get_or table.names id [])) ≢ [])
 
-  shape_of_name : (id : ℕ) → id < length table.names → length (project web table (Named (get_or table.names id []))) ≡ length (row_at (rows_of rows) id)
-  shape_of_name id h = ap (λ t. length (project web table t)) (sym (title_inside table.names id h)) ∙ shape_size web table rows uses is id (omega (arith, h, is.uses_size))
+  shape_of_name : (id : ℕ) → id < length table.names → length (shapes web table (Named (get_or table.names id []))) ≡ length (row_at (rows_of rows) id)
+  shape_of_name id h = ap (λ t. length (shapes web table t)) (sym (title_inside table.names id h)) ∙ shape_size web table rows uses is id (omega (arith, h, is.uses_size))
 
   pub plan_uses_pieces : (n id : ℕ) → Contains (filter has (pieces_names table (pieces_of web table (title_at table.names n)))) id → UsesWithPiece n id
   plan_uses_pieces n id c =
@@ -95,17 +95,17 @@ module _ (web : WebRead) (table : TableRead) (rows uses : Graph) (is : IsGraphOf
       All-contains (λ k. k < length table.names) (flat_map (used_in table) (pieces_of web table (title_at table.names n))) id (pieces_below table inside (pieces_of web table (title_at table.names n))) used in (
         low,
         pieces_use web.texts table inside (pieces_of web table (title_at table.names n)) id used,
-        some_shape (row_at (rows_of rows) id) (project web table (Named (get_or table.names id []))) (shape_of_name id low)
+        some_shape (row_at (rows_of rows) id) (shapes web table (Named (get_or table.names id []))) (shape_of_name id low)
             (sym (flags id low) ∙ passes_filter has (pieces_names table (pieces_of web table (title_at table.names n))) id c),
       )
 
-  pub parts_fit : (parts : ℕ → List Part) (n : ℕ)
-      → ((id : ℕ) → UsesWithPiece n id → parts id ≡ flat_of (project web table) (Named (get_or table.names id [])))
-      → (id : ℕ) → id < length table.names → Uses (project web table) (title_at table.names n) (get_or table.names id [])
-      → (if has id then parts id else []) ≡ flat_of (project web table) (Named (get_or table.names id []))
-  parts_fit parts n right id low u = by (has id) refl
+  pub symbols_fit : (symbols : ℕ → List Symbol) (n : ℕ)
+      → ((id : ℕ) → UsesWithPiece n id → symbols id ≡ flat_of (shapes web table) (Named (get_or table.names id [])))
+      → (id : ℕ) → id < length table.names → Uses (shapes web table) (title_at table.names n) (get_or table.names id [])
+      → (if has id then symbols id else []) ≡ flat_of (shapes web table) (Named (get_or table.names id []))
+  symbols_fit symbols n right id low u = by (has id) refl
     where
-      by : (b : Bool) → has id ≡ b → (if b then parts id else []) ≡ flat_of (project web table) (Named (get_or table.names id []))
-      by true e = right id (low, u, some_shape (row_at (rows_of rows) id) (project web table (Named (get_or table.names id []))) (shape_of_name id low) (sym (flags id low) ∙ e))
-      by false e = sym (flat_empty (project web table) (Named (get_or table.names id []))
-          (no_shape (row_at (rows_of rows) id) (project web table (Named (get_or table.names id []))) (shape_of_name id low) (sym (flags id low) ∙ e)))
+      by : (b : Bool) → has id ≡ b → (if b then symbols id else []) ≡ flat_of (shapes web table) (Named (get_or table.names id []))
+      by true e = right id (low, u, some_shape (row_at (rows_of rows) id) (shapes web table (Named (get_or table.names id []))) (shape_of_name id low) (sym (flags id low) ∙ e))
+      by false e = sym (flat_empty (shapes web table) (Named (get_or table.names id []))
+          (no_shape (row_at (rows_of rows) id) (shapes web table (Named (get_or table.names id []))) (shape_of_name id low) (sym (flags id low) ∙ e)))

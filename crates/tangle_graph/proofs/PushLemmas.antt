@@ -10,14 +10,14 @@ use Rattle.std.proofs.lemmas.List.{take_more, map-append, get_or_append_left, ge
 use Rattle.tangle_scan.specs.Web.{WebRead}
 use Rattle.tangle_names.specs.NameTable.{TableRead}
 use Rattle.tangle_expansion.specs.Comparing.{IsPlanned}
-use Rattle.tangle_expansion.specs.ItemCodes.{pieces_names}
+use Rattle.tangle_expansion.specs.ItemTags.{pieces_names}
 use Rattle.tangle_expansion.specs.ItemSlots.{pieces_at, pieces_slots}
-use Rattle.tangle_expansion.specs.NodeTexts.{node_title, plan_slots, plan_uses}
+use Rattle.tangle_expansion.specs.NodeBodies.{node_title, plan_slots, plan_uses}
 use Rattle.tangle_expansion.specs.Slots.{Slot}
-use Rattle.tangle_expansion.specs.declared.expansion.NodeText.{NodeText}
+use Rattle.tangle_expansion.specs.declared.expansion.NodeBody.{NodeBody}
 use Rattle.digraph.specs.Graph.{Graph, rows_of}
 use Rattle.tangle_graph.specs.Nodes.{title_at}
-use Rattle.tangle_graph.specs.Plans.{AreFilled, ArePlanned, ArePlans, AreTexts, IsTextOf, node_texts, slots_of, uses_of_plans}
+use Rattle.tangle_graph.specs.Plans.{AreFilled, ArePlanned, ArePlans, AreBodies, IsBodyOf, node_bodies, slots_of, uses_of_plans}
 use Rattle.tangle_graph.specs.Stores.{is_filled}
 
 -- what is so at each place of two lists is so with one more
@@ -56,7 +56,7 @@ module _ (web : WebRead) (table : TableRead) (has : ℕ → Bool) where
     uses_right = pushed (λ n x. filter has (pieces_names table (pieces_at web.pieces x))) xs uses r u [] [] is.uses_size is.uses_right eu;
   }
 
-  pub plans_more : (rows : Graph) (texts : List (Rc NodeText Global)) (i : ℕ) (row : Vec ℕ Global) (text : Rc NodeText Global) → i < length rows → row ≡ get_or rows i row
+  pub plans_more : (rows : Graph) (texts : List (Rc NodeBody Global)) (i : ℕ) (row : Vec ℕ Global) (text : Rc NodeBody Global) → i < length rows → row ≡ get_or rows i row
       → ArePlans web table has (rows_of (take i rows)) (slots_of texts) (uses_of_plans texts)
       → plan_slots text.value ≡ pieces_slots web.texts table has (title_at table.names i) 0 (pieces_at web.pieces row.items)
       → plan_uses text.value ≡ filter has (pieces_names table (pieces_at web.pieces row.items))
@@ -66,43 +66,43 @@ module _ (web : WebRead) (table : TableRead) (has : ℕ → Bool) where
       let pushed_all = plans_push (rows_of (take i rows)) (slots_of texts) (uses_of_plans texts) row.items (plan_slots text.value) (plan_uses text.value) is
       (es ∙ ap (λ n. pieces_slots web.texts table has (title_at table.names n) 0 (pieces_at web.pieces row.items)) (sym count)) eu in
       subst (λ xs. ArePlans web table has xs (slots_of (texts ++ text ∷ [])) (uses_of_plans (texts ++ text ∷ []))) (sym (row_taken rows i row h read))
-      (subst (λ ss. ArePlans web table has (rows_of (take i rows) ++ row.items ∷ []) ss (uses_of_plans (texts ++ text ∷ []))) (sym (map-append (λ (t : Rc NodeText Global). plan_slots t.value) texts (text ∷ [])))
-      (subst (λ us. ArePlans web table has (rows_of (take i rows) ++ row.items ∷ []) (slots_of texts ++ plan_slots text.value ∷ []) us) (sym (map-append (λ (t : Rc NodeText Global). plan_uses t.value) texts (text ∷ []))) pushed_all))
+      (subst (λ ss. ArePlans web table has (rows_of (take i rows) ++ row.items ∷ []) ss (uses_of_plans (texts ++ text ∷ []))) (sym (map-append (λ (t : Rc NodeBody Global). plan_slots t.value) texts (text ∷ [])))
+      (subst (λ us. ArePlans web table has (rows_of (take i rows) ++ row.items ∷ []) (slots_of texts ++ plan_slots text.value ∷ []) us) (sym (map-append (λ (t : Rc NodeBody Global). plan_uses t.value) texts (text ∷ []))) pushed_all))
 
 module _ (web : WebRead) (table : TableRead) where
-  texts_push : (xs : List (List ℕ)) (ts : List NodeText) (r : List ℕ) (t : NodeText) → AreTexts web table xs ts → IsTextOf web table r t → AreTexts web table (xs ++ r ∷ []) (ts ++ t ∷ [])
-  texts_push xs ts r t is one = record {
+  bodies_push : (xs : List (List ℕ)) (ts : List NodeBody) (r : List ℕ) (t : NodeBody) → AreBodies web table xs ts → IsBodyOf web table r t → AreBodies web table (xs ++ r ∷ []) (ts ++ t ∷ [])
+  bodies_push xs ts r t is one = record {
     size = omega (arith, is.size, length-append xs (r ∷ []), length-append ts (t ∷ []));
-    each = λ n h. told n h;
+    each = λ n h. reported n h;
   }
     where
-      told : (n : ℕ) → n < length (xs ++ r ∷ []) → (text : NodeText) × (slice_get (ts ++ t ∷ []) n ≡ Some text) × IsTextOf web table (get_or (xs ++ r ∷ []) n []) text
-      told n h = elim (dec_lt n (length xs)) [
+      reported : (n : ℕ) → n < length (xs ++ r ∷ []) → (text : NodeBody) × (slice_get (ts ++ t ∷ []) n ≡ Some text) × IsBodyOf web table (get_or (xs ++ r ∷ []) n []) text
+      reported n h = elim (dec_lt n (length xs)) [
         | yes low ↦ (let old = is.each n low in
             let room : n < length ts = omega (arith, low, is.size) in
             let within : n < length (ts ++ t ∷ []) = omega (arith, room, length-append ts (t ∷ [])) in (
               old.0,
               slice_get-get_or (ts ++ t ∷ []) n old.0 within ∙ ap Some (get_or_append_left ts (t ∷ []) old.0 n room ∙ get_or_from_slice_get ts n old.0 old.0 old.1),
-              subst (λ x. IsTextOf web table x old.0) (sym (get_or_append_left xs (r ∷ []) [] n low)) old.2,
+              subst (λ x. IsBodyOf web table x old.0) (sym (get_or_append_left xs (r ∷ []) [] n low)) old.2,
             ))
         | no past ↦ (let end : length xs ≡ n = omega (arith, past, h, length-append xs (r ∷ [])) in
             let within : n < length (ts ++ t ∷ []) = omega (arith, h, is.size, length-append xs (r ∷ []), length-append ts (t ∷ [])) in (
               t,
               slice_get-get_or (ts ++ t ∷ []) n t within ∙ ap Some (get_or_push ts t t n (is.size ∙ end)),
-              subst (λ x. IsTextOf web table x t) (sym (get_or_push xs r [] n end)) one,
+              subst (λ x. IsBodyOf web table x t) (sym (get_or_push xs r [] n end)) one,
             ))
       ]
 
-  pub texts_more : (rows : Graph) (texts : List (Rc NodeText Global)) (i : ℕ) (row : Vec ℕ Global) (text : Rc NodeText Global) → i < length rows → row ≡ get_or rows i row
-      → AreTexts web table (rows_of (take i rows)) (node_texts texts) → IsTextOf web table row.items text.value
-      → AreTexts web table (rows_of (take (i + 1) rows)) (node_texts (texts ++ text ∷ []))
-  texts_more rows texts i row text h read is one =
-      subst (λ xs. AreTexts web table xs (node_texts (texts ++ text ∷ []))) (sym (row_taken rows i row h read))
-      (subst (λ ts. AreTexts web table (rows_of (take i rows) ++ row.items ∷ []) ts) (sym (map-append (λ (t : Rc NodeText Global). t.value) texts (text ∷ [])))
-      (texts_push (rows_of (take i rows)) (node_texts texts) row.items text.value is one))
+  pub bodies_more : (rows : Graph) (texts : List (Rc NodeBody Global)) (i : ℕ) (row : Vec ℕ Global) (text : Rc NodeBody Global) → i < length rows → row ≡ get_or rows i row
+      → AreBodies web table (rows_of (take i rows)) (node_bodies texts) → IsBodyOf web table row.items text.value
+      → AreBodies web table (rows_of (take (i + 1) rows)) (node_bodies (texts ++ text ∷ []))
+  bodies_more rows texts i row text h read is one =
+      subst (λ xs. AreBodies web table xs (node_bodies (texts ++ text ∷ []))) (sym (row_taken rows i row h read))
+      (subst (λ ts. AreBodies web table (rows_of (take i rows) ++ row.items ∷ []) ts) (sym (map-append (λ (t : Rc NodeBody Global). t.value) texts (text ∷ [])))
+      (bodies_push (rows_of (take i rows)) (node_bodies texts) row.items text.value is one))
 
 module _ (names : List (List ℕ)) (has : ℕ → Bool) where
-  planned_push : (ts : List NodeText) (t : NodeText) (n : ℕ) → length ts ≡ n → ArePlanned names has ts → node_title t ≡ title_at names n → IsPlanned has t → ArePlanned names has (ts ++ t ∷ [])
+  planned_push : (ts : List NodeBody) (t : NodeBody) (n : ℕ) → length ts ≡ n → ArePlanned names has ts → node_title t ≡ title_at names n → IsPlanned has t → ArePlanned names has (ts ++ t ∷ [])
   planned_push ts t n count is e p = record {
     titles = λ k text h. elim (dec_lt k (length ts)) as (λ _. node_title (get_or (ts ++ t ∷ []) k text) ≡ title_at names k) [
       | yes low ↦ ap node_title (get_or_append_left ts (t ∷ []) text k low) ∙ is.titles k text low
@@ -115,8 +115,8 @@ module _ (names : List (List ℕ)) (has : ℕ → Bool) where
   pub none_planned : ArePlanned names has []
   none_planned = record { titles = λ k text h. absurd (omega (arith, h)); planned = All-nil (IsPlanned has) }
 
-  pub planned_more : (rows : Graph) (texts : List (Rc NodeText Global)) (i : ℕ) (text : Rc NodeText Global) → i < length rows → length (node_texts texts) ≡ length (rows_of (take i rows))
-      → ArePlanned names has (node_texts texts) → node_title text.value ≡ title_at names i → IsPlanned has text.value → ArePlanned names has (node_texts (texts ++ text ∷ []))
+  pub planned_more : (rows : Graph) (texts : List (Rc NodeBody Global)) (i : ℕ) (text : Rc NodeBody Global) → i < length rows → length (node_bodies texts) ≡ length (rows_of (take i rows))
+      → ArePlanned names has (node_bodies texts) → node_title text.value ≡ title_at names i → IsPlanned has text.value → ArePlanned names has (node_bodies (texts ++ text ∷ []))
   planned_more rows texts i text h size is e p =
-      let count : length (node_texts texts) ≡ i = size ∙ length-map (take i rows) (λ (v : Vec ℕ Global). v.items) ∙ length-take-le i rows (omega (arith, h)) in
-      subst (ArePlanned names has) (sym (map-append (λ (t : Rc NodeText Global). t.value) texts (text ∷ []))) (planned_push (node_texts texts) text.value i count is e p)
+      let count : length (node_bodies texts) ≡ i = size ∙ length-map (take i rows) (λ (v : Vec ℕ Global). v.items) ∙ length-take-le i rows (omega (arith, h)) in
+      subst (ArePlanned names has) (sym (map-append (λ (t : Rc NodeBody Global). t.value) texts (text ∷ []))) (planned_push (node_bodies texts) text.value i count is e p)

@@ -58,7 +58,7 @@ at_seam : {X : Type 0} (ys : List X) (x : X) (xs : List X) (d : X) → get_or (y
 at_seam [] x xs d = refl
 at_seam (y ∷ ys) x xs d = at_seam ys x xs d
 
--- what stands at the places of the elements that pass are these elements
+-- what is at the places of the elements that pass are these elements
 pub places_read : {X : Type 0} (p : X → Bool) (before xs : List X) (d : X) → map (λ n. get_or (before ++ xs) n d) (places p (length before) xs) ≡ filter p xs
 places_read p before [] d = refl
 places_read p before (x ∷ xs) d =

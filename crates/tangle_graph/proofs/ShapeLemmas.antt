@@ -4,68 +4,68 @@ use Rattle.std.specs.Prelude.{nat_lt, if◌then◌else◌, Option, Some, None}
 use Rattle.std.proofs.Math.Decide.{dec_lt}
 use Rattle.std.proofs.lemmas.Bool.Decides.{nat_tests}
 use Rattle.std.proofs.lemmas.Option.{slice_get-get_or, slice_get_past}
-use Rattle.tangle_expansion.specs.Shapes.{Shape, Project}
-use Rattle.tangle_expansion.specs.NodeTexts.{HoldsShape}
-use Rattle.tangle_expansion.specs.declared.expansion.NodeText.{NodeText}
+use Rattle.tangle_expansion.specs.Shapes.{Shape, Shapes}
+use Rattle.tangle_expansion.specs.NodeBodies.{HoldsShape}
+use Rattle.tangle_expansion.specs.declared.expansion.NodeBody.{NodeBody}
 use Rattle.tangle_expansion.specs.declared.nodes.Node.{Node}
 use Rattle.tangle_expansion.specs.declared.nodes.Node.TheVariants.{Program, Name}
-use Rattle.tangle_graph.specs.Nodes.{title_of_text, title_of_node, IsNodeOf, number_in, entry, entry_if, shape_of_name, shape_of_node}
-use Rattle.tangle_graph.specs.Stores.{StoreRead, IsStoreOf, is_filled, has_piece_at, text_at, shape_in_store}
+use Rattle.tangle_graph.specs.Nodes.{title_of_body, title_of_node, IsNodeOf, number_in, entry, entry_if, shape_of_name, shape_of_node}
+use Rattle.tangle_graph.specs.Stores.{StoreRead, IsStoreOf, is_filled, has_piece_at, body_at, shape_in_store}
 
 -- a node is one of these or it has no number
 data IsKnown (names : List (List ℕ)) (a : Node) : Type 0 where
   known : IsNodeOf names a → IsKnown names a
-  unknown : number_in (length names) a ≡ None → ((project : Project) → shape_of_node project names a ≡ []) → IsKnown names a
+  unknown : number_in (length names) a ≡ None → ((shapes : Shapes) → shape_of_node shapes names a ≡ []) → IsKnown names a
 
 is_known : (names : List (List ℕ)) (a : Node) → IsKnown names a
 is_known names Program = known tt
 is_known names (Name id) = elim (dec_lt id (length names)) [
   | yes low ↦ known low
   | no past ↦ (let test : nat_lt id (length names) ≡ false = grind (arith, nat_tests) in
-      unknown (ap (λ b. if b then Some id else None) test) (λ project. ap (shape_of_name project) (slice_get_past names id (omega (arith, past)))))
+      unknown (ap (λ b. if b then Some id else None) test) (λ shapes. ap (shape_of_name shapes) (slice_get_past names id (omega (arith, past)))))
 ]
 
-pub shape_inside : (project : Project) (names : List (List ℕ)) (a : Node) → IsNodeOf names a → shape_of_node project names a ≡ project (title_of_node names a)
-shape_inside project names Program h = refl
-shape_inside project names (Name id) h =
+pub shape_inside : (shapes : Shapes) (names : List (List ℕ)) (a : Node) → IsNodeOf names a → shape_of_node shapes names a ≡ shapes (title_of_node names a)
+shape_inside shapes names Program h = refl
+shape_inside shapes names (Name id) h =
     let is = slice_get-get_or names id [] h in
-    ap (shape_of_name project) is ∙ sym (ap (λ o. project (title_of_text o)) is)
+    ap (shape_of_name shapes) is ∙ sym (ap (λ o. shapes (title_of_body o)) is)
 
 same_none : {X : Type 0} (o : Option X) (x : X) → o ≡ None → o ≡ Some x → ⊥
 same_none o x none some = absurd (let both : None ≡ Some x = sym none ∙ some in cc)
 
-module _ (project : Project) (store : StoreRead) (is : IsStoreOf project store) where
-  -- what is kept of a node tells its shape
-  pub text_tells : (a : Node) (text : NodeText) → Some text ≡ text_at store a → HoldsShape store.names (shape_in_store store project a) text
-  text_tells a text e = elim (is_known store.names a) [
-    | known h ↦ (let told = is.shapes a h in
-        let both : Some told.0 ≡ Some text = sym told.1 ∙ sym e in
-        let same : told.0 ≡ text = cc in
-        subst (HoldsShape store.names (shape_in_store store project a)) same (subst (λ s. HoldsShape store.names s told.0) (sym (shape_inside project store.names a h)) told.2))
+module _ (shapes : Shapes) (store : StoreRead) (is : IsStoreOf shapes store) where
+  -- what is kept of a node determines its shape
+  pub body_decides : (a : Node) (text : NodeBody) → Some text ≡ body_at store a → HoldsShape store.names (shape_in_store store shapes a) text
+  body_decides a text e = elim (is_known store.names a) [
+    | known h ↦ (let reported = is.shape_held a h in
+        let both : Some reported.0 ≡ Some text = sym reported.1 ∙ sym e in
+        let same : reported.0 ≡ text = cc in
+        subst (HoldsShape store.names (shape_in_store store shapes a)) same (subst (λ s. HoldsShape store.names s reported.0) (sym (shape_inside shapes store.names a h)) reported.2))
     | unknown none empty ↦ absurd (let both : None ≡ Some text = sym (ap (entry_if store.texts) none) ∙ sym e in cc)
   ]
 
   -- where nothing is kept there is no piece
-  pub no_text : (a : Node) → None ≡ text_at store a → shape_in_store store project a ≡ []
+  pub no_text : (a : Node) → None ≡ body_at store a → shape_in_store store shapes a ≡ []
   no_text a e = elim (is_known store.names a) [
-    | known h ↦ (let told = is.shapes a h in absurd (let both : None ≡ Some told.0 = e ∙ told.1 in cc))
-    | unknown none empty ↦ empty project
+    | known h ↦ (let reported = is.shape_held a h in absurd (let both : None ≡ Some reported.0 = e ∙ reported.1 in cc))
+    | unknown none empty ↦ empty shapes
   ]
 
-  pub piece_tells : (a : Node) → (has_piece_at store a ≡ true) ↔ (shape_in_store store project a ≢ [])
-  piece_tells a = elim (is_known store.names a) [
+  pub piece_decides : (a : Node) → (has_piece_at store a ≡ true) ↔ (shape_in_store store shapes a ≢ [])
+  piece_decides a = elim (is_known store.names a) [
     | known h ↦ (
-      λ e none. (is.has_piece a h).0 e (sym (shape_inside project store.names a h) ∙ none),
-      λ some. (is.has_piece a h).1 (λ none. some (shape_inside project store.names a h ∙ none)),
+      λ e none. (is.has_piece a h).0 e (sym (shape_inside shapes store.names a h) ∙ none),
+      λ some. (is.has_piece a h).1 (λ none. some (shape_inside shapes store.names a h ∙ none)),
     )
     | unknown none empty ↦ (let off : has_piece_at store a ≡ false = ap (λ o. is_filled (entry [] store.pieces o)) none in (
       λ e. absurd (let both : true ≡ false = sym e ∙ off in cc),
-      λ some. absurd (some (empty project)),
+      λ some. absurd (some (empty shapes)),
     ))
   ]
 
-  pub piece_none : (a : Node) → has_piece_at store a ≡ false → shape_in_store store project a ≡ []
-  piece_none a e = none_unless (shape_in_store store project a) (λ some. let both : true ≡ false = sym ((piece_tells a).1 some) ∙ e in absurd (cc))
+  pub piece_none : (a : Node) → has_piece_at store a ≡ false → shape_in_store store shapes a ≡ []
+  piece_none a e = none_unless (shape_in_store store shapes a) (λ some. let both : true ≡ false = sym ((piece_decides a).1 some) ∙ e in absurd (cc))
     where
       none_unless : (s : Shape) → (s ≢ [] → ⊥) → s ≡ []
       none_unless [] h = refl
@@ -73,15 +73,15 @@ module _ (project : Project) (store : StoreRead) (is : IsStoreOf project store) 
 
   -- it has no piece just where its shape is the empty one
   pub no_piece : (a : Node) (s : Shape) (b r : Bool) → s ≡ [] → b ≡ has_piece_at store a → r ≡ not b
-      → ((r ≡ true) ↔ (shape_in_store store project a ≡ s)) × ((r ≡ true) ↔ (s ≡ shape_in_store store project a))
+      → ((r ≡ true) ↔ (shape_in_store store shapes a ≡ s)) × ((r ≡ true) ↔ (s ≡ shape_in_store store shapes a))
   no_piece a s true r empty e er = (
     (
       (λ t. absurd (let both : true ≡ false = sym t ∙ er in cc)),
-      (λ same. absurd ((piece_tells a).0 (sym e) (same ∙ empty))),
+      (λ same. absurd ((piece_decides a).0 (sym e) (same ∙ empty))),
     ),
     (
       (λ t. absurd (let both : true ≡ false = sym t ∙ er in cc)),
-      (λ same. absurd ((piece_tells a).0 (sym e) (sym same ∙ empty))),
+      (λ same. absurd ((piece_decides a).0 (sym e) (sym same ∙ empty))),
     ),
   )
   no_piece a s false r empty e er = (

@@ -12,15 +12,15 @@ use Rattle.std.proofs.lemmas.Slice.Eq.{bytes_eq-Decides}
 use Rattle.std.proofs.lemmas.List.Elements.{All-map}
 use Rattle.tangle_scan.specs.Web.{WebRead}
 use Rattle.tangle_names.specs.NameTable.{TableRead}
-use Rattle.tangle_expansion.specs.NodeTexts.{node_uses}
-use Rattle.tangle_expansion.specs.Projects.{ResolvesInside}
-use Rattle.tangle_expansion.specs.declared.expansion.NodeText.{NodeText}
+use Rattle.tangle_expansion.specs.NodeBodies.{node_uses}
+use Rattle.tangle_expansion.specs.WebShapes.{ResolvesInside}
+use Rattle.tangle_expansion.specs.declared.expansion.NodeBody.{NodeBody}
 use Rattle.digraph.specs.Graph.{Graph, InRange, rows_of, row_at}
 use Rattle.digraph.specs.Rows.{IsOnceEach, IsRowsOf}
 use Rattle.digraph.proofs.GraphLemmas.{rows_size}
 use Rattle.tangle_graph.specs.Grouping.{places_of}
 use Rattle.tangle_graph.specs.Groups.{IsGraphOf}
-use Rattle.tangle_graph.specs.Plans.{AreTexts, node_texts}
+use Rattle.tangle_graph.specs.Plans.{AreBodies, node_bodies}
 use Rattle.tangle_graph.specs.Rows.{texts_of}
 use Rattle.tangle_graph.specs.Skeletons.{IsSkeletonOf}
 use Rattle.tangle_graph.specs.declared.skeleton.Skeleton.{Skeleton}
@@ -29,15 +29,15 @@ use Rattle.tangle_graph.proofs.TextLemmas.{names_below}
 use Rattle.tangle_graph.proofs.UsesLemmas.{uses_collected}
 
 -- its uses are the graph of the web
-pub graph_over : (web : WebRead) (table : TableRead) (pieces : Graph) (texts : List NodeText) (skeleton : Skeleton) → IsDistinct bytes_eq table.names → ResolvesInside table
-    → IsRowsOf (length table.names + 1) (places_of table web.pieces) (rows_of pieces) → AreTexts web table (rows_of pieces) texts → IsSkeletonOf (map node_uses texts) skeleton
+pub graph_over : (web : WebRead) (table : TableRead) (pieces : Graph) (texts : List NodeBody) (skeleton : Skeleton) → IsDistinct bytes_eq table.names → ResolvesInside table
+    → IsRowsOf (length table.names + 1) (places_of table web.pieces) (rows_of pieces) → AreBodies web table (rows_of pieces) texts → IsSkeletonOf (map node_uses texts) skeleton
     → IsGraphOf web table pieces skeleton.uses.items
 graph_over web table pieces texts skeleton distinct inside grouped are is =
     graph_of web table pieces (map node_uses texts) skeleton.uses.items distinct inside grouped
     (uses_collected web table (rows_of pieces) texts (map node_uses texts) grouped are refl) is.size is.once
 
 -- the texts of a web use names of its table
-pub uses_inside : (web : WebRead) (table : TableRead) (pieces : List (List ℕ)) (texts : List NodeText) → ResolvesInside table → AreTexts web table pieces texts
+pub uses_inside : (web : WebRead) (table : TableRead) (pieces : List (List ℕ)) (texts : List NodeBody) → ResolvesInside table → AreBodies web table pieces texts
     → All (λ row. All (λ id. id < length table.names) row) (map node_uses texts)
 uses_inside web table pieces texts inside are =
     All-map (λ row. All (λ id. id < length table.names) row) node_uses texts (names_below web table pieces texts (length table.names) inside are refl)
@@ -58,7 +58,7 @@ each_increasing before rows same once n =
     ]
 
 -- rows that hold the uses of texts once each are in range, as the texts' own are
-pub once_in_range : (texts : List NodeText) (count : ℕ) (rows once uses : Graph) → rows_of rows ≡ map node_uses texts → length texts ≡ count + 1
+pub once_in_range : (texts : List NodeBody) (count : ℕ) (rows once uses : Graph) → rows_of rows ≡ map node_uses texts → length texts ≡ count + 1
     → All (λ row. All (λ id. id < count) row) (map node_uses texts) → (InRange rows → InRange once) → uses ≡ once → InRange uses
 once_in_range texts count rows once uses same size all kept is =
     let room : count ≤ length (map node_uses texts) = omega (arith, size, length-map texts node_uses) in
@@ -73,13 +73,13 @@ same_by_test xs ys e = (bytes_eq-Decides xs ys).0 (is_true (bytes_eq xs ys) e)
     is_true false e = absurd (let no : true ≡ false = e in cc)
 
 -- one text more
-pub uses_more : (texts : List (Rc NodeText Global)) (i : ℕ) (text : Rc NodeText Global) → i < length texts → text ≡ get_or texts i text
-    → map node_uses (node_texts (take (i + 1) texts)) ≡ map node_uses (node_texts (take i texts)) ++ node_uses text.value ∷ []
+pub uses_more : (texts : List (Rc NodeBody Global)) (i : ℕ) (text : Rc NodeBody Global) → i < length texts → text ≡ get_or texts i text
+    → map node_uses (node_bodies (take (i + 1) texts)) ≡ map node_uses (node_bodies (take i texts)) ++ node_uses text.value ∷ []
 uses_more texts i text low read =
-    ap (λ l. map node_uses (node_texts l)) (take_more texts i text low ∙ (λ j. take i texts ++ sym read j ∷ []))
-    ∙ ap (map node_uses) (map-append (λ (t : Rc NodeText Global). t.value) (take i texts) (text ∷ []))
-    ∙ map-append node_uses (node_texts (take i texts)) (text.value ∷ [])
+    ap (λ l. map node_uses (node_bodies l)) (take_more texts i text low ∙ (λ j. take i texts ++ sym read j ∷ []))
+    ∙ ap (map node_uses) (map-append (λ (t : Rc NodeBody Global). t.value) (take i texts) (text ∷ []))
+    ∙ map-append node_uses (node_bodies (take i texts)) (text.value ∷ [])
 
-pub texts_more : (texts : Graph) (i : ℕ) (text : Vec ℕ Global) → i < length texts → text ≡ get_or texts i text → texts_of (take (i + 1) texts) ≡ texts_of (take i texts) ++ text.items ∷ []
-texts_more texts i text low read =
+pub bodies_more : (texts : Graph) (i : ℕ) (text : Vec ℕ Global) → i < length texts → text ≡ get_or texts i text → texts_of (take (i + 1) texts) ≡ texts_of (take i texts) ++ text.items ∷ []
+bodies_more texts i text low read =
     ap texts_of (take_more texts i text low ∙ (λ j. take i texts ++ sym read j ∷ [])) ∙ map-append (λ (t : Vec ℕ Global). t.items) (take i texts) (text ∷ [])

@@ -1,4 +1,4 @@
--- A store of these rows, flags, weights and depths is that of the project.
+-- A store of these rows, flags, weights and depths is that of the shapes.
 use Rattle.std.proofs.Common.{◌≡◌, ◌≢◌, ◌∙◌, ◌<◌, ◌≤◌, ◌↔◌, ℕ, Bool, true, false, List, [], length, map, filter, get_or, refl, ap, sym, subst, arith}
 use Rattle.std.specs.Prelude.{Some, AllPairs, Contains, if◌then◌else◌}
 use Rattle.std.specs.List.{IsDistinct}
@@ -7,18 +7,18 @@ use Rattle.std.specs.Str.{bytes_eq}
 use Rattle.std.proofs.lemmas.List.{get_or-map, length-map}
 use Rattle.std.proofs.lemmas.List.Elements.{Contains-get_or}
 use Rattle.std.proofs.lemmas.List.Kept.{AllPairs-from_increasing}
-use Rattle.tangle_lines.specs.Faults.{Finding}
+use Rattle.tangle_lines.specs.Faults.{FaultRead}
 use Rattle.tangle_scan.specs.Web.{WebRead, PieceRead}
 use Rattle.tangle_names.specs.NameTable.{TableRead}
 use Rattle.tangle_expansion.specs.Shapes.{Title, Named, Uses, ContainsItself}
-use Rattle.tangle_expansion.specs.Flat.{Part, flat, depth}
-use Rattle.tangle_expansion.specs.ItemCodes.{pieces_names, shape_of}
-use Rattle.tangle_expansion.specs.NodeTexts.{HoldsShape}
+use Rattle.tangle_expansion.specs.Flat.{Symbol, flat, depth}
+use Rattle.tangle_expansion.specs.ItemTags.{pieces_names, shape_of}
+use Rattle.tangle_expansion.specs.NodeBodies.{HoldsShape}
 use Rattle.tangle_expansion.specs.Slots.{Slot, filled}
 use Rattle.tangle_expansion.specs.ItemSlots.{pieces_at, pieces_slots}
 use Rattle.tangle_expansion.specs.Limits.{levels, flat_of, weight_of, depth_of, IsExpandableNode}
-use Rattle.tangle_expansion.specs.Projects.{ResolvesInside, pieces_of, project, shape_item}
-use Rattle.tangle_expansion.specs.declared.expansion.NodeText.{NodeText}
+use Rattle.tangle_expansion.specs.WebShapes.{ResolvesInside, pieces_of, shapes, shape_item}
+use Rattle.tangle_expansion.specs.declared.expansion.NodeBody.{NodeBody}
 use Rattle.tangle_expansion.specs.declared.nodes.Node.{Node}
 use Rattle.tangle_expansion.specs.declared.nodes.Node.TheVariants.{Name}
 use Rattle.digraph.specs.Flags.{FlagsJust}
@@ -32,26 +32,26 @@ use Rattle.tangle_graph.specs.Nodes.{title_at, title_of_node, IsNodeOf, node_at,
 use Rattle.tangle_expansion.specs.Outputs.{OutputRead}
 use Rattle.tangle_graph.specs.Outputs.{is_expandable}
 use Rattle.tangle_graph.specs.Stores.{StoreRead, IsStoreOf, UsesPiece, is_filled}
-use Rattle.tangle_graph.specs.Plans.{ArePlans, AreTexts}
-use Rattle.tangle_graph.proofs.PlanLemmas.{UsesWithPiece, plan_uses_pieces, parts_fit}
+use Rattle.tangle_graph.specs.Plans.{ArePlans, AreBodies}
+use Rattle.tangle_graph.proofs.PlanLemmas.{UsesWithPiece, plan_uses_pieces, symbols_fit}
 use Rattle.tangle_graph.proofs.NodeLemmas.{numbered, title-node, node_is, once_titled, title_inside}
 use Rattle.tangle_graph.proofs.LimitLemmas.{shape_size}
 use Rattle.tangle_graph.proofs.StoreLemmas.{same_number, contains_mapped, mapped_contains, filled_row, there, expandable_is}
 use Rattle.tangle_graph.proofs.ReachLemmas.{contains_by_titles}
 
-module _ (web : WebRead) (table : TableRead) (rows uses users : Graph) (flags : List Bool) (weights depths : List ℕ) (expandable : List Bool) (outputs : List OutputRead) (faults : List Finding) (slots : List (List Slot)) (plan_uses : List (List ℕ)) (texts : List NodeText) (has : ℕ → Bool)
+module _ (web : WebRead) (table : TableRead) (rows uses users : Graph) (flags : List Bool) (weights depths : List ℕ) (expandable : List Bool) (outputs : List OutputRead) (faults : List FaultRead) (slots : List (List Slot)) (plan_uses : List (List ℕ)) (texts : List NodeBody) (has : ℕ → Bool)
     (distinct : IsDistinct bytes_eq table.names) (inside : ResolvesInside table) (is : IsGraphOf web table rows uses) (converse : IsConverse uses users)
     (increasing : (n : ℕ) → IsStrictlyIncreasing (row_at (rows_of uses) n)) (same_size : length users ≡ length uses)
     (flagged : FlagsJust uses flags (graph.ContainsItself (HasUse uses)))
-    (weighed : (n : ℕ) → n < length uses → get_or weights n 0 ≡ weight_of (project web table) (title_at table.names n))
-    (measured : (n : ℕ) → n < length uses → get_or depths n 0 ≡ depth_of (project web table) (title_at table.names n))
-    (limited : (n : ℕ) → n < length uses → get_or expandable n false ≡ is_expandable (project web table) (title_at table.names n))
+    (weighed : (n : ℕ) → n < length uses → get_or weights n 0 ≡ weight_of (shapes web table) (title_at table.names n))
+    (measured : (n : ℕ) → n < length uses → get_or depths n 0 ≡ depth_of (shapes web table) (title_at table.names n))
+    (limited : (n : ℕ) → n < length uses → get_or expandable n false ≡ is_expandable (shapes web table) (title_at table.names n))
     (has_is : (id : ℕ) → id < length table.names → has id ≡ is_filled (row_at (rows_of rows) id))
-    (planned : ArePlans web table has (rows_of rows) slots plan_uses) (shaped : AreTexts web table (rows_of rows) texts)
-    (law : (parts : ℕ → List Part) (node : Title) → depth levels (project web table) node < levels
-    → ((id : ℕ) → id < length table.names → Uses (project web table) node (get_or table.names id [])
-    → (if has id then parts id else []) ≡ flat levels (project web table) (Named (get_or table.names id [])))
-    → filled parts (pieces_slots web.texts table has node 0 (pieces_of web table node)) ≡ flat levels (project web table) node) where
+    (planned : ArePlans web table has (rows_of rows) slots plan_uses) (shaped : AreBodies web table (rows_of rows) texts)
+    (law : (symbols : ℕ → List Symbol) (node : Title) → depth levels (shapes web table) node < levels
+    → ((id : ℕ) → id < length table.names → Uses (shapes web table) node (get_or table.names id [])
+    → (if has id then symbols id else []) ≡ flat levels (shapes web table) (Named (get_or table.names id [])))
+    → filled symbols (pieces_slots web.texts table has node 0 (pieces_of web table node)) ≡ flat levels (shapes web table) node) where
   abbrev pub made : StoreRead
   made = record {
     names = table.names;
@@ -152,16 +152,16 @@ module _ (web : WebRead) (table : TableRead) (rows uses users : Graph) (flags : 
             let less : get_or row i 0 < get_or row j 0 = AllPairs-from_increasing row (rising n) i j 0 lo top in
             absurd (omega (arith, same, less))
 
-  used_sound : (n m : ℕ) → HasUse uses n m → (m < length uses) × UsesTitle (project web table) (title_at table.names n) (title_at table.names m)
+  used_sound : (n m : ℕ) → HasUse uses n m → (m < length uses) × UsesTitle (shapes web table) (title_at table.names n) (title_at table.names m)
   used_sound n m u = (use_in uses is.range n m u, is.titled.sound n m u)
 
-  used_complete : (n m : ℕ) → n < length uses → m < length uses → UsesTitle (project web table) (title_at table.names n) (title_at table.names m) → HasUse uses n m
+  used_complete : (n m : ℕ) → n < length uses → m < length uses → UsesTitle (shapes web table) (title_at table.names n) (title_at table.names m) → HasUse uses n m
   used_complete n m hn hm u =
       let found = is.titled.complete n (title_at table.names m) hn u in
       subst (HasUse uses n) (is.titled.once found.0 m found.2 hm found.3) found.1
 
   abbrev IsUsedBy : Title → Title → Type 0
-  IsUsedBy a b = UsesTitle (project web table) b a
+  IsUsedBy a b = UsesTitle (shapes web table) b a
 
   users_sound : (n m : ℕ) → HasUse users n m → (m < length uses) × IsUsedBy (title_at table.names n) (title_at table.names m)
   users_sound n m u = (let turned : HasUse uses m n = (converse.turned m n).0 u in (node_in uses m n turned, is.titled.sound m n turned))
@@ -170,32 +170,32 @@ module _ (web : WebRead) (table : TableRead) (rows uses users : Graph) (flags : 
   users_complete n m hn hm u = (converse.turned m n).1 (used_complete m n hm hn u)
 
   piece_is : (a : Node) → IsNodeOf table.names a
-      → (is_filled (entry [] (rows_of rows) (number_in (length table.names) a)) ≡ true) ↔ (project web table (title_of_node table.names a) ≢ [])
+      → (is_filled (entry [] (rows_of rows) (number_in (length table.names) a)) ≡ true) ↔ (shapes web table (title_of_node table.names a) ≢ [])
   piece_is a ha =
       let m = number_of_node a ha in
-      let by = filled_row (row_at (rows_of rows) m.n) (project web table (title_at table.names m.n)) (shape_size web table rows uses is m.n m.here) in (
-        λ e none. by.0 (ap is_filled (sym (entry_is [] (rows_of rows) a m)) ∙ e) (ap (project web table) (sym m.titled) ∙ none),
-        λ h. ap is_filled (entry_is [] (rows_of rows) a m) ∙ by.1 (λ none. h (ap (project web table) m.titled ∙ none)),
+      let by = filled_row (row_at (rows_of rows) m.n) (shapes web table (title_at table.names m.n)) (shape_size web table rows uses is m.n m.here) in (
+        λ e none. by.0 (ap is_filled (sym (entry_is [] (rows_of rows) a m)) ∙ e) (ap (shapes web table) (sym m.titled) ∙ none),
+        λ h. ap is_filled (entry_is [] (rows_of rows) a m) ∙ by.1 (λ none. h (ap (shapes web table) m.titled ∙ none)),
       )
 
   contains_is : (a : Node) → IsNodeOf table.names a
-      → (entry false flags (number_in (length table.names) a) ≡ true) ↔ ContainsItself (project web table) (title_of_node table.names a)
+      → (entry false flags (number_in (length table.names) a) ≡ true) ↔ ContainsItself (shapes web table) (title_of_node table.names a)
   contains_is a ha =
       let m = number_of_node a ha in
-      let alike = contains_alike uses (UsesTitle (project web table)) (title_at table.names) is.titled m.n m.here in
-      let titles = contains_by_titles (project web table) (title_at table.names m.n) in
+      let alike = contains_alike uses (UsesTitle (shapes web table)) (title_at table.names) is.titled m.n m.here in
+      let titles = contains_by_titles (shapes web table) (title_at table.names m.n) in
       let flag = flagged m.n m.here in (
-        λ e. subst (ContainsItself (project web table)) (sym m.titled) (titles.0 (alike.0 (flag.0 (sym (entry_is false flags a m) ∙ e)))),
-        λ c. entry_is false flags a m ∙ flag.1 (alike.1 (titles.1 (subst (ContainsItself (project web table)) m.titled c))),
+        λ e. subst (ContainsItself (shapes web table)) (sym m.titled) (titles.0 (alike.0 (flag.0 (sym (entry_is false flags a m) ∙ e)))),
+        λ c. entry_is false flags a m ∙ flag.1 (alike.1 (titles.1 (subst (ContainsItself (shapes web table)) m.titled c))),
       )
 
-  weight_is : (a : Node) → IsNodeOf table.names a → entry 0 weights (number_in (length table.names) a) ≡ weight_of (project web table) (title_of_node table.names a)
-  weight_is a ha = (let m = number_of_node a ha in entry_is 0 weights a m ∙ weighed m.n m.here ∙ ap (weight_of (project web table)) (sym m.titled))
+  weight_is : (a : Node) → IsNodeOf table.names a → entry 0 weights (number_in (length table.names) a) ≡ weight_of (shapes web table) (title_of_node table.names a)
+  weight_is a ha = (let m = number_of_node a ha in entry_is 0 weights a m ∙ weighed m.n m.here ∙ ap (weight_of (shapes web table)) (sym m.titled))
 
-  depth_is : (a : Node) → IsNodeOf table.names a → entry 0 depths (number_in (length table.names) a) ≡ depth_of (project web table) (title_of_node table.names a)
-  depth_is a ha = (let m = number_of_node a ha in entry_is 0 depths a m ∙ measured m.n m.here ∙ ap (depth_of (project web table)) (sym m.titled))
+  depth_is : (a : Node) → IsNodeOf table.names a → entry 0 depths (number_in (length table.names) a) ≡ depth_of (shapes web table) (title_of_node table.names a)
+  depth_is a ha = (let m = number_of_node a ha in entry_is 0 depths a m ∙ measured m.n m.here ∙ ap (depth_of (shapes web table)) (sym m.titled))
 
-  known_is : (name : List ℕ) → project web table (Named name) ≢ [] → (a : Node) × IsNodeOf table.names a × (title_of_node table.names a ≡ Named name)
+  known_is : (name : List ℕ) → shapes web table (Named name) ≢ [] → (a : Node) × IsNodeOf table.names a × (title_of_node table.names a ≡ Named name)
   known_is name h =
       let found = there table inside name web.pieces (λ none. h (ap (map (λ (p : PieceRead). map (shape_item web.texts table) p.items)) none)) in
       (Name found.0, found.1, title_inside table.names found.0 found.1 ∙ ap Named found.2)
@@ -208,70 +208,70 @@ module _ (web : WebRead) (table : TableRead) (rows uses users : Graph) (flags : 
       sym m.node ∙ ap (node_at (length table.names)) same ∙ k.node
 
   expandable_at : (a : Node) → IsNodeOf table.names a
-      → (entry false expandable (number_in (length table.names) a) ≡ true) ↔ IsExpandableNode (project web table) (title_of_node table.names a)
+      → (entry false expandable (number_in (length table.names) a) ≡ true) ↔ IsExpandableNode (shapes web table) (title_of_node table.names a)
   expandable_at a ha =
       let m = number_of_node a ha in
-      let flag : entry false expandable (number_in (length table.names) a) ≡ is_expandable (project web table) (title_of_node table.names a) =
-      entry_is false expandable a m ∙ limited m.n m.here ∙ ap (is_expandable (project web table)) (sym m.titled) in
-      let by = expandable_is (project web table) (title_of_node table.names a) in
+      let flag : entry false expandable (number_in (length table.names) a) ≡ is_expandable (shapes web table) (title_of_node table.names a) =
+      entry_is false expandable a m ∙ limited m.n m.here ∙ ap (is_expandable (shapes web table)) (sym m.titled) in
+      let by = expandable_is (shapes web table) (title_of_node table.names a) in
       (λ e. by.0 (sym flag ∙ e), λ x. flag ∙ by.1 x)
 
   pieces_are : (n : ℕ) → n < length uses → pieces_at web.pieces (row_at (rows_of rows) n) ≡ pieces_of web table (title_at table.names n)
   pieces_are n h = is.pieces n (omega (arith, h, is.rows_size, is.uses_size))
 
-  used_piece : (a : Node) (m : Numbered a) (id : ℕ) → UsesWithPiece web table rows uses is inside has has_is m.n id → UsesPiece (project web table) made a id
+  used_piece : (a : Node) (m : Numbered a) (id : ℕ) → UsesWithPiece web table rows uses is inside has has_is m.n id → UsesPiece (shapes web table) made a id
   used_piece a m id u = record {
     inside = u.0;
-    uses = subst (λ t. Uses (project web table) t (get_or table.names id [])) (sym m.titled) u.1;
+    uses = subst (λ t. Uses (shapes web table) t (get_or table.names id [])) (sym m.titled) u.1;
     has_piece = u.2;
   }
 
-  plan_uses_is : (a : Node) (id : ℕ) → IsNodeOf table.names a → Contains (entry [] plan_uses (number_in (length table.names) a)) id → UsesPiece (project web table) made a id
+  plan_uses_is : (a : Node) (id : ℕ) → IsNodeOf table.names a → Contains (entry [] plan_uses (number_in (length table.names) a)) id → UsesPiece (shapes web table) made a id
   plan_uses_is a id ha c =
       let m = number_of_node a ha in
       let row : entry [] plan_uses (number_in (length table.names) a) ≡ filter has (pieces_names table (pieces_of web table (title_at table.names m.n))) =
       entry_is [] plan_uses a m ∙ planned.uses_right m.n (omega (arith, m.here, is.uses_size, is.rows_size, rows_size rows)) ∙ ap (λ ps. filter has (pieces_names table ps)) (pieces_are m.n m.here) in
       used_piece a m id (plan_uses_pieces web table rows uses is inside has has_is m.n id (subst (λ l. Contains l id) row c))
 
-  plans_are : (a : Node) (parts : ℕ → List Part) → IsNodeOf table.names a → depth_of (project web table) (title_of_node table.names a) < levels
-      → ((id : ℕ) → UsesPiece (project web table) made a id → parts id ≡ flat_of (project web table) (Named (get_or table.names id [])))
-      → filled parts (entry [] slots (number_in (length table.names) a)) ≡ flat_of (project web table) (title_of_node table.names a)
-  plans_are a parts ha shallow right =
+  plans_are : (a : Node) (symbols : ℕ → List Symbol) → IsNodeOf table.names a → depth_of (shapes web table) (title_of_node table.names a) < levels
+      → ((id : ℕ) → UsesPiece (shapes web table) made a id → symbols id ≡ flat_of (shapes web table) (Named (get_or table.names id [])))
+      → filled symbols (entry [] slots (number_in (length table.names) a)) ≡ flat_of (shapes web table) (title_of_node table.names a)
+  plans_are a symbols ha shallow right =
       let m = number_of_node a ha in
       let row : entry [] slots (number_in (length table.names) a) ≡ pieces_slots web.texts table has (title_at table.names m.n) 0 (pieces_of web table (title_at table.names m.n)) =
       entry_is [] slots a m ∙ planned.slots_right m.n (omega (arith, m.here, is.uses_size, is.rows_size, rows_size rows))
       ∙ ap (pieces_slots web.texts table has (title_at table.names m.n) 0) (pieces_are m.n m.here) in
-      let low : depth levels (project web table) (title_at table.names m.n) < levels = subst (λ t. depth levels (project web table) t < levels) m.titled shallow in
-      ap (filled parts) row
-      ∙ law parts (title_at table.names m.n) low (parts_fit web table rows uses is inside has has_is parts m.n (λ id u. right id (used_piece a m id u)))
-      ∙ ap (flat_of (project web table)) (sym m.titled)
+      let low : depth levels (shapes web table) (title_at table.names m.n) < levels = subst (λ t. depth levels (shapes web table) t < levels) m.titled shallow in
+      ap (filled symbols) row
+      ∙ law symbols (title_at table.names m.n) low (symbols_fit web table rows uses is inside has has_is symbols m.n (λ id u. right id (used_piece a m id u)))
+      ∙ ap (flat_of (shapes web table)) (sym m.titled)
 
-  known_used : (a : Node) (name : List ℕ) → IsNodeOf table.names a → Uses (project web table) (title_of_node table.names a) name
+  known_used : (a : Node) (name : List ℕ) → IsNodeOf table.names a → Uses (shapes web table) (title_of_node table.names a) name
       → (b : Node) × IsNodeOf table.names b × (title_of_node table.names b ≡ Named name)
   known_used a name ha u =
       let m = number_of_node a ha in
-      let found = is.titled.complete m.n (Named name) m.here (subst (λ t. Uses (project web table) t name) m.titled u) in
+      let found = is.titled.complete m.n (Named name) m.here (subst (λ t. Uses (shapes web table) t name) m.titled u) in
       let low : found.0 ≤ length table.names = omega (arith, found.2, is.uses_size) in
       (node_at (length table.names) found.0, node_is table.names found.0 low, title-node table.names found.0 low ∙ found.3)
 
   shapes_are : (a : Node) → IsNodeOf table.names a
-      → (text : NodeText) × (entry_if texts (number_in (length table.names) a) ≡ Some text) × HoldsShape table.names (project web table (title_of_node table.names a)) text
+      → (text : NodeBody) × (entry_if texts (number_in (length table.names) a) ≡ Some text) × HoldsShape table.names (shapes web table (title_of_node table.names a)) text
   shapes_are a ha =
       let m = number_of_node a ha in
-      let told = shaped.each m.n (omega (arith, m.here, is.uses_size, is.rows_size, rows_size rows)) in
-      let same : shape_of web.texts table (pieces_at web.pieces (row_at (rows_of rows) m.n)) ≡ project web table (title_of_node table.names a) =
-      ap (shape_of web.texts table) (pieces_are m.n m.here) ∙ ap (project web table) (sym m.titled) in
-      (told.0, ap (entry_if texts) m.number ∙ told.1, subst (λ s. HoldsShape table.names s told.0) same told.2.shape)
+      let reported = shaped.each m.n (omega (arith, m.here, is.uses_size, is.rows_size, rows_size rows)) in
+      let same : shape_of web.texts table (pieces_at web.pieces (row_at (rows_of rows) m.n)) ≡ shapes web table (title_of_node table.names a) =
+      ap (shape_of web.texts table) (pieces_are m.n m.here) ∙ ap (shapes web table) (sym m.titled) in
+      (reported.0, ap (entry_if texts) m.number ∙ reported.1, subst (λ s. HoldsShape table.names s reported.0) same reported.2.shape)
 
-  pub store_is : IsStoreOf (project web table) made
+  pub store_is : IsStoreOf (shapes web table) made
   store_is = record {
     once = once_is;
     known = known_is;
     used = known_used;
     has_piece = piece_is;
-    uses = related uses refl (UsesTitle (project web table)) used_sound used_complete increasing;
+    uses = related uses refl (UsesTitle (shapes web table)) used_sound used_complete increasing;
     users = related users same_size IsUsedBy users_sound users_complete converse.increasing;
-    uses_once = apart uses refl (UsesTitle (project web table)) used_sound used_complete increasing;
+    uses_once = apart uses refl (UsesTitle (shapes web table)) used_sound used_complete increasing;
     users_once = apart users same_size IsUsedBy users_sound users_complete converse.increasing;
     contains_itself = contains_is;
     weights = weight_is;
@@ -279,13 +279,13 @@ module _ (web : WebRead) (table : TableRead) (rows uses users : Graph) (flags : 
     expandable = expandable_at;
     plan_uses = plan_uses_is;
     plans = plans_are;
-    shapes = shapes_are;
+    shape_held = shapes_are;
   }
 
   -- with the names and the rows of nodes as they are made
   pub store_made : (names : List (List ℕ)) (used using : List (List Node)) → names ≡ table.names
       → used ≡ map (map (node_at (length table.names))) (rows_of uses) → using ≡ map (map (node_at (length table.names))) (rows_of users)
-      → IsStoreOf (project web table) (record {
+      → IsStoreOf (shapes web table) (record {
         names = names;
         pieces = rows_of rows;
         uses = used;
@@ -301,6 +301,6 @@ module _ (web : WebRead) (table : TableRead) (rows uses users : Graph) (flags : 
         texts = texts;
       })
   store_made names used using e f g =
-      subst (λ (x : List (List ℕ)). IsStoreOf (project web table) (record { names = x; pieces = rows_of rows; uses = used; users = using; self_containing = flags; weights = weights; depths = depths; expandable = expandable; outputs = outputs; faults = faults; slots = slots; plan_uses = plan_uses; texts = texts })) (sym e)
-      (subst (λ (x : List (List Node)). IsStoreOf (project web table) (record { names = table.names; pieces = rows_of rows; uses = x; users = using; self_containing = flags; weights = weights; depths = depths; expandable = expandable; outputs = outputs; faults = faults; slots = slots; plan_uses = plan_uses; texts = texts })) (sym f)
-      (subst (λ (x : List (List Node)). IsStoreOf (project web table) (record { names = table.names; pieces = rows_of rows; uses = map (map (node_at (length table.names))) (rows_of uses); users = x; self_containing = flags; weights = weights; depths = depths; expandable = expandable; outputs = outputs; faults = faults; slots = slots; plan_uses = plan_uses; texts = texts })) (sym g) store_is))
+      subst (λ (x : List (List ℕ)). IsStoreOf (shapes web table) (record { names = x; pieces = rows_of rows; uses = used; users = using; self_containing = flags; weights = weights; depths = depths; expandable = expandable; outputs = outputs; faults = faults; slots = slots; plan_uses = plan_uses; texts = texts })) (sym e)
+      (subst (λ (x : List (List Node)). IsStoreOf (shapes web table) (record { names = table.names; pieces = rows_of rows; uses = x; users = using; self_containing = flags; weights = weights; depths = depths; expandable = expandable; outputs = outputs; faults = faults; slots = slots; plan_uses = plan_uses; texts = texts })) (sym f)
+      (subst (λ (x : List (List Node)). IsStoreOf (shapes web table) (record { names = table.names; pieces = rows_of rows; uses = map (map (node_at (length table.names))) (rows_of uses); users = x; self_containing = flags; weights = weights; depths = depths; expandable = expandable; outputs = outputs; faults = faults; slots = slots; plan_uses = plan_uses; texts = texts })) (sym g) store_is))

@@ -5,7 +5,7 @@ use Rattle.std.proofs.Math.Decide.{dec_lt}
 use Rattle.std.proofs.lemmas.Bool.Decides.{nat_tests}
 use Rattle.std.proofs.lemmas.Slice.Eq.{bytes_eq-Decides}
 use Rattle.std.proofs.lemmas.List.{get_or-map, length-map}
-use Rattle.tangle_expansion.specs.Shapes.{Title, Named, Shape, Project}
+use Rattle.tangle_expansion.specs.Shapes.{Title, Named, Shape, Shapes}
 use Rattle.tangle_expansion.specs.Flat.{weight, depth}
 use Rattle.tangle_expansion.specs.Limits.{levels, heaviest, weight_cap, weight_of, depth_of, IsExpandableNode}
 use Rattle.tangle_expansion.specs.declared.nodes.Node.TheVariants.{Program, Name}
@@ -13,7 +13,7 @@ use Rattle.tangle_scan.specs.Web.{PieceRead}
 use Rattle.tangle_names.specs.declared.Resolved.{Resolved}
 use Rattle.tangle_names.specs.declared.Resolved.TheVariants as resolved
 use Rattle.tangle_names.specs.NameTable.{TableRead}
-use Rattle.tangle_expansion.specs.Projects.{resolved_at, node_of, node_of_name, is_node, is_piece_of, IsNameBelow, ResolvesInside, project}
+use Rattle.tangle_expansion.specs.WebShapes.{resolved_at, node_of, node_of_name, is_node, is_piece_of, IsNameBelow, ResolvesInside, shapes}
 use Rattle.tangle_graph.specs.Nodes.{node_at}
 use Rattle.tangle_graph.specs.Outputs.{has_pieces, is_expandable}
 use Rattle.tangle_graph.specs.Stores.{is_filled}
@@ -45,9 +45,9 @@ mapped_contains f (x ∷ xs) y (suc k, h, e) =
 
 -- Expandable, by the capped weight and depth.
 
-weight_same : (project : Project) (node : Title) → depth levels project node < levels → weight weight_cap project node ≡ weight levels project node
+weight_same : (shapes : Shapes) (node : Title) → depth levels shapes node < levels → weight weight_cap shapes node ≡ weight levels shapes node
 unfolding levels weight_cap
-weight_same project node h = weight-settles 1001 16776216 project node h
+weight_same shapes node h = weight-settles 1001 16776216 shapes node h
 
 one_more : weight_cap ≡ heaviest + 1
 unfolding weight_cap heaviest
@@ -75,15 +75,15 @@ filled_shape [] = (λ t. absurd (let no : false ≡ true = t in cc), λ h. absur
 filled_shape (x ∷ s) = (λ t none. (let no : x ∷ s ≡ [] = none in cc), λ h. refl)
 
 -- the test of a node is the property
-pub expandable_is : (project : Project) (node : Title) → (is_expandable project node ≡ true) ↔ IsExpandableNode project node
-expandable_is project node = (
-  λ e. (let first = both_true (has_pieces (project node)) (nat_lt (depth levels project node) levels && nat_le (weight levels project node) heaviest) e in
-      let rest = both_true (nat_lt (depth levels project node) levels) (nat_le (weight levels project node) heaviest) first.1 in
-      let low : depth levels project node < levels = (let t = rest.0 in grind (arith, nat_tests)) in
-      let few : weight levels project node ≤ heaviest = (let t = rest.1 in grind (arith, nat_tests)) in
-      record { has_piece = (filled_shape (project node)).0 first.0; shallow = low; light = few }),
-  λ x. joined (has_pieces (project node)) (nat_lt (depth levels project node) levels) (nat_le (weight levels project node) heaviest)
-      ((filled_shape (project node)).1 x.has_piece)
+pub expandable_is : (shapes : Shapes) (node : Title) → (is_expandable shapes node ≡ true) ↔ IsExpandableNode shapes node
+expandable_is shapes node = (
+  λ e. (let first = both_true (has_pieces (shapes node)) (nat_lt (depth levels shapes node) levels && nat_le (weight levels shapes node) heaviest) e in
+      let rest = both_true (nat_lt (depth levels shapes node) levels) (nat_le (weight levels shapes node) heaviest) first.1 in
+      let low : depth levels shapes node < levels = (let t = rest.0 in grind (arith, nat_tests)) in
+      let few : weight levels shapes node ≤ heaviest = (let t = rest.1 in grind (arith, nat_tests)) in
+      record { has_piece = (filled_shape (shapes node)).0 first.0; shallow = low; light = few }),
+  λ x. joined (has_pieces (shapes node)) (nat_lt (depth levels shapes node) levels) (nat_le (weight levels shapes node) heaviest)
+      ((filled_shape (shapes node)).1 x.has_piece)
       (let h = x.shallow in grind (arith, nat_tests)) (let h = x.light in grind (arith, nat_tests)),
 )
 
@@ -93,23 +93,23 @@ same_bool false true f g = g refl
 same_bool false false f g = refl
 
 -- so is the test of the capped weight and depth
-pub expandable_by_limits : (project : Project) (node : Title) (row : List ℕ) (w d : ℕ) → length (project node) ≡ length row → w ≡ weight_of project node → d ≡ depth_of project node
-    → (is_filled row && (nat_lt d levels && nat_le w heaviest)) ≡ is_expandable project node
-expandable_by_limits project node row w d size weighed measured =
-    same_bool (is_filled row && (nat_lt d levels && nat_le w heaviest)) (is_expandable project node)
+pub expandable_by_limits : (shapes : Shapes) (node : Title) (row : List ℕ) (w d : ℕ) → length (shapes node) ≡ length row → w ≡ weight_of shapes node → d ≡ depth_of shapes node
+    → (is_filled row && (nat_lt d levels && nat_le w heaviest)) ≡ is_expandable shapes node
+expandable_by_limits shapes node row w d size weighed measured =
+    same_bool (is_filled row && (nat_lt d levels && nat_le w heaviest)) (is_expandable shapes node)
     (λ e. (let first = both_true (is_filled row) (nat_lt d levels && nat_le w heaviest) e in
     let rest = both_true (nat_lt d levels) (nat_le w heaviest) first.1 in
-    let low : depth levels project node < levels = (let t = rest.0 in let below : d < levels = grind (arith, nat_tests) in omega (arith, below, measured)) in
-    let few : weight_of project node ≤ heaviest = (let t = rest.1 in let below : w ≤ heaviest = grind (arith, nat_tests) in omega (arith, below, weighed)) in
-    (expandable_is project node).1 (record {
-      has_piece = (filled_row row (project node) size).0 first.0;
+    let low : depth levels shapes node < levels = (let t = rest.0 in let below : d < levels = grind (arith, nat_tests) in omega (arith, below, measured)) in
+    let few : weight_of shapes node ≤ heaviest = (let t = rest.1 in let below : w ≤ heaviest = grind (arith, nat_tests) in omega (arith, below, weighed)) in
+    (expandable_is shapes node).1 (record {
+      has_piece = (filled_row row (shapes node) size).0 first.0;
       shallow = low;
-      light = light_of weight_cap heaviest (weight levels project node) (weight weight_cap project node) one_more (weight_same project node low) few;
+      light = light_of weight_cap heaviest (weight levels shapes node) (weight weight_cap shapes node) one_more (weight_same shapes node low) few;
     })))
-    (λ e. (let x = (expandable_is project node).0 e in
-    joined (is_filled row) (nat_lt d levels) (nat_le w heaviest) ((filled_row row (project node) size).1 x.has_piece)
+    (λ e. (let x = (expandable_is shapes node).0 e in
+    joined (is_filled row) (nat_lt d levels) (nat_le w heaviest) ((filled_row row (shapes node) size).1 x.has_piece)
     (let h = x.shallow in let below : d < levels = omega (arith, h, measured) in grind (arith, nat_tests))
-    (let h = x.light in let low = x.shallow in let same = weight_same project node low in let below : w ≤ heaviest = omega (arith, h, same, weighed) in grind (arith, nat_tests))))
+    (let h = x.light in let low = x.shallow in let same = weight_same shapes node low in let below : w ≤ heaviest = omega (arith, h, same, weighed) in grind (arith, nat_tests))))
 
 -- a name with a piece is in the table
 module _ (table : TableRead) (inside : ResolvesInside table) (name : List ℕ) where
@@ -130,5 +130,5 @@ module _ (table : TableRead) (inside : ResolvesInside table) (name : List ℕ) w
   there (p ∷ pieces) h = by (is_piece_of table (Named name) p) refl (there pieces)
     where
       by : (b : Bool) → is_piece_of table (Named name) p ≡ b → (((e : filter (is_piece_of table (Named name)) pieces ≡ []) → ⊥) → IsThere) → IsThere
-      by true e next = there_named p.name e
+      by true e next = there_named p.occurrence e
       by false e next = next (λ none. h (rw e none))

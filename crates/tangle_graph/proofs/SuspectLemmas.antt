@@ -7,7 +7,7 @@ use Rattle.tangle_scan.specs.Web.{WebRead}
 use Rattle.tangle_names.specs.NameTable.{TableRead}
 use Rattle.tangle_expansion.specs.Flat.{weight, depth}
 use Rattle.tangle_expansion.specs.Limits.{levels, heaviest}
-use Rattle.tangle_expansion.specs.Projects.{project}
+use Rattle.tangle_expansion.specs.WebShapes.{shapes}
 use Rattle.tangle_graph.specs.FaultFlags.{AreNodeFlags, flag_at}
 use Rattle.tangle_graph.specs.Faults.{fault_place, first_file_occurrence, first_occurrence, first_use, is_defined, is_too_large}
 use Rattle.tangle_graph.specs.Nodes.{title_at}
@@ -30,16 +30,16 @@ never : (b : Bool) (x : Option ℕ) → x ≡ None → (if b then x else None) �
 never true x e = e
 never false x e = refl
 
-module _ (web : WebRead) (table : TableRead) (out : List ℕ) (flags : NodeFlags) (told : AreNodeFlags web table flags) (id : ℕ) (low : id < length table.names)
+module _ (web : WebRead) (table : TableRead) (out : List ℕ) (flags : NodeFlags) (reported : AreNodeFlags web table flags) (id : ℕ) (low : id < length table.names)
     (expandable : flag_at flags.expandable.now id ≡ true) (contains : flag_at flags.self_containing.now id ≡ false)
     (used : is_some (first_use web table id) ≡ true) (file : is_some (first_file_occurrence web table id) ≡ false) where
-  right : is_expandable (project web table) (title_at table.names id) ≡ true
-  right = sym (told.expandable id (omega (arith, low))) ∙ expandable
+  right : is_expandable (shapes web table) (title_at table.names id) ≡ true
+  right = sym (reported.expandable id (omega (arith, low))) ∙ expandable
 
   defined : is_defined web table id ≡ true
   defined =
-      first_true (has_pieces (project web table (title_at table.names id)))
-      (nat_lt (depth levels (project web table) (title_at table.names id)) levels && nat_le (weight levels (project web table) (title_at table.names id)) heaviest) right
+      first_true (has_pieces (shapes web table (title_at table.names id)))
+      (nat_lt (depth levels (shapes web table) (title_at table.names id)) levels && nat_le (weight levels (shapes web table) (title_at table.names id)) heaviest) right
 
   large : is_too_large web table (flag_at flags.reaching.now) id ≡ false
   large =

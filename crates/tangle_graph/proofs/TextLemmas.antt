@@ -10,66 +10,66 @@ use Rattle.std.proofs.lemmas.List.{get_or-map, length-map}
 use Rattle.std.proofs.lemmas.Option.{get_or_from_slice_get, slice_get_past}
 use Rattle.tangle_scan.specs.Web.{WebRead}
 use Rattle.tangle_names.specs.NameTable.{TableRead}
-use Rattle.tangle_expansion.specs.ItemCodes.{pieces_names, shape_of}
+use Rattle.tangle_expansion.specs.ItemTags.{pieces_names, shape_of}
 use Rattle.tangle_expansion.specs.ItemSlots.{pieces_at, pieces_slots}
 use Rattle.tangle_expansion.specs.Shapes.{Title}
-use Rattle.tangle_expansion.specs.NodeTexts.{HoldsShape, node_title, node_uses, plan_slots}
-use Rattle.tangle_expansion.specs.Projects.{ResolvesInside}
-use Rattle.tangle_expansion.specs.declared.expansion.NodeText.{NodeText}
+use Rattle.tangle_expansion.specs.NodeBodies.{HoldsShape, node_title, node_uses, plan_slots}
+use Rattle.tangle_expansion.specs.WebShapes.{ResolvesInside}
+use Rattle.tangle_expansion.specs.declared.expansion.NodeBody.{NodeBody}
 use Rattle.tangle_graph.specs.Grouping.{used_in}
-use Rattle.tangle_graph.specs.Plans.{ArePlanned, AreTexts, IsTextOf, node_texts}
+use Rattle.tangle_graph.specs.Plans.{ArePlanned, AreBodies, IsBodyOf, node_bodies}
 use Rattle.tangle_graph.specs.Nodes.{title_at}
 use Rattle.tangle_expansion.specs.Comparing.{IsPlanned}
 use Rattle.tangle_graph.proofs.GraphLemmas.{pieces_below}
 use Rattle.tangle_graph.proofs.PlanLemmas.{names_same}
 use Rattle.tangle_graph.proofs.WeightLemmas.{weight_counted}
 
-pub names_below : (web : WebRead) (table : TableRead) (rows : List (List ℕ)) (texts : List NodeText) (count : ℕ) → ResolvesInside table → AreTexts web table rows texts → length table.names ≡ count
-    → All (λ (text : NodeText). All (λ id. id < count) (node_uses text)) texts
+pub names_below : (web : WebRead) (table : TableRead) (rows : List (List ℕ)) (texts : List NodeBody) (count : ℕ) → ResolvesInside table → AreBodies web table rows texts → length table.names ≡ count
+    → All (λ (text : NodeBody). All (λ id. id < count) (node_uses text)) texts
 names_below web table rows texts count inside are size k d h =
-    let told = are.each k (omega (arith, h, are.size)) in
+    let reported = are.each k (omega (arith, h, are.size)) in
     let pieces = pieces_at web.pieces (get_or rows k []) in
     let below : All (λ id. id < count) (flat_map (used_in table) (pieces_at web.pieces (get_or rows k []))) =
     subst (λ c. All (λ id. id < c) (flat_map (used_in table) (pieces_at web.pieces (get_or rows k [])))) size (pieces_below table inside pieces) in
-    subst (λ (text : NodeText). All (λ id. id < count) (node_uses text)) (sym (get_or_from_slice_get texts k told.0 d told.1))
-    (subst (All (λ id. id < count)) (sym (told.2.names ∙ names_same table pieces)) below)
+    subst (λ (text : NodeBody). All (λ id. id < count) (node_uses text)) (sym (get_or_from_slice_get texts k reported.0 d reported.1))
+    (subst (All (λ id. id < count)) (sym (reported.2.names ∙ names_same table pieces)) below)
 
 -- the text with one number is that of the pieces with the numbers of its row
-pub text_told : (web : WebRead) (table : TableRead) (rows : List (List ℕ)) (texts : List (Rc NodeText Global)) (n : ℕ) (text : Rc NodeText Global) → AreTexts web table rows (node_texts texts)
-    → n < length rows → text ≡ get_or texts n text → IsTextOf web table (get_or rows n []) text.value
-text_told web table rows texts n text are low read =
-    let told = are.each n low in
-    let there : n < length texts = omega (arith, low, are.size, length-map texts (λ (t : Rc NodeText Global). t.value)) in
-    let same : get_or (node_texts texts) n text.value ≡ text.value =
-    get_or-map (λ (t : Rc NodeText Global). t.value) texts n text text.value there ∙ ap (λ (t : Rc NodeText Global). t.value) (sym read) in
-    subst (IsTextOf web table (get_or rows n [])) (sym (get_or_from_slice_get (node_texts texts) n told.0 text.value told.1) ∙ same) told.2
+pub body_reported : (web : WebRead) (table : TableRead) (rows : List (List ℕ)) (texts : List (Rc NodeBody Global)) (n : ℕ) (text : Rc NodeBody Global) → AreBodies web table rows (node_bodies texts)
+    → n < length rows → text ≡ get_or texts n text → IsBodyOf web table (get_or rows n []) text.value
+body_reported web table rows texts n text are low read =
+    let reported = are.each n low in
+    let there : n < length texts = omega (arith, low, are.size, length-map texts (λ (t : Rc NodeBody Global). t.value)) in
+    let same : get_or (node_bodies texts) n text.value ≡ text.value =
+    get_or-map (λ (t : Rc NodeBody Global). t.value) texts n text text.value there ∙ ap (λ (t : Rc NodeBody Global). t.value) (sym read) in
+    subst (IsBodyOf web table (get_or rows n [])) (sym (get_or_from_slice_get (node_bodies texts) n reported.0 text.value reported.1) ∙ same) reported.2
 
-pub names_inside : (web : WebRead) (table : TableRead) (numbers : List ℕ) (text : NodeText) → ResolvesInside table → IsTextOf web table numbers text
+pub names_inside : (web : WebRead) (table : TableRead) (numbers : List ℕ) (text : NodeBody) → ResolvesInside table → IsBodyOf web table numbers text
     → All (λ id. id < length table.names) (node_uses text)
-names_inside web table numbers text inside told =
+names_inside web table numbers text inside reported =
     let pieces = pieces_at web.pieces numbers in
-    subst (All (λ id. id < length table.names)) (sym (told.names ∙ names_same table pieces)) (pieces_below table inside pieces)
+    subst (All (λ id. id < length table.names)) (sym (reported.names ∙ names_same table pieces)) (pieces_below table inside pieces)
 
 -- the text of a node that is read by its number
-module _ (texts : List (Rc NodeText Global)) (n : ℕ) where
-  pub names_of_read : (names count : ℕ) (text : Rc NodeText Global) → All (λ (t : NodeText). All (λ id. id < names) (node_uses t)) (node_texts texts) → names ≡ count
+module _ (texts : List (Rc NodeBody Global)) (n : ℕ) where
+  pub names_of_read : (names count : ℕ) (text : Rc NodeBody Global) → All (λ (t : NodeBody). All (λ id. id < names) (node_uses t)) (node_bodies texts) → names ≡ count
       → true ≡ nat_lt n (length texts) → text ≡ get_or texts n text → All (λ id. id < count) (node_uses text.value)
   names_of_read names count text all size test read =
       let low : n < length texts = (let t = sym test in grind (arith, nat_tests)) in
-      let there : n < length (node_texts texts) = omega (arith, low, length-map texts (λ (t : Rc NodeText Global). t.value)) in
-      let same : get_or (node_texts texts) n text.value ≡ text.value =
-      get_or-map (λ (t : Rc NodeText Global). t.value) texts n text text.value low ∙ ap (λ (t : Rc NodeText Global). t.value) (sym read) in
-      subst (λ c. All (λ id. id < c) (node_uses text.value)) size (subst (λ (t : NodeText). All (λ id. id < names) (node_uses t)) same (all n text.value there))
+      let there : n < length (node_bodies texts) = omega (arith, low, length-map texts (λ (t : Rc NodeBody Global). t.value)) in
+      let same : get_or (node_bodies texts) n text.value ≡ text.value =
+      get_or-map (λ (t : Rc NodeBody Global). t.value) texts n text text.value low ∙ ap (λ (t : Rc NodeBody Global). t.value) (sym read) in
+      subst (λ c. All (λ id. id < c) (node_uses text.value)) size (subst (λ (t : NodeBody). All (λ id. id < names) (node_uses t)) same (all n text.value there))
 
-  pub none_read : false ≡ nat_lt n (length texts) → slice_get (node_texts texts) n ≡ None
+  pub none_read : false ≡ nat_lt n (length texts) → slice_get (node_bodies texts) n ≡ None
   none_read test =
       let past : length texts ≤ n = (let t = sym test in grind (arith, nat_tests)) in
-      slice_get_past (node_texts texts) n (omega (arith, past, length-map texts (λ (t : Rc NodeText Global). t.value)))
+      slice_get_past (node_bodies texts) n (omega (arith, past, length-map texts (λ (t : Rc NodeBody Global). t.value)))
 
--- what has the shape, the uses and the plan of pieces tells their weight besides
-pub is_text_of : (web : WebRead) (table : TableRead) (has : ℕ → Bool) (node : Title) (numbers : List ℕ) (text : NodeText)
+-- what has the shape, the uses and the plan of pieces reports their weight besides
+pub is_text_of : (web : WebRead) (table : TableRead) (has : ℕ → Bool) (node : Title) (numbers : List ℕ) (text : NodeBody)
     → HoldsShape table.names (shape_of web.texts table (pieces_at web.pieces numbers)) text → node_uses text ≡ pieces_names table (pieces_at web.pieces numbers)
-    → plan_slots text ≡ pieces_slots web.texts table has node 0 (pieces_at web.pieces numbers) → IsTextOf web table numbers text
+    → plan_slots text ≡ pieces_slots web.texts table has node 0 (pieces_at web.pieces numbers) → IsBodyOf web table numbers text
 is_text_of web table has node numbers text shape uses plan =
     let pieces = pieces_at web.pieces numbers in
     record {
@@ -82,23 +82,23 @@ is_text_of web table has node numbers text shape uses plan =
     }
 
 -- the text of before that comes at a number has the title of the node with this number, and was planned
-module _ (names : List (List ℕ)) (has : ℕ → Bool) (before : List (Rc NodeText Global)) (n : ℕ) (is : ArePlanned names has (node_texts before)) where
-  same_read : (text : Rc NodeText Global) → n < length before → text ≡ get_or before n text → get_or (node_texts before) n text.value ≡ text.value
-  same_read text low read = get_or-map (λ (t : Rc NodeText Global). t.value) before n text text.value low ∙ ap (λ (t : Rc NodeText Global). t.value) (sym read)
+module _ (names : List (List ℕ)) (has : ℕ → Bool) (before : List (Rc NodeBody Global)) (n : ℕ) (is : ArePlanned names has (node_bodies before)) where
+  same_read : (text : Rc NodeBody Global) → n < length before → text ≡ get_or before n text → get_or (node_bodies before) n text.value ≡ text.value
+  same_read text low read = get_or-map (λ (t : Rc NodeBody Global). t.value) before n text text.value low ∙ ap (λ (t : Rc NodeBody Global). t.value) (sym read)
 
   below : (test : true ≡ nat_lt n (length before)) → n < length before
   below test = (let t = sym test in grind (arith, nat_tests))
 
-  mapped : n < length before → n < length (node_texts before)
-  mapped low = omega (arith, low, length-map before (λ (t : Rc NodeText Global). t.value))
+  mapped : n < length before → n < length (node_bodies before)
+  mapped low = omega (arith, low, length-map before (λ (t : Rc NodeBody Global). t.value))
 
-  pub title_read : (o : Option (Bor (Rc NodeText Global))) → IsItemAt before n o → IfSome o (λ text. node_title text.now.value ≡ title_at names n)
+  pub title_read : (o : Option (Bor (Rc NodeBody Global))) → IsItemAt before n o → IfSome o (λ text. node_title text.now.value ≡ title_at names n)
   title_read None h = tt
   title_read (Some x) h =
       let low = below h.0 in
       ap node_title (sym (same_read x.now low h.1)) ∙ is.titles n x.now.value (mapped low)
 
-  pub planned_read : (o : Option (Bor (Rc NodeText Global))) → IsItemAt before n o → IfSome o (λ text. IsPlanned has text.now.value)
+  pub planned_read : (o : Option (Bor (Rc NodeBody Global))) → IsItemAt before n o → IfSome o (λ text. IsPlanned has text.now.value)
   planned_read None h = tt
   planned_read (Some x) h =
       let low = below h.0 in

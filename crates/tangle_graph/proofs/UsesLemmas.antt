@@ -9,25 +9,25 @@ use Rattle.digraph.specs.Rows.{IsRowsOf}
 use Rattle.digraph.proofs.GraphLemmas.{rows_size}
 use Rattle.tangle_scan.specs.Web.{PieceRead, WebRead}
 use Rattle.tangle_names.specs.NameTable.{TableRead}
-use Rattle.tangle_expansion.specs.ItemCodes.{pieces_names}
+use Rattle.tangle_expansion.specs.ItemTags.{pieces_names}
 use Rattle.tangle_expansion.specs.ItemSlots.{pieces_at, no_piece}
-use Rattle.tangle_expansion.specs.NodeTexts.{node_uses}
-use Rattle.tangle_expansion.specs.declared.expansion.NodeText.{NodeText}
+use Rattle.tangle_expansion.specs.NodeBodies.{node_uses}
+use Rattle.tangle_expansion.specs.declared.expansion.NodeBody.{NodeBody}
 use Rattle.tangle_graph.specs.Grouping.{places_of, used_numbers, is_piece_of_number}
-use Rattle.tangle_graph.specs.Plans.{ArePiecesInside, AreTexts}
+use Rattle.tangle_graph.specs.Plans.{ArePiecesInside, AreBodies}
 use Rattle.tangle_graph.proofs.PlanLemmas.{names_same}
 use Rattle.tangle_graph.proofs.RowLemmas.{places_below, places_read}
 
-pub uses_collected : (web : WebRead) (table : TableRead) (pieces : List (List ℕ)) (texts : List NodeText) (uses : List (List ℕ))
-    → IsRowsOf (length table.names + 1) (places_of table web.pieces) pieces → AreTexts web table pieces texts → uses ≡ map node_uses texts
+pub uses_collected : (web : WebRead) (table : TableRead) (pieces : List (List ℕ)) (texts : List NodeBody) (uses : List (List ℕ))
+    → IsRowsOf (length table.names + 1) (places_of table web.pieces) pieces → AreBodies web table pieces texts → uses ≡ map node_uses texts
     → IsRowsOf (length table.names + 1) (used_numbers table web.pieces) uses
 uses_collected web table pieces texts uses grouped are e = rw e (record {
   size = length-map texts node_uses ∙ are.size ∙ grouped.size;
   row = λ n low. (
-      let told = are.each n (omega (arith, low, grouped.size)) in
-      get_or-map node_uses texts n told.0 [] (omega (arith, low, are.size, grouped.size))
-      ∙ ap node_uses (get_or_from_slice_get texts n told.0 told.0 told.1)
-      ∙ told.2.names
+      let reported = are.each n (omega (arith, low, grouped.size)) in
+      get_or-map node_uses texts n reported.0 [] (omega (arith, low, are.size, grouped.size))
+      ∙ ap node_uses (get_or_from_slice_get texts n reported.0 reported.0 reported.1)
+      ∙ reported.2.names
       ∙ ap (λ r. pieces_names table (pieces_at web.pieces r)) (grouped.row n low)
       ∙ ap (pieces_names table) (places_read (is_piece_of_number table n) [] web.pieces no_piece)
       ∙ names_same table (filter (is_piece_of_number table n) web.pieces));

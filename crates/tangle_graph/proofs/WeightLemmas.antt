@@ -12,9 +12,9 @@ use Rattle.tangle_names.specs.declared.Resolved.TheVariants as resolved
 use Rattle.tangle_names.specs.NameTable.{TableRead}
 use Rattle.tangle_expansion.specs.Shapes.{Title}
 use Rattle.tangle_expansion.specs.Flat.{Byte}
-use Rattle.tangle_expansion.specs.ItemCodes.{names_resolved, names_in, pieces_names}
+use Rattle.tangle_expansion.specs.ItemTags.{names_resolved, names_in, pieces_names}
 use Rattle.tangle_expansion.specs.ItemSlots.{marks_behind_item, name_slots, item_slots, items_slots, piece_slots, pieces_slots}
-use Rattle.tangle_expansion.specs.Projects.{resolved_at}
+use Rattle.tangle_expansion.specs.WebShapes.{resolved_at}
 use Rattle.tangle_expansion.specs.Slots.{Own, Used, byte_slots}
 use Rattle.tangle_graph.specs.Grouping.{number_of_name}
 use Rattle.tangle_graph.specs.Measures.{use_weight, weight_of_item, weight_of_piece, weight_of_pieces}

@@ -1,4 +1,4 @@
--- What is told of each node by its number, for the faults. These words are cited by private contracts alone.
+-- What is reported of each node by its number, for the faults. These words are cited by private contracts alone.
 use Rattle.std.specs.Prelude.{◌≡◌, ◌≤◌, ◌↔◌, ℕ, ◌+◌, Bool, true, false, ◌&&◌, List, flat_map, length, slice_index_or}
 use Rattle.std.specs.List.{position_or_len}
 use Rattle.tangle_lexer.specs.Occurrences.{OccurrenceRead}
@@ -7,7 +7,7 @@ use Rattle.tangle_names.specs.declared.Resolved.{Resolved}
 use Rattle.tangle_names.specs.Numbers.{is_number}
 use Rattle.tangle_names.specs.NameTable.{TableRead}
 use Rattle.tangle_expansion.specs.Shapes.{ContainsItself}
-use Rattle.tangle_expansion.specs.Projects.{project}
+use Rattle.tangle_expansion.specs.WebShapes.{shapes}
 use Rattle.tangle_lines.specs.declared.faults.FaultKind.{FaultKind}
 use Rattle.tangle_graph.specs.Faults.{is_use, is_defined, fault_of, fault_place, faults_of_names, ReachesCycle}
 use Rattle.tangle_graph.specs.Nodes.{title_at}
@@ -21,16 +21,16 @@ flag_at flags n = slice_index_or flags n false
 abbrev pub first_use_by_number : (OccurrenceRead → Resolved) → List OccurrenceRead → ℕ → ℕ
 first_use_by_number f os id = position_or_len (λ o. is_use o.role && is_number id (f o)) os
 
--- the flags tell of each node whether it has a piece, contains itself, reaches a name that does, and is expandable
+-- the flags report each node whether it has a piece, contains itself, reaches a name that does, and is expandable
 pub record AreNodeFlags (web : WebRead) (table : TableRead) (flags : NodeFlags) : Type 0 where
   pub defined_size : length flags.defined.now ≡ length table.names + 1
   pub containing_size : length flags.self_containing.now ≡ length table.names + 1
   pub reaching_size : length flags.reaching.now ≡ length table.names + 1
   pub expandable_size : length flags.expandable.now ≡ length table.names + 1
   pub defined : (n : ℕ) → n ≤ length table.names → flag_at flags.defined.now n ≡ is_defined web table n
-  pub containing : (n : ℕ) → n ≤ length table.names → (flag_at flags.self_containing.now n ≡ true) ↔ ContainsItself (project web table) (title_at table.names n)
-  pub reaching : (n : ℕ) → n ≤ length table.names → (flag_at flags.reaching.now n ≡ true) ↔ ReachesCycle (project web table) (title_at table.names n)
-  pub expandable : (n : ℕ) → n ≤ length table.names → flag_at flags.expandable.now n ≡ is_expandable (project web table) (title_at table.names n)
+  pub containing : (n : ℕ) → n ≤ length table.names → (flag_at flags.self_containing.now n ≡ true) ↔ ContainsItself (shapes web table) (title_at table.names n)
+  pub reaching : (n : ℕ) → n ≤ length table.names → (flag_at flags.reaching.now n ≡ true) ↔ ReachesCycle (shapes web table) (title_at table.names n)
+  pub expandable : (n : ℕ) → n ≤ length table.names → flag_at flags.expandable.now n ≡ is_expandable (shapes web table) (title_at table.names n)
 
 -- the faults of these names are those of all names, of whatever kind
 abbrev pub HaveTheFaults : WebRead → TableRead → NodeFlags → List ℕ → Type 0

@@ -4,16 +4,16 @@ use Rattle.std.specs.List.{range_with_len}
 use Rattle.std.specs.Str.{bytes_eq}
 use Rattle.tangle_lines.specs.declared.faults.FaultKind.{FaultKind}
 use Rattle.tangle_lines.specs.declared.faults.FaultKind.TheVariants as kind
-use Rattle.tangle_lines.specs.Faults.{Finding, fault_about, fault_unplaced}
+use Rattle.tangle_lines.specs.Faults.{FaultRead, fault_about, fault_unplaced}
 use Rattle.tangle_lexer.specs.declared.occurrences.OccurrenceRole.{OccurrenceRole}
 use Rattle.tangle_lexer.specs.declared.occurrences.OccurrenceRole.TheVariants.{Definition, Use, Mention}
 use Rattle.tangle_scan.specs.Web.{WebRead}
-use Rattle.tangle_names.specs.Faults.{spot_of}
+use Rattle.tangle_names.specs.Faults.{named_place_of}
 use Rattle.tangle_names.specs.NameTable.{TableRead}
 use Rattle.tangle_names.specs.Numbers.{is_number}
 use Rattle.tangle_names.specs.Resolving.{resolve}
-use Rattle.tangle_expansion.specs.Shapes.{Title, Project, Reaches, ContainsItself}
-use Rattle.tangle_expansion.specs.Projects.{project}
+use Rattle.tangle_expansion.specs.Shapes.{Title, Shapes, Reaches, ContainsItself}
+use Rattle.tangle_expansion.specs.WebShapes.{shapes}
 use Rattle.tangle_graph.specs.Nodes.{title_at}
 use Rattle.tangle_graph.specs.Outputs.{has_pieces, is_expandable, name_text}
 
@@ -23,22 +23,22 @@ is_use Definition = false
 is_use Mention = false
 
 -- the node reaches a name that contains itself, in no step or more
-abbrev pub ReachesCycle : Project → Title → Type 0
-ReachesCycle project node = (other : Title) × Reaches project node other × ContainsItself project other
+abbrev pub ReachesCycle : Shapes → Title → Type 0
+ReachesCycle shapes node = (other : Title) × Reaches shapes node other × ContainsItself shapes other
 
 -- a fault about a name, at the occurrence with this number if there is one
 module _ (web : WebRead) (table : TableRead) where
-  abbrev pub fault_at_number : FaultKind → ℕ → ℕ → List Finding
+  abbrev pub fault_at_number : FaultKind → ℕ → ℕ → List FaultRead
   fault_at_number kind id number =
-      map (λ o. fault_about kind (spot_of web.file_names o.place) (name_text table id)) (option_to_list (slice_get web.occurrences number))
+      map (λ o. fault_about kind (named_place_of web.file_names o.place) (name_text table id)) (option_to_list (slice_get web.occurrences number))
 
-  abbrev pub fault_of : FaultKind → ℕ → Option ℕ → List Finding
+  abbrev pub fault_of : FaultKind → ℕ → Option ℕ → List FaultRead
   fault_of kind id None = []
   fault_of kind id (Some number) = fault_at_number kind id number
 
   -- the node with this number has a piece
   abbrev pub is_defined : ℕ → Bool
-  is_defined n = has_pieces (project web table (title_at table.names n))
+  is_defined n = has_pieces (shapes web table (title_at table.names n))
 
   -- the numbers of a name's first occurrence, of its first one with `@(`, and of the first use that resolves to it
   abbrev pub first_occurrence : ℕ → Option ℕ
@@ -50,11 +50,11 @@ module _ (web : WebRead) (table : TableRead) where
   abbrev pub first_use : ℕ → Option ℕ
   first_use id = position (λ o. is_use o.role && is_number id (resolve web.occurrences o)) web.occurrences
 
--- The node has a piece, reaches no name that contains itself, and is beyond a limit, where this tells of each node whether it reaches such a name.
+-- The node has a piece, reaches no name that contains itself, and is beyond a limit, where this reports each node whether it reaches such a name.
 abbrev pub is_too_large : WebRead → TableRead → (ℕ → Bool) → ℕ → Bool
-is_too_large web table reaches_cycle n = is_defined web table n && (not (reaches_cycle n) && not (is_expandable (project web table) (title_at table.names n)))
+is_too_large web table reaches_cycle n = is_defined web table n && (not (reaches_cycle n) && not (is_expandable (shapes web table) (title_at table.names n)))
 
--- The faults, where these tell of each node by its number whether it contains itself, and whether it reaches a name that does: the names in
+-- The faults, where these report each node by its number whether it contains itself, and whether it reaches a name that does: the names in
 -- their order, and then the program.
 module _ (web : WebRead) (table : TableRead) (out : List ℕ) (contains_itself reaches_cycle : ℕ → Bool) where
   -- whether the name has a fault of this kind, and at which occurrence
@@ -70,24 +70,24 @@ module _ (web : WebRead) (table : TableRead) (out : List ℕ) (contains_itself r
   fault_place _ id = None
 
   -- the faults of this kind, in the order of the names
-  abbrev pub faults_of_names : FaultKind → List Finding
+  abbrev pub faults_of_names : FaultKind → List FaultRead
   faults_of_names kind = flat_map (λ id. fault_of web table kind id (fault_place kind id)) (range_with_len 0 (length table.names))
 
   -- the program is too large, or has no text
-  abbrev pub large_program : List Finding
+  abbrev pub large_program : List FaultRead
   large_program = if is_too_large web table reaches_cycle (length table.names) then fault_unplaced kind.TooLarge ∷ [] else []
 
-  abbrev pub no_program : List Finding
+  abbrev pub no_program : List FaultRead
   no_program = if is_defined web table (length table.names) then [] else fault_unplaced kind.NoProgram ∷ []
 
-  abbrev pub graph_faults : List Finding
+  abbrev pub graph_faults : List FaultRead
   graph_faults = faults_of_names kind.Undefined ++ (faults_of_names kind.Unused ++ (faults_of_names kind.SelfContaining
       ++ (faults_of_names kind.TooLarge ++ (large_program ++ (faults_of_names kind.FileClash ++ no_program)))))
 
 -- the faults of the graph of names of a web, for a main file of this name
-pub record AreGraphFaults (web : WebRead) (table : TableRead) (out : List ℕ) (faults : List Finding) : Type 0 where
+pub record AreGraphFaults (web : WebRead) (table : TableRead) (out : List ℕ) (faults : List FaultRead) : Type 0 where
   pub contains_itself : ℕ → Bool
   pub reaches_cycle : ℕ → Bool
-  pub self_containing : (n : ℕ) → n ≤ length table.names → (contains_itself n ≡ true) ↔ ContainsItself (project web table) (title_at table.names n)
-  pub cyclic : (n : ℕ) → n ≤ length table.names → (reaches_cycle n ≡ true) ↔ ReachesCycle (project web table) (title_at table.names n)
+  pub self_containing : (n : ℕ) → n ≤ length table.names → (contains_itself n ≡ true) ↔ ContainsItself (shapes web table) (title_at table.names n)
+  pub cyclic : (n : ℕ) → n ≤ length table.names → (reaches_cycle n ≡ true) ↔ ReachesCycle (shapes web table) (title_at table.names n)
   pub list : faults ≡ graph_faults web table out contains_itself reaches_cycle

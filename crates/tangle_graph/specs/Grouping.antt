@@ -6,7 +6,7 @@ use Rattle.tangle_scan.specs.Web.{PieceRead}
 use Rattle.tangle_names.specs.declared.Resolved.{Resolved}
 use Rattle.tangle_names.specs.declared.Resolved.TheVariants.{Name, NoFullName, Ambiguous}
 use Rattle.tangle_names.specs.NameTable.{TableRead}
-use Rattle.tangle_expansion.specs.Projects.{resolved_at}
+use Rattle.tangle_expansion.specs.WebShapes.{resolved_at}
 use Rattle.digraph.specs.Users.{places}
 
 -- the number of the name that is resolved to
@@ -36,9 +36,9 @@ is_number n (Some m) = m == n
 module _ (table : TableRead) where
   -- the piece is one of the node with this number
   abbrev pub is_piece_of_number : ℕ → PieceRead → Bool
-  is_piece_of_number n piece = is_number n (number_of table piece.name)
+  is_piece_of_number n piece = is_number n (number_of table piece.occurrence)
 
-  -- where the pieces of the node stand
+  -- where the pieces of the node are
   abbrev pub places_of : List PieceRead → ℕ → List ℕ
   places_of pieces n = places (is_piece_of_number n) 0 pieces
 

@@ -2,7 +2,7 @@
 use Rattle.std.specs.Prelude.{◌≡◌, ◌<◌, ℕ, ◌+◌, length}
 use Rattle.tangle_scan.specs.Web.{WebRead}
 use Rattle.tangle_names.specs.NameTable.{TableRead}
-use Rattle.tangle_expansion.specs.Projects.{project, pieces_of}
+use Rattle.tangle_expansion.specs.WebShapes.{shapes, pieces_of}
 use Rattle.tangle_expansion.specs.ItemSlots.{pieces_at}
 use Rattle.digraph.specs.Graph.{Graph, InRange, rows_of, row_at}
 use Rattle.digraph.specs.Titles.{IsTitled}
@@ -16,4 +16,4 @@ pub record IsGraphOf (web : WebRead) (table : TableRead) (rows uses : Graph) : T
   pub numbers : (n : ℕ) → n < length rows → All (λ i. i < length web.pieces) (row_at (rows_of rows) n)
   pub pieces : (n : ℕ) → n < length rows → pieces_at web.pieces (row_at (rows_of rows) n) ≡ pieces_of web table (title_at table.names n)
   pub range : InRange uses
-  pub titled : IsTitled uses (UsesTitle (project web table)) (title_at table.names)
+  pub titled : IsTitled uses (UsesTitle (shapes web table)) (title_at table.names)

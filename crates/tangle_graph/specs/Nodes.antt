@@ -1,17 +1,17 @@
 -- Nodes by name, by number and by title: the names of a table in their order, and then the program.
 use Rattle.std.specs.Prelude.{◌<◌, ℕ, nat_lt, if◌then◌else◌, List, [], length, slice_get, slice_index_or, Option, None, Some}
-use Rattle.tangle_expansion.specs.Shapes.{Title, Named, Shape, Project, Uses}
+use Rattle.tangle_expansion.specs.Shapes.{Title, Named, Shape, Shapes, Uses}
 use Rattle.tangle_expansion.specs.Shapes as title
 use Rattle.tangle_expansion.specs.declared.nodes.Node.{Node}
 use Rattle.tangle_expansion.specs.declared.nodes.Node.TheVariants.{Program, Name}
 
-abbrev pub title_of_text : Option (List ℕ) → Title
-title_of_text None = title.Program
-title_of_text (Some text) = Named text
+abbrev pub title_of_body : Option (List ℕ) → Title
+title_of_body None = title.Program
+title_of_body (Some text) = Named text
 
 -- the title of the node with this number
 abbrev pub title_at : List (List ℕ) → ℕ → Title
-title_at names n = title_of_text (slice_get names n)
+title_at names n = title_of_body (slice_get names n)
 
 abbrev pub title_of_node : List (List ℕ) → Node → Title
 title_of_node names Program = title.Program
@@ -42,16 +42,16 @@ entry_if entries None = None
 entry_if entries (Some n) = slice_get entries n
 
 -- the shape of the name with this text; without a text there is no piece
-abbrev pub shape_of_name : Project → Option (List ℕ) → Shape
-shape_of_name project None = []
-shape_of_name project (Some text) = project (Named text)
+abbrev pub shape_of_name : Shapes → Option (List ℕ) → Shape
+shape_of_name shapes None = []
+shape_of_name shapes (Some text) = shapes (Named text)
 
 -- the shape of a node; a node beyond the names has no piece
-abbrev pub shape_of_node : Project → List (List ℕ) → Node → Shape
-shape_of_node project names Program = project title.Program
-shape_of_node project names (Name id) = shape_of_name project (slice_get names id)
+abbrev pub shape_of_node : Shapes → List (List ℕ) → Node → Shape
+shape_of_node shapes names Program = shapes title.Program
+shape_of_node shapes names (Name id) = shape_of_name shapes (slice_get names id)
 
 -- one title uses another; the program is used by none
-abbrev pub UsesTitle : Project → Title → Title → Type 0
-UsesTitle project node title.Program = ⊥
-UsesTitle project node (Named name) = Uses project node name
+abbrev pub UsesTitle : Shapes → Title → Title → Type 0
+UsesTitle shapes node title.Program = ⊥
+UsesTitle shapes node (Named name) = Uses shapes node name

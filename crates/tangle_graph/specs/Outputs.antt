@@ -3,11 +3,11 @@ use Rattle.std.specs.Prelude.{ℕ, Bool, true, false, not, ◌&&◌, ◌||◌, �
 use Rattle.std.specs.Str.{bytes_eq}
 use Rattle.tangle_scan.specs.Web.{WebRead}
 use Rattle.tangle_names.specs.NameTable.{TableRead}
-use Rattle.tangle_expansion.specs.Shapes.{Title, Program, Named, Shape, Project}
+use Rattle.tangle_expansion.specs.Shapes.{Title, Program, Named, Shape, Shapes}
 use Rattle.tangle_expansion.specs.Flat.{weight, depth}
 use Rattle.tangle_expansion.specs.Limits.{levels, heaviest}
 use Rattle.tangle_expansion.specs.Outputs.{OutputRead}
-use Rattle.tangle_expansion.specs.Projects.{project, resolved_at}
+use Rattle.tangle_expansion.specs.WebShapes.{shapes, resolved_at}
 use Rattle.tangle_expansion.specs.declared.nodes.Node.TheVariants as node
 use Rattle.digraph.specs.Users.{places}
 use Rattle.tangle_graph.specs.Grouping.{number_of_name}
@@ -18,8 +18,8 @@ has_pieces [] = false
 has_pieces (piece ∷ pieces) = true
 
 -- the node has a piece and is within both limits
-abbrev pub is_expandable : Project → Title → Bool
-is_expandable project node = has_pieces (project node) && (nat_lt (depth levels project node) levels && nat_le (weight levels project node) heaviest)
+abbrev pub is_expandable : Shapes → Title → Bool
+is_expandable shapes node = has_pieces (shapes node) && (nat_lt (depth levels shapes node) levels && nat_le (weight levels shapes node) heaviest)
 
 -- each number where it comes first
 abbrev pub firsts : List ℕ → List ℕ
@@ -45,13 +45,13 @@ module _ (web : WebRead) (table : TableRead) (out : List ℕ) where
   -- the main file, unless the program has a piece and is not expandable
   abbrev pub main_file : List OutputRead
   main_file =
-      if not (has_pieces (project web table Program)) || is_expandable (project web table) Program
-      then record { name = out; node = node.Program; has_macros = not web.has_defs_code; has_piece = has_pieces (project web table Program) } ∷ []
+      if not (has_pieces (shapes web table Program)) || is_expandable (shapes web table) Program
+      then record { name = out; node = node.Program; has_macros = not web.has_defs_code; has_piece = has_pieces (shapes web table Program) } ∷ []
       else []
 
   -- the name has a file of its own
   abbrev pub is_written : ℕ → Bool
-  is_written id = is_expandable (project web table) (Named (name_text table id)) && not (bytes_eq (name_text table id) out)
+  is_written id = is_expandable (shapes web table) (Named (name_text table id)) && not (bytes_eq (name_text table id) out)
 
   -- the main file first, and then the named ones in the order of their first file occurrences
   abbrev pub outputs : List OutputRead

@@ -1,9 +1,9 @@
 -- A store as it lies in memory.
 use Rattle.std.specs.Prelude.{◌≡◌, ◌<◌, All, false, length, map, slice_index_or}
 use Rattle.digraph.specs.Graph.{rows_of}
-use Rattle.tangle_expansion.specs.NodeTexts.{node_uses}
-use Rattle.tangle_expansion.specs.declared.expansion.NodeText.{NodeText}
-use Rattle.tangle_graph.specs.Plans.{ArePlanned, node_texts, slots_of, uses_of_plans}
+use Rattle.tangle_expansion.specs.NodeBodies.{node_uses}
+use Rattle.tangle_expansion.specs.declared.expansion.NodeBody.{NodeBody}
+use Rattle.tangle_graph.specs.Plans.{ArePlanned, node_bodies, slots_of, uses_of_plans}
 use Rattle.tangle_graph.specs.Ordering.{IsOrderIn}
 use Rattle.tangle_graph.specs.Rows.{node_rows, texts_of}
 use Rattle.tangle_graph.specs.Skeletons.{IsSkeletonOf}
@@ -23,7 +23,7 @@ store_read s = record {
   outputs = s.outputs.items;
   slots = slots_of s.texts.items;
   plan_uses = uses_of_plans s.texts.items;
-  texts = node_texts s.texts.items;
+  texts = node_bodies s.texts.items;
   faults = s.faults.items;
 }
 
@@ -31,7 +31,7 @@ store_read s = record {
 -- names of the store, and each was planned where the flags say which names have a piece
 pub record IsWellKept (s : Inside) : Type 0 where
   pub sizes : length s.texts.items ≡ length s.expandable.items
-  pub skeleton : IsSkeletonOf (map node_uses (node_texts s.texts.items)) s.skeleton.value
+  pub skeleton : IsSkeletonOf (map node_uses (node_bodies s.texts.items)) s.skeleton.value
   pub order : IsOrderIn (store_read s) s.skeleton.value.node_order.items
-  pub uses : All (λ (text : NodeText). All (λ id. id < length s.skeleton.value.names.items) (node_uses text)) (node_texts s.texts.items)
-  pub planned : ArePlanned (texts_of s.skeleton.value.names.items) (λ id. slice_index_or s.filled.items id false) (node_texts s.texts.items)
+  pub uses : All (λ (text : NodeBody). All (λ id. id < length s.skeleton.value.names.items) (node_uses text)) (node_bodies s.texts.items)
+  pub planned : ArePlanned (texts_of s.skeleton.value.names.items) (λ id. slice_index_or s.filled.items id false) (node_bodies s.texts.items)

@@ -1,14 +1,14 @@
--- What a store says of a project: of each node its pieces, its uses and users, its weight and depth, and whether it contains itself.
+-- What a store says of a web: of each node its pieces, its uses and users, its weight and depth, and whether it contains itself.
 use Rattle.std.specs.Prelude.{◌≡◌, ◌≢◌, ◌<◌, ◌↔◌, ℕ, Bool, true, false, ◌&&◌, nat_lt, nat_le, slice_index, slice_index_or, List, [], ◌∷◌, length, AllPairs, Contains, Option, Some}
-use Rattle.tangle_lines.specs.Faults.{Finding}
-use Rattle.tangle_expansion.specs.Shapes.{Title, Named, Shape, Project, Uses, ContainsItself}
-use Rattle.tangle_expansion.specs.Flat.{Part}
+use Rattle.tangle_lines.specs.Faults.{FaultRead}
+use Rattle.tangle_expansion.specs.Shapes.{Title, Named, Shape, Shapes, Uses, ContainsItself}
+use Rattle.tangle_expansion.specs.Flat.{Symbol}
 use Rattle.tangle_expansion.specs.Kept.{kept_at}
-use Rattle.tangle_expansion.specs.NodeTexts.{HoldsShape}
+use Rattle.tangle_expansion.specs.NodeBodies.{HoldsShape}
 use Rattle.tangle_expansion.specs.Slots.{Slot, filled}
 use Rattle.tangle_expansion.specs.Limits.{levels, heaviest, flat_of, weight_of, depth_of, IsExpandableNode}
 use Rattle.tangle_expansion.specs.Outputs.{OutputRead}
-use Rattle.tangle_expansion.specs.declared.expansion.NodeText.{NodeText}
+use Rattle.tangle_expansion.specs.declared.expansion.NodeBody.{NodeBody}
 use Rattle.tangle_expansion.specs.declared.kept.Kept.{Kept}
 use Rattle.tangle_expansion.specs.declared.nodes.Node.{Node}
 use Rattle.tangle_expansion.specs.declared.nodes.Node.TheVariants as node_kind
@@ -26,12 +26,12 @@ pub record StoreRead : Type 0 where
   pub depths : List ℕ
   pub expandable : List Bool
   pub outputs : List OutputRead
-  pub faults : List Finding
-  -- its own parts and where it uses which names, and the names with a piece that this uses
+  pub faults : List FaultRead
+  -- its own symbols and where it uses which names, and the names with a piece that this uses
   pub slots : List (List Slot)
   pub plan_uses : List (List ℕ)
   -- what is kept of it
-  pub texts : List NodeText
+  pub texts : List NodeBody
 
 abbrev pub is_filled : List ℕ → Bool
 is_filled [] = false
@@ -68,53 +68,53 @@ module _ (store : StoreRead) where
   abbrev pub plan_uses_at : Node → List ℕ
   plan_uses_at node = entry [] store.plan_uses (number_in (length store.names) node)
 
-  abbrev pub text_at : Node → Option NodeText
-  text_at node = entry_if store.texts (number_in (length store.names) node)
+  abbrev pub body_at : Node → Option NodeBody
+  body_at node = entry_if store.texts (number_in (length store.names) node)
 
   abbrev pub title_in_store : Node → Title
   title_in_store node = title_of_node store.names node
 
-  abbrev pub shape_in_store : Project → Node → Shape
-  shape_in_store project node = shape_of_node project store.names node
+  abbrev pub shape_in_store : Shapes → Node → Shape
+  shape_in_store shapes node = shape_of_node shapes store.names node
 
   -- the node is one of the store's
   abbrev pub IsNodeIn : Node → Type 0
   IsNodeIn node = IsNodeOf store.names node
 
 -- the node uses the name with this number, which has a piece
-pub record UsesPiece (project : Project) (store : StoreRead) (node : Node) (id : ℕ) : Type 0 where
+pub record UsesPiece (shapes : Shapes) (store : StoreRead) (node : Node) (id : ℕ) : Type 0 where
   pub inside : id < length store.names
-  pub uses : Uses project (title_in_store store node) (slice_index_or store.names id [])
-  pub has_piece : project (Named (slice_index_or store.names id [])) ≢ []
+  pub uses : Uses shapes (title_in_store store node) (slice_index_or store.names id [])
+  pub has_piece : shapes (Named (slice_index_or store.names id [])) ≢ []
 
 -- what is kept of each name with a piece that the node uses is what the name expands to
-abbrev pub KeepsUsed : Project → StoreRead → Kept → Node → Type 0
-KeepsUsed project store kept node =
-    (id : ℕ) → UsesPiece project store node id → kept_at kept (node_kind.Name id) ≡ Some (flat_of project (Named (slice_index_or store.names id [])))
+abbrev pub KeepsUsed : Shapes → StoreRead → Kept → Node → Type 0
+KeepsUsed shapes store kept node =
+    (id : ℕ) → UsesPiece shapes store node id → kept_at kept (node_kind.Name id) ≡ Some (flat_of shapes (Named (slice_index_or store.names id [])))
 
--- The store is that of the project: what it says of each node is what holds of the node's title. Of a node that it does not have it says
+-- The store is that of the shapes: what it says of each node is what holds of the node's title. Of a node that it does not have it says
 -- what holds of one without a piece.
-pub record IsStoreOf (project : Project) (store : StoreRead) : Type 0 where
+pub record IsStoreOf (shapes : Shapes) (store : StoreRead) : Type 0 where
   -- each title is that of one node, and each name that has a piece or is used has a node
   pub once : (a b : Node) → IsNodeIn store a → IsNodeIn store b → title_in_store store a ≡ title_in_store store b → a ≡ b
-  pub known : (name : List ℕ) → project (Named name) ≢ [] → (a : Node) × IsNodeIn store a × (title_in_store store a ≡ Named name)
-  pub used : (a : Node) (name : List ℕ) → IsNodeIn store a → Uses project (title_in_store store a) name → (b : Node) × IsNodeIn store b × (title_in_store store b ≡ Named name)
-  pub has_piece : (a : Node) → IsNodeIn store a → ((has_piece_at store a ≡ true) ↔ (project (title_in_store store a) ≢ []))
-  pub uses : (a b : Node) → IsNodeIn store a → (Contains (uses_at store a) b ↔ (IsNodeIn store b × UsesTitle project (title_in_store store a) (title_in_store store b)))
-  pub users : (a b : Node) → IsNodeIn store a → (Contains (users_at store a) b ↔ (IsNodeIn store b × UsesTitle project (title_in_store store b) (title_in_store store a)))
+  pub known : (name : List ℕ) → shapes (Named name) ≢ [] → (a : Node) × IsNodeIn store a × (title_in_store store a ≡ Named name)
+  pub used : (a : Node) (name : List ℕ) → IsNodeIn store a → Uses shapes (title_in_store store a) name → (b : Node) × IsNodeIn store b × (title_in_store store b ≡ Named name)
+  pub has_piece : (a : Node) → IsNodeIn store a → ((has_piece_at store a ≡ true) ↔ (shapes (title_in_store store a) ≢ []))
+  pub uses : (a b : Node) → IsNodeIn store a → (Contains (uses_at store a) b ↔ (IsNodeIn store b × UsesTitle shapes (title_in_store store a) (title_in_store store b)))
+  pub users : (a b : Node) → IsNodeIn store a → (Contains (users_at store a) b ↔ (IsNodeIn store b × UsesTitle shapes (title_in_store store b) (title_in_store store a)))
   pub uses_once : (a : Node) → IsNodeIn store a → AllPairs (λ b c. b ≢ c) (uses_at store a)
   pub users_once : (a : Node) → IsNodeIn store a → AllPairs (λ b c. b ≢ c) (users_at store a)
-  pub contains_itself : (a : Node) → IsNodeIn store a → ((contains_itself_at store a ≡ true) ↔ ContainsItself project (title_in_store store a))
-  pub weights : (a : Node) → IsNodeIn store a → weight_at store a ≡ weight_of project (title_in_store store a)
-  pub depths : (a : Node) → IsNodeIn store a → depth_at store a ≡ depth_of project (title_in_store store a)
-  pub expandable : (a : Node) → IsNodeIn store a → ((is_expandable_at store a ≡ true) ↔ IsExpandableNode project (title_in_store store a))
-  -- a plan uses names with a piece alone, and where each of these has its parts, the plan has the node's
-  pub plan_uses : (a : Node) (id : ℕ) → IsNodeIn store a → Contains (plan_uses_at store a) id → UsesPiece project store a id
-  pub plans : (a : Node) (parts : ℕ → List Part) → IsNodeIn store a → depth_of project (title_in_store store a) < levels
-      → ((id : ℕ) → UsesPiece project store a id → parts id ≡ flat_of project (Named (slice_index_or store.names id [])))
-      → filled parts (slots_at store a) ≡ flat_of project (title_in_store store a)
-  -- what is kept of a node tells its shape
-  pub shapes : (a : Node) → IsNodeIn store a → (text : NodeText) × (text_at store a ≡ Some text) × HoldsShape store.names (project (title_in_store store a)) text
+  pub contains_itself : (a : Node) → IsNodeIn store a → ((contains_itself_at store a ≡ true) ↔ ContainsItself shapes (title_in_store store a))
+  pub weights : (a : Node) → IsNodeIn store a → weight_at store a ≡ weight_of shapes (title_in_store store a)
+  pub depths : (a : Node) → IsNodeIn store a → depth_at store a ≡ depth_of shapes (title_in_store store a)
+  pub expandable : (a : Node) → IsNodeIn store a → ((is_expandable_at store a ≡ true) ↔ IsExpandableNode shapes (title_in_store store a))
+  -- a plan uses names with a piece alone, and where each of these has its symbols, the plan has the node's
+  pub plan_uses : (a : Node) (id : ℕ) → IsNodeIn store a → Contains (plan_uses_at store a) id → UsesPiece shapes store a id
+  pub plans : (a : Node) (symbols : ℕ → List Symbol) → IsNodeIn store a → depth_of shapes (title_in_store store a) < levels
+      → ((id : ℕ) → UsesPiece shapes store a id → symbols id ≡ flat_of shapes (Named (slice_index_or store.names id [])))
+      → filled symbols (slots_at store a) ≡ flat_of shapes (title_in_store store a)
+  -- what is kept of a node determines its shape
+  pub shape_held : (a : Node) → IsNodeIn store a → (text : NodeBody) × (body_at store a ≡ Some text) × HoldsShape store.names (shapes (title_in_store store a)) text
 
 -- a flag for each node: whether it has a piece, and its weight and depth are within the limits
 pub record AreWithin (pieces : List (List ℕ)) (weights depths : List ℕ) (flags : List Bool) : Type 0 where

@@ -1,5 +1,7 @@
-//! The faults of the graph of names: what is undefined, never used, contains itself, is too large or has the main file's name.
-ghost use Rattle.std.specs.Prelude.{◌≡◌, ◌<◌, ◌≤◌, ◌++◌, ◌+◌, ◌∷◌, [], ℕ, List, false, None, All, IfOk, OnOk, length, map, slice_index_or, if◌then◌else◌};
+//! The faults of the graph of names: what is undefined, never used, contains itself, is too large
+//! or has the main file's name.
+ghost use Rattle.std.specs.Prelude.{◌≡◌, ◌<◌, ◌≤◌, ◌++◌, ◌+◌, ◌∷◌, [], ℕ, List, false, None, All};
+ghost use Rattle.std.specs.Prelude.{IfOk, OnOk, length, map, slice_index_or, if◌then◌else◌};
 ghost use Rattle.tangle_lines.specs.Faults.{fault_unplaced};
 ghost use Rattle.tangle_lexer.specs.Occurrences.{OccurrenceRead};
 ghost use Rattle.tangle_scan.specs.Web.{WebRead};
@@ -7,8 +9,10 @@ ghost use Rattle.tangle_names.specs.declared.Resolved.{Resolved};
 ghost use Rattle.tangle_names.specs.NameTable.{TableRead, table_of};
 ghost use Rattle.tangle_names.specs.Numbers.{NotesNumber};
 ghost use Rattle.tangle_names.specs.Resolving.{resolve};
-ghost use Rattle.tangle_graph.specs.FaultFlags.{AreNodeFlags, HaveTheFaults, flag_at, first_use_by_number};
-ghost use Rattle.tangle_graph.specs.Faults.{AreGraphFaults, fault_of, fault_place, faults_of_names, first_use, is_too_large, is_use};
+ghost use Rattle.tangle_graph.specs.FaultFlags.{AreNodeFlags, HaveTheFaults, flag_at};
+ghost use Rattle.tangle_graph.specs.FaultFlags.{first_use_by_number};
+ghost use Rattle.tangle_graph.specs.Faults.{AreGraphFaults, fault_of, fault_place, faults_of_names};
+ghost use Rattle.tangle_graph.specs.Faults.{first_use, is_too_large, is_use};
 
 use crate::outputs::push_where;
 use std::alloc::{AllocError, Global};
@@ -16,7 +20,8 @@ use tangle_lines::{Fault, FaultKind, NoMemory};
 use tangle_names::{NameTable, Resolved};
 use tangle_scan::{Occurrence, OccurrenceRole, Web};
 
-/// A flag for each node: whether it has a piece, contains itself, reaches a name that does, and is expandable.
+/// A flag for each node: whether it has a piece, contains itself, reaches a name that does, and is
+/// expandable.
 #[derive(Drop)]
 pub(crate) struct NodeFlags<'f> {
     pub(crate) defined: &'f [bool],
@@ -35,18 +40,19 @@ fn is_use(occurrence: &Occurrence) -> bool
     }
 }
 
-/// Gives the name that is resolved to this number, if the occurrence is wanted.
-fn note(numbers: &mut Vec<usize>, is_wanted: bool, number: usize, resolved: Resolved)
-    ensures { NotesNumber numbers.old.items numbers.new.items is_wanted number resolved }
+/// Gives the name that is resolved to this number, if the occurrence is needed.
+fn note(numbers: &mut Vec<usize>, is_needed: bool, number: usize, resolved: Resolved)
+    ensures { NotesNumber numbers.old.items numbers.new.items is_needed number resolved }
 {
     if let Resolved::Name(id) = resolved {
-        if is_wanted && id < numbers.len() {
+        if is_needed && id < numbers.len() {
             numbers[id] = number;
         }
     }
 }
 
-/// Of each name the number of the first use that resolves to it. It is the count of occurrences where there is none.
+/// Of each name the number of the first use that resolves to it. It is the count of occurrences
+/// where there is none.
 // From the last occurrence to the first, so that an earlier number takes the place of a later one.
 fn first_uses(alloc: Global, web: &Web, table: &NameTable) -> Result<Vec<usize>, AllocError>
     requires { length table.now.resolved ≡ length web.now.occurrences }
@@ -60,8 +66,8 @@ fn first_uses(alloc: Global, web: &Web, table: &NameTable) -> Result<Vec<usize>,
     let mut i = occurrences.len();
     while i > 0 {
         i -= 1;
-        let wanted = is_use(&occurrences[i]);
-        note(&mut numbers, wanted, i, table.resolve(i));
+        let needed = is_use(&occurrences[i]);
+        note(&mut numbers, needed, i, table.resolve(i));
     }
     Ok(numbers)
 }
@@ -69,7 +75,8 @@ fn first_uses(alloc: Global, web: &Web, table: &NameTable) -> Result<Vec<usize>,
 /// The number of the first use that resolves to the name, if there is one.
 fn first_use(web: &Web, table: &NameTable, first_uses: &[usize], id: usize) -> Option<usize>
     requires size { id < length first_uses.now }
-    requires number { slice_index_or first_uses.now id 0 ≡ first_use_by_number (resolve web.now.occurrences) web.now.occurrences id }
+    requires number { slice_index_or first_uses.now id 0
+        ≡ first_use_by_number (resolve web.now.occurrences) web.now.occurrences id }
     ensures { result ≡ first_use web.now table.now id }
 {
     let number = first_uses[id];
@@ -89,11 +96,11 @@ fn is_too_large(web: &Web, table: &NameTable, flags: &NodeFlags, n: usize) -> bo
     flags.defined[n] && (!flags.reaching[n] && !flags.expandable[n])
 }
 
-/// The number, if it is wanted.
-fn where_wanted(wanted: bool, number: Option<usize>) -> Option<usize>
-    ensures { result ≡ (if wanted then number else None) }
+/// The number, if it is needed.
+fn where_needed(needed: bool, number: Option<usize>) -> Option<usize>
+    ensures { result ≡ (if needed then number else None) }
 {
-    if wanted { number } else { None }
+    if needed { number } else { None }
 }
 
 /// At which occurrence the name has a fault of this kind, if it has one.
@@ -109,21 +116,22 @@ fn fault_place(
     requires name { id < length table.now.names }
     requires flags { AreNodeFlags web.now table.now flags.now }
     requires used { use_number ≡ first_use web.now table.now id }
-    ensures { result ≡ fault_place web.now table.now out.now (flag_at flags.now.self_containing.now) (flag_at flags.now.reaching.now) kind id }
+    ensures { result ≡ fault_place web.now table.now out.now (flag_at flags.now.self_containing.now)
+        (flag_at flags.now.reaching.now) kind id }
 {
     let first = Some(table.first_occurrence(id));
     let is_defined = flags.defined[id];
     match kind {
-        FaultKind::Undefined => where_wanted(!is_defined, use_number),
+        FaultKind::Undefined => where_needed(!is_defined, use_number),
         FaultKind::Unused => {
-            where_wanted(
+            where_needed(
                 is_defined && (!table.is_file(id) && !use_number.is_some()),
                 first,
             )
         }
-        FaultKind::SelfContaining => where_wanted(flags.self_containing[id], first),
-        FaultKind::TooLarge => where_wanted(is_too_large(web, table, flags, id), first),
-        FaultKind::FileClash => where_wanted(
+        FaultKind::SelfContaining => where_needed(flags.self_containing[id], first),
+        FaultKind::TooLarge => where_needed(is_too_large(web, table, flags, id), first),
+        FaultKind::FileClash => where_needed(
             is_defined && table.text(id) == out,
             table.first_file_occurrence(id),
         ),
@@ -142,7 +150,8 @@ fn add_fault(
     number: Option<usize>,
 ) -> Result<(), NoMemory>
     requires { id < length table.now.names }
-    ensures { OnOk result (faults.new.items ≡ faults.old.items ++ fault_of web.now table.now kind id number) }
+    ensures { OnOk result (faults.new.items ≡ faults.old.items
+        ++ fault_of web.now table.now kind id number) }
 {
     if let Some(number) = number {
         if let Some(occurrence) = web.occurrences().get(number) {
@@ -166,7 +175,8 @@ fn may_have_fault(
     requires flags { AreNodeFlags web.now table.now flags.now }
     requires used { use_number ≡ first_use web.now table.now id }
     ensures { result ≡ false → (out : List ℕ) (kind : FaultKind)
-        → fault_place web.now table.now out (flag_at flags.now.self_containing.now) (flag_at flags.now.reaching.now) kind id ≡ None }
+        → fault_place web.now table.now out (flag_at flags.now.self_containing.now)
+        (flag_at flags.now.reaching.now) kind id ≡ None }
 {
     !flags.expandable[id]
         || (flags.self_containing[id] || (!use_number.is_some() || table.is_file(id)))
@@ -183,15 +193,16 @@ fn suspects(
     requires flags { AreNodeFlags web.now table.now flags.now }
     requires size { length first_uses.now ≡ length table.now.names }
     requires numbers { (id : ℕ) → id < length table.now.names
-        → slice_index_or first_uses.now id 0 ≡ first_use_by_number (resolve web.now.occurrences) web.now.occurrences id }
+        → slice_index_or first_uses.now id 0 ≡ first_use_by_number (resolve web.now.occurrences)
+        web.now.occurrences id }
     ensures names { IfOk result (λ names. All (λ id. id < length table.now.names) names.items) }
     ensures faults { IfOk result (λ names. HaveTheFaults web.now table.now flags.now names.items) }
 {
     let mut names = Vec::new(alloc);
     for id in 0..table.count() {
         let use_number = first_use(web, table, first_uses, id);
-        let wanted = may_have_fault(web, table, flags, use_number, id);
-        push_where(&mut names, wanted, id)?;
+        let needed = may_have_fault(web, table, flags, use_number, id);
+        push_where(&mut names, needed, id)?;
     }
     Ok(names)
 }
@@ -211,11 +222,13 @@ fn add_faults(
     requires flags { AreNodeFlags web.now table.now flags.now }
     requires size { length first_uses.now ≡ length table.now.names }
     requires numbers { (id : ℕ) → id < length table.now.names
-        → slice_index_or first_uses.now id 0 ≡ first_use_by_number (resolve web.now.occurrences) web.now.occurrences id }
+        → slice_index_or first_uses.now id 0 ≡ first_use_by_number (resolve web.now.occurrences)
+        web.now.occurrences id }
     requires names { All (λ id. id < length table.now.names) names.now }
     requires faults { HaveTheFaults web.now table.now flags.now names.now }
     ensures { OnOk result (faults.new.items ≡ faults.old.items
-        ++ faults_of_names web.now table.now out.now (flag_at flags.now.self_containing.now) (flag_at flags.now.reaching.now) kind) }
+        ++ faults_of_names web.now table.now out.now (flag_at flags.now.self_containing.now)
+        (flag_at flags.now.reaching.now) kind) }
 {
     for id in names {
         let use_number = first_use(web, table, first_uses, *id);
@@ -232,7 +245,8 @@ fn add_unplaced(
     kind: FaultKind,
     is_there: bool,
 ) -> Result<(), NoMemory>
-    ensures { OnOk result (faults.new.items ≡ faults.old.items ++ (if is_there then fault_unplaced kind ∷ [] else [])) }
+    ensures { OnOk result (faults.new.items ≡ faults.old.items
+        ++ (if is_there then fault_unplaced kind ∷ [] else [])) }
 {
     if is_there {
         faults.push(Fault::unplaced(alloc, kind))?;
@@ -256,7 +270,7 @@ pub(crate) fn faults(
     let names = suspects(alloc, web, table, flags, &uses)?;
     let program = table.count();
     let is_large = is_too_large(web, table, flags, program);
-    let has_text = flags.defined[program];
+    let has_body = flags.defined[program];
     let mut faults = Vec::new(alloc);
     let kinds = [
         FaultKind::Undefined,
@@ -290,6 +304,6 @@ pub(crate) fn faults(
         &uses,
         &names,
     )?;
-    add_unplaced(alloc, &mut faults, FaultKind::NoProgram, !has_text)?;
+    add_unplaced(alloc, &mut faults, FaultKind::NoProgram, !has_body)?;
     Ok(faults)
 }

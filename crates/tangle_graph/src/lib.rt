@@ -1,6 +1,8 @@
-//! The graph of names: which node uses which, how heavy and deep each is, which can be expanded, and the output files.
+//! The graph of names: which node uses which, how heavy and deep each is, which can be expanded,
+//! and the output files.
 #![tactic(auto)]
 
+mod bodies;
 mod faults;
 mod laws;
 mod measures;
@@ -10,7 +12,6 @@ mod pieces;
 mod shapes;
 mod skeleton;
 mod store;
-mod texts;
 
 pub use laws::graph_faults_are_one_list;
 pub use shapes::same_shape;

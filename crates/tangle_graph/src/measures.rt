@@ -1,19 +1,21 @@
 //! The weight and the depth of each node.
-ghost use Rattle.std.specs.Prelude.{◌≡◌, ◌<◌, ◌≤◌, ◌+◌, ◌-◌, ◌⊎◌, ℕ, IfOk, length, vec_len, min, sum_by, slice_index, slice_index_or, All, Contains, true, false, ◌&&◌, nat_lt, nat_le};
+ghost use Rattle.std.specs.Prelude.{◌≡◌, ◌<◌, ◌≤◌, ◌+◌, ◌-◌, ◌⊎◌, ℕ, IfOk, length, vec_len, min};
+ghost use Rattle.std.specs.Prelude.{sum_by, slice_index, slice_index_or, All, Contains, true};
+ghost use Rattle.std.specs.Prelude.{false, ◌&&◌, nat_lt, nat_le};
 ghost use Rattle.digraph.specs.Graph.{rows_of};
 ghost use Rattle.digraph.specs.Order.{IsOrder};
-ghost use Rattle.tangle_expansion.specs.NodeTexts.{node_uses, plan_slots};
+ghost use Rattle.tangle_expansion.specs.NodeBodies.{node_uses, plan_slots};
 ghost use Rattle.tangle_expansion.specs.Limits.{weight_cap, levels, heaviest, weight_of, depth_of};
-ghost use Rattle.tangle_expansion.specs.Projects.{project, ResolvesInside};
+ghost use Rattle.tangle_expansion.specs.WebShapes.{shapes, ResolvesInside};
 ghost use Rattle.tangle_graph.specs.Groups.{IsGraphOf};
 ghost use Rattle.tangle_graph.specs.Nodes.{title_at};
 ghost use Rattle.tangle_graph.specs.Outputs.{is_expandable};
-ghost use Rattle.tangle_graph.specs.Plans.{AreTexts, node_texts};
+ghost use Rattle.tangle_graph.specs.Plans.{AreBodies, node_bodies};
 ghost use Rattle.tangle_graph.specs.Stores.{is_filled, AreWithin};
 
 use std::alloc::{AllocError, Global};
 use std::rc::Rc;
-use tangle_expansion::{NodeText, nodes_expand_by_uses};
+use tangle_expansion::{NodeBody, nodes_expand_by_uses};
 use tangle_names::NameTable;
 use tangle_scan::Web;
 
@@ -25,19 +27,22 @@ const LEVELS: u16 = 1001;
 
 /// The weight of the node with this text, by the weights of the names that it uses.
 #[tactic(auto, unfolding(tangle_expansion::specs::Limits::weight_cap))]
-fn weight_of_node(weights: &[u32], text: &NodeText) -> u32
+fn weight_of_node(weights: &[u32], text: &NodeBody) -> u32
     requires inside { All (λ id. id < length weights.now) (node_uses text.now) }
     requires capped { All (λ weight. weight ≤ weight_cap) weights.now }
-    ensures { result ≡ min weight_cap (length (plan_slots text.now) + sum_by (λ id. slice_index weights.now id) (node_uses text.now)) }
+    ensures { result ≡ min weight_cap
+        (length (plan_slots text.now) + sum_by (λ id. slice_index weights.now id)
+        (node_uses text.now)) }
 {
-    let mut weight = text.part_count().min(WEIGHT_CAP as usize) as u32;
+    let mut weight = text.symbol_count().min(WEIGHT_CAP as usize) as u32;
     for id in text.uses() {
         weight = (weight + weights[*id]).min(WEIGHT_CAP);
     }
     weight
 }
 
-/// The weight of each node: a node comes after those that it uses, and what reaches a cycle is not in the order.
+/// The weight of each node: a node comes after those that it uses, and what reaches a cycle is not
+/// in the order.
 #[tactic(auto, unfolding(tangle_expansion::specs::Limits::weight_cap))]
 fn weights(
     alloc: Global,
@@ -46,15 +51,16 @@ fn weights(
     pieces: &[Vec<usize>],
     uses: &[Vec<usize>],
     order: &[usize],
-    texts: &[Rc<NodeText>],
+    texts: &[Rc<NodeBody>],
 ) -> Result<Vec<u32>, AllocError>
     requires graph { IsGraphOf web.now table.now pieces.now uses.now }
     requires order { IsOrder uses.now order.now }
-    requires texts { AreTexts web.now table.now (rows_of pieces.now) (node_texts texts.now) }
+    requires texts { AreBodies web.now table.now (rows_of pieces.now) (node_bodies texts.now) }
     requires inside { ResolvesInside table.now }
     ensures size { IfOk result (λ weights. vec_len weights ≡ length uses.now) }
     ensures weights { IfOk result (λ weights. (n : ℕ) → n < length uses.now
-        → slice_index weights.items n ≡ weight_of (project web.now table.now) (title_at table.now.names n)) }
+        → slice_index weights.items n ≡ weight_of (shapes web.now table.now)
+        (title_at table.now.names n)) }
 {
     nodes_expand_by_uses();
     let mut weights = vec![in alloc; WEIGHT_CAP; uses.len()]?;
@@ -68,7 +74,8 @@ fn weights(
 fn greatest(depths: &[u16], nodes: &[usize]) -> u16
     requires { All (λ m. m < length depths.now) nodes.now }
     ensures least { All (λ m. slice_index depths.now m ≤ result) nodes.now }
-    ensures met { (result ≡ 0) ⊎ ((m : ℕ) × Contains nodes.now m × (result ≡ slice_index depths.now m)) }
+    ensures met { (result ≡ 0)
+        ⊎ ((m : ℕ) × Contains nodes.now m × (result ≡ slice_index depths.now m)) }
 {
     let mut greatest = 0;
     for m in nodes {
@@ -83,8 +90,10 @@ fn depth_of_node(depths: &[u16], pieces: &[usize], used: &[usize]) -> u16
     requires range { All (λ m. m < length depths.now) used.now }
     requires capped { All (λ depth. depth ≤ levels) depths.now }
     ensures none { length pieces.now ≡ 0 → result ≡ 0 }
-    ensures least { 0 < length pieces.now → (1 ≤ result) × All (λ m. min levels (1 + slice_index depths.now m) ≤ result) used.now }
-    ensures met { 0 < length pieces.now → (result ≡ 1) ⊎ ((m : ℕ) × Contains used.now m × (result ≡ min levels (1 + slice_index depths.now m))) }
+    ensures least { 0 < length pieces.now → (1 ≤ result)
+        × All (λ m. min levels (1 + slice_index depths.now m) ≤ result) used.now }
+    ensures met { 0 < length pieces.now → (result ≡ 1)
+        ⊎ ((m : ℕ) × Contains used.now m × (result ≡ min levels (1 + slice_index depths.now m))) }
 {
     if pieces.is_empty() {
         0
@@ -107,7 +116,8 @@ fn depths(
     requires order { IsOrder uses.now order.now }
     ensures size { IfOk result (λ depths. vec_len depths ≡ length uses.now) }
     ensures depths { IfOk result (λ depths. (n : ℕ) → n < length uses.now
-        → slice_index depths.items n ≡ depth_of (project web.now table.now) (title_at table.now.names n)) }
+        → slice_index depths.items n ≡ depth_of (shapes web.now table.now)
+        (title_at table.now.names n)) }
 {
     nodes_expand_by_uses();
     let mut depths = vec![in alloc; LEVELS; uses.len()]?;
@@ -127,7 +137,8 @@ pub(crate) fn is_filled(row: &[usize]) -> bool
     !row.is_empty()
 }
 
-/// Whether a node with these pieces, this weight and this depth has a piece and is within both limits.
+/// Whether a node with these pieces, this weight and this depth has a piece and is within both
+/// limits.
 #[tactic(auto, unfolding(tangle_expansion::specs::Limits::levels, tangle_expansion::specs::Limits::heaviest))]
 fn is_within(pieces: &[usize], weight: u32, depth: u16) -> bool
     ensures { result ≡ (is_filled pieces.now && (nat_lt depth levels && nat_le weight heaviest)) }
@@ -144,7 +155,8 @@ fn expandable(
 ) -> Result<Vec<bool>, AllocError>
     requires weights { length weights.now ≡ length pieces.now }
     requires depths { length depths.now ≡ length pieces.now }
-    ensures { IfOk result (λ flags. AreWithin (rows_of pieces.now) weights.now depths.now flags.items) }
+    ensures { IfOk result (λ flags. AreWithin (rows_of pieces.now) weights.now depths.now
+        flags.items) }
 {
     let mut flags = Vec::new(alloc);
     for (n, row) in pieces.iter().enumerate() {
@@ -162,7 +174,8 @@ pub(crate) struct Measures {
 }
 
 impl Measures {
-    /// The measures of nodes with these pieces, uses and texts; the order is one of the nodes that reach no cycle.
+    /// The measures of nodes with these pieces, uses and texts; the order is one of the nodes that
+    /// reach no cycle.
     pub(crate) fn take(
         alloc: Global,
         web: &Web,
@@ -170,19 +183,24 @@ impl Measures {
         pieces: &[Vec<usize>],
         uses: &[Vec<usize>],
         order: &[usize],
-        texts: &[Rc<NodeText>],
+        texts: &[Rc<NodeBody>],
     ) -> Result<Measures, AllocError>
         requires graph { IsGraphOf web.now table.now pieces.now uses.now }
         requires order { IsOrder uses.now order.now }
-        requires texts { AreTexts web.now table.now (rows_of pieces.now) (node_texts texts.now) }
+        requires texts { AreBodies web.now table.now (rows_of pieces.now) (node_bodies texts.now) }
         requires inside { ResolvesInside table.now }
         ensures weights { IfOk result (λ measures. (n : ℕ) → n < length uses.now
-            → slice_index measures.weights.items n ≡ weight_of (project web.now table.now) (title_at table.now.names n)) }
+            → slice_index measures.weights.items n ≡ weight_of (shapes web.now table.now)
+            (title_at table.now.names n)) }
         ensures depths { IfOk result (λ measures. (n : ℕ) → n < length uses.now
-            → slice_index measures.depths.items n ≡ depth_of (project web.now table.now) (title_at table.now.names n)) }
-        ensures within { IfOk result (λ measures. AreWithin (rows_of pieces.now) measures.weights.items measures.depths.items measures.expandable.items) }
+            → slice_index measures.depths.items n ≡ depth_of (shapes web.now table.now)
+            (title_at table.now.names n)) }
+        ensures within { IfOk result
+            (λ measures. AreWithin (rows_of pieces.now) measures.weights.items measures.depths.items
+            measures.expandable.items) }
         ensures expandable { IfOk result (λ measures. (n : ℕ) → n < length uses.now
-            → slice_index_or measures.expandable.items n false ≡ is_expandable (project web.now table.now) (title_at table.now.names n)) }
+            → slice_index_or measures.expandable.items n false
+            ≡ is_expandable (shapes web.now table.now) (title_at table.now.names n)) }
     {
         let weights = weights(alloc, web, table, pieces, uses, order, texts)?;
         let depths = depths(alloc, web, table, pieces, uses, order)?;

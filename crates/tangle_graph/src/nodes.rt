@@ -49,7 +49,8 @@ pub(crate) fn nodes_by_node(
     names: usize,
     rows: &[Vec<usize>],
 ) -> Result<Vec<Vec<Node>>, AllocError>
-    ensures { IfOk result (λ nodes. node_rows nodes.items ≡ map (map (node_at names)) (rows_of rows.now)) }
+    ensures { IfOk result (λ nodes. node_rows nodes.items
+        ≡ map (map (node_at names)) (rows_of rows.now)) }
 {
     let mut nodes = Vec::with_capacity(alloc, rows.len())?;
     for row in rows {

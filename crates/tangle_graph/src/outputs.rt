@@ -1,13 +1,16 @@
 //! The output files.
-ghost use Rattle.std.specs.Prelude.{◌≡◌, ℕ, List, [], ◌∷◌, ◌++◌, IfOk, OnOk, length, All, flat_map, option_to_list, if◌then◌else◌, not, ◌&&◌, ◌||◌, ◌<◌, ◌+◌, slice_index_or, false};
+ghost use Rattle.std.specs.Prelude.{◌≡◌, ℕ, List, [], ◌∷◌, ◌++◌, IfOk, OnOk, length, All, flat_map};
+ghost use Rattle.std.specs.Prelude.{option_to_list, if◌then◌else◌, not, ◌&&◌, ◌||◌, ◌<◌, ◌+◌};
+ghost use Rattle.std.specs.Prelude.{slice_index_or, false};
 ghost use Rattle.std.specs.Str.{bytes_eq};
 ghost use Rattle.digraph.specs.Users.{places};
 ghost use Rattle.tangle_expansion.specs.Shapes.{Program};
 ghost use Rattle.tangle_expansion.specs.declared.nodes.Node.TheVariants as node_kind;
-ghost use Rattle.tangle_expansion.specs.Projects.{ResolvesInside, resolved_at, project};
+ghost use Rattle.tangle_expansion.specs.WebShapes.{ResolvesInside, resolved_at, shapes};
 ghost use Rattle.tangle_graph.specs.Grouping.{number_of_name};
 ghost use Rattle.tangle_graph.specs.Nodes.{title_at};
-ghost use Rattle.tangle_graph.specs.Outputs.{firsts, file_names, has_pieces, is_expandable, name_text, named_file, outputs};
+ghost use Rattle.tangle_graph.specs.Outputs.{firsts, file_names, has_pieces, is_expandable};
+ghost use Rattle.tangle_graph.specs.Outputs.{name_text, named_file, outputs};
 
 use crate::pieces::number_of_name;
 use std::alloc::{AllocError, Global};
@@ -43,8 +46,12 @@ fn names_of(
     occurrences: &[usize],
 ) -> Result<Vec<usize>, AllocError>
     requires inside { ResolvesInside table.now }
-    requires occurrences { All (λ occurrence. occurrence < length table.now.resolved) occurrences.now }
-    ensures names { IfOk result (λ names. names.items ≡ flat_map (λ occurrence. option_to_list (number_of_name (resolved_at table.now occurrence))) occurrences.now) }
+    requires occurrences { All (λ occurrence. occurrence < length table.now.resolved)
+        occurrences.now }
+    ensures names { IfOk result
+        (λ names. names.items ≡ flat_map
+        (λ occurrence. option_to_list (number_of_name (resolved_at table.now occurrence)))
+        occurrences.now) }
     ensures inside { IfOk result (λ names. All (λ id. id < length table.now.names) names.items) }
 {
     let mut names = Vec::new(alloc);
@@ -97,7 +104,13 @@ fn main_file(
 ) -> Result<Vec<Output>, AllocError>
     ensures { IfOk result (λ files. files.items
         ≡ (if not has_piece || expandable
-        then record { name = out.now; node = node_kind.Program; has_macros = not web.now.has_defs_code; has_piece = has_piece } ∷ [] else [])) }
+        then record {
+          name = out.now;
+          node = node_kind.Program;
+          has_macros =
+              not web.now.has_defs_code;
+          has_piece = has_piece;
+        } ∷ [] else [])) }
 {
     let mut files = Vec::new(alloc);
     if !has_piece || expandable {
@@ -118,7 +131,8 @@ fn add_named_file(
 ) -> Result<(), AllocError>
     requires { id < length table.now.names }
     ensures { OnOk result (files.new.items ≡ files.old.items
-        ++ (if expandable && not (bytes_eq (name_text table.now id) out.now) then named_file table.now id ∷ [] else [])) }
+        ++ (if expandable && not (bytes_eq (name_text table.now id) out.now)
+        then named_file table.now id ∷ [] else [])) }
 {
     if expandable && table.text(id) != out {
         let name = Vec::from_slice(alloc, table.text(id))?;
@@ -127,7 +141,8 @@ fn add_named_file(
     Ok(())
 }
 
-/// The output files, the main file first, of a web whose nodes have these flags: whether each is expandable.
+/// The output files, the main file first, of a web whose nodes have these flags: whether each is
+/// expandable.
 pub(crate) fn outputs(
     alloc: Global,
     web: &Web,
@@ -139,8 +154,9 @@ pub(crate) fn outputs(
     requires inside { ResolvesInside table.now }
     requires ours { length table.now.resolved ≡ length web.now.occurrences }
     requires size { length expandable.now ≡ length table.now.names + 1 }
-    requires program { has_piece ≡ has_pieces (project web.now table.now Program) }
-    requires flags { (n : ℕ) → n < length expandable.now → slice_index_or expandable.now n false ≡ is_expandable (project web.now table.now) (title_at table.now.names n) }
+    requires program { has_piece ≡ has_pieces (shapes web.now table.now Program) }
+    requires flags { (n : ℕ) → n < length expandable.now → slice_index_or expandable.now n false
+        ≡ is_expandable (shapes web.now table.now) (title_at table.now.names n) }
     ensures { IfOk result (λ files. files.items ≡ outputs web.now table.now out.now) }
 {
     let names = file_names(alloc, web, table)?;

@@ -1,10 +1,12 @@
 //! The pieces of each node, and the names that it uses.
-ghost use Rattle.std.specs.Prelude.{◌≡◌, ◌<◌, ◌+◌, ◌++◌, ◌∷◌, [], ℕ, List, IfOk, OnOk, IfSome, length, flat_map, if◌then◌else◌, All};
+ghost use Rattle.std.specs.Prelude.{◌≡◌, ◌<◌, ◌+◌, ◌++◌, ◌∷◌, [], ℕ, List, IfOk, OnOk, IfSome};
+ghost use Rattle.std.specs.Prelude.{length, flat_map, if◌then◌else◌, All};
 ghost use Rattle.digraph.specs.Graph.{rows_of};
 ghost use Rattle.digraph.specs.Rows.{IsRowsOf, GrowsBy};
 ghost use Rattle.tangle_scan.specs.WellFormed.{IsUseBelow};
-ghost use Rattle.tangle_expansion.specs.Projects.{ResolvesInside};
-ghost use Rattle.tangle_graph.specs.Grouping.{number_of_name, number_of, is_number, used_by, places_of, used_numbers};
+ghost use Rattle.tangle_expansion.specs.WebShapes.{ResolvesInside};
+ghost use Rattle.tangle_graph.specs.Grouping.{number_of_name, number_of, is_number, used_by};
+ghost use Rattle.tangle_graph.specs.Grouping.{places_of, used_numbers};
 
 use digraph::{empty_rows, push_to};
 use std::alloc::{AllocError, Global};
@@ -37,7 +39,8 @@ fn number_of(table: &NameTable, name: Option<usize>) -> Option<usize>
 /// Puts a number last in the row of the node, if there is one.
 fn push_at(rows: &mut Vec<Vec<usize>>, node: Option<usize>, x: usize) -> Result<(), AllocError>
     requires { IfSome node (λ n. n < length rows.old.items) }
-    ensures { OnOk result (GrowsBy (λ n. if is_number n node then x ∷ [] else []) (rows_of rows.old.items) (rows_of rows.new.items)) }
+    ensures { OnOk result (GrowsBy (λ n. if is_number n node then x ∷ [] else [])
+        (rows_of rows.old.items) (rows_of rows.new.items)) }
 {
     match node {
         None => Ok(()),
@@ -45,26 +48,29 @@ fn push_at(rows: &mut Vec<Vec<usize>>, node: Option<usize>, x: usize) -> Result<
     }
 }
 
-/// Where the pieces of each node stand, in the order of the source.
+/// Where the pieces of each node are, in the order of the source.
 pub(crate) fn pieces_by_node(
     alloc: Global,
     pieces: &[Piece],
     table: &NameTable,
 ) -> Result<Vec<Vec<usize>>, AllocError>
     requires inside { ResolvesInside table.now }
-    requires names { All (λ p. IfSome p.name (λ name. name < length table.now.resolved)) pieces.now }
-    ensures { IfOk result (λ rows. IsRowsOf (length table.now.names + 1) (places_of table.now pieces.now) (rows_of rows.items)) }
+    requires names { All (λ p. IfSome p.occurrence
+        (λ occurrence. occurrence < length table.now.resolved)) pieces.now }
+    ensures { IfOk result (λ rows. IsRowsOf (length table.now.names + 1)
+        (places_of table.now pieces.now) (rows_of rows.items)) }
 {
     let mut rows = rows_for(alloc, table)?;
     for (i, piece) in pieces.iter().enumerate() {
-        push_at(&mut rows, number_of(table, piece.name()), i)?;
+        push_at(&mut rows, number_of(table, piece.occurrence()), i)?;
     }
     Ok(rows)
 }
 
 /// An empty row for each name, and one for the program.
 fn rows_for(alloc: Global, table: &NameTable) -> Result<Vec<Vec<usize>>, AllocError>
-    ensures { IfOk result (λ rows. IsRowsOf (length table.now.names + 1) (λ _. []) (rows_of rows.items)) }
+    ensures { IfOk result (λ rows. IsRowsOf (length table.now.names + 1) (λ _. [])
+        (rows_of rows.items)) }
 {
     let mut rows = empty_rows(alloc, table.count())?;
     rows.push(Vec::new(alloc))?;

@@ -1,16 +1,19 @@
 //! Comparing the shapes of two nodes, each of a store of its own.
 ghost use Rattle.std.specs.Prelude.{◌≡◌, ◌↔◌, true};
-ghost use Rattle.tangle_expansion.specs.Shapes.{Project};
+ghost use Rattle.tangle_expansion.specs.Shapes.{Shapes};
 ghost use Rattle.tangle_graph.specs.Stores.{IsStoreOf, shape_in_store};
 
 use crate::store::Store;
 use tangle_expansion::Node;
 
-/// Whether the two nodes have the same shape: the same pieces, with section numbers, file names and line numbers struck out and each use as
-/// the name that it resolves to. What names have no piece, and what a store doesn't have, is alike.
+/// Whether the two nodes have the same shape: the same pieces, with section numbers, file names and
+/// line numbers struck out and each use as the name that it resolves to. What names have no piece,
+/// and what a store doesn't have, is alike.
 pub fn same_shape(old: &Store, old_node: Node, new: &Store, new_node: Node) -> bool
-    ensures { (old_project new_project : Project) → IsStoreOf old_project old.now → IsStoreOf new_project new.now
-        → ((result ≡ true) ↔ (shape_in_store old.now old_project old_node ≡ shape_in_store new.now new_project new_node)) }
+    ensures { (old_shapes new_shapes : Shapes) → IsStoreOf old_shapes old.now
+        → IsStoreOf new_shapes new.now
+        → ((result ≡ true) ↔ (shape_in_store old.now old_shapes old_node
+        ≡ shape_in_store new.now new_shapes new_node)) }
 {
     match old.text(old_node) {
         Some(text) => match new.text(new_node) {

@@ -1,22 +1,24 @@
-//! The skeleton of a store: what the names and the uses of the nodes settle, whatever else the nodes hold.
+//! The skeleton of a store: what the names and the uses of the nodes settle, whatever else the
+//! nodes hold.
 ghost use Rattle.std.specs.Prelude.{◌≡◌, ◌<◌, ◌+◌, ℕ, IfOk, All, length, map, true};
 ghost use Rattle.digraph.specs.Graph.{rows_of};
-ghost use Rattle.tangle_expansion.specs.NodeTexts.{node_uses};
-ghost use Rattle.tangle_graph.specs.Plans.{node_texts};
+ghost use Rattle.tangle_expansion.specs.NodeBodies.{node_uses};
+ghost use Rattle.tangle_graph.specs.Plans.{node_bodies};
 ghost use Rattle.tangle_graph.specs.Rows.{texts_of};
 ghost use Rattle.tangle_graph.specs.Skeletons.{IsSkeletonOf};
 
+use crate::bodies::uses_of_bodies;
 use crate::nodes::{nodes_by_node, nodes_of};
-use crate::texts::uses_of_texts;
 use digraph::{all_once, order, reaching_cycles, self_containing, users};
 use std::alloc::{AllocError, Global};
 use std::rc::Rc;
-use tangle_expansion::{Node, NodeText};
+use tangle_expansion::{Node, NodeBody};
 use tangle_lines::NoMemory;
 use tangle_names::NameTable;
 
-/// The texts of the names; of each node the names that it uses and the nodes that use it, and whether it contains itself or reaches a name
-/// that does; and the nodes that reach no cycle, each after those that it uses.
+/// The texts of the names; of each node the names that it uses and the nodes that use it, and
+/// whether it contains itself or reaches a name that does; and the nodes that reach no cycle, each
+/// after those that it uses.
 ///
 /// The stores of a web before and after an edit share it where the names and the uses stay.
 #[derive(Drop)]
@@ -38,14 +40,16 @@ impl Skeleton {
     pub(crate) fn build(
         alloc: Global,
         table: &NameTable,
-        texts: &[Rc<NodeText>],
+        texts: &[Rc<NodeBody>],
     ) -> Result<Skeleton, AllocError>
         requires size { length texts.now ≡ length table.now.names + 1 }
-        requires inside { All (λ row. All (λ id. id < length table.now.names) row) (map node_uses (node_texts texts.now)) }
+        requires inside { All (λ row. All (λ id. id < length table.now.names) row)
+            (map node_uses (node_bodies texts.now)) }
         ensures names { IfOk result (λ skeleton. texts_of skeleton.names.items ≡ table.now.names) }
-        ensures skeleton { IfOk result (λ skeleton. IsSkeletonOf (map node_uses (node_texts texts.now)) skeleton) }
+        ensures skeleton { IfOk result
+            (λ skeleton. IsSkeletonOf (map node_uses (node_bodies texts.now)) skeleton) }
     {
-        let mut rows = uses_of_texts(alloc, texts)?;
+        let mut rows = uses_of_bodies(alloc, texts)?;
         all_once(&mut rows);
         let uses: &[Vec<usize>] = &rows;
         let user_rows = users(alloc, uses)?;
@@ -73,12 +77,15 @@ impl Skeleton {
     pub(crate) fn shared(
         alloc: Global,
         table: &NameTable,
-        texts: &[Rc<NodeText>],
+        texts: &[Rc<NodeBody>],
     ) -> Result<Rc<Skeleton>, NoMemory>
         requires size { length texts.now ≡ length table.now.names + 1 }
-        requires inside { All (λ row. All (λ id. id < length table.now.names) row) (map node_uses (node_texts texts.now)) }
-        ensures names { IfOk result (λ skeleton. texts_of skeleton.value.names.items ≡ table.now.names) }
-        ensures skeleton { IfOk result (λ skeleton. IsSkeletonOf (map node_uses (node_texts texts.now)) skeleton.value) }
+        requires inside { All (λ row. All (λ id. id < length table.now.names) row)
+            (map node_uses (node_bodies texts.now)) }
+        ensures names { IfOk result
+            (λ skeleton. texts_of skeleton.value.names.items ≡ table.now.names) }
+        ensures skeleton { IfOk result
+            (λ skeleton. IsSkeletonOf (map node_uses (node_bodies texts.now)) skeleton.value) }
     {
         let skeleton = Skeleton::build(alloc, table, texts)?;
         match Rc::new(alloc, skeleton) {
@@ -115,8 +122,9 @@ pub(crate) fn are_names_of(names: &[Vec<u8>], table: &NameTable) -> bool
 }
 
 /// Whether each node uses the names that the node with its number used before, in the same order.
-pub(crate) fn have_same_uses(before: &[Rc<NodeText>], texts: &[Rc<NodeText>]) -> bool
-    ensures { result ≡ true → map node_uses (node_texts before.now) ≡ map node_uses (node_texts texts.now) }
+pub(crate) fn have_same_uses(before: &[Rc<NodeBody>], texts: &[Rc<NodeBody>]) -> bool
+    ensures { result ≡ true → map node_uses (node_bodies before.now)
+        ≡ map node_uses (node_bodies texts.now) }
 {
     if before.len() != texts.len() {
         return false;

@@ -1,13 +1,15 @@
 //! The store of a web's graph of names.
-ghost use Rattle.std.specs.Prelude.{◌≡◌, ◌++◌, ◌∷◌, [], ℕ, IfOk, OnOk, OnErr, IfSome, IsSome, Contains, All, true, false, ◌<◌, ◌+◌, length, map, slice_index_or};
+ghost use Rattle.std.specs.Prelude.{◌≡◌, ◌++◌, ◌∷◌, [], ℕ, IfOk, OnOk, OnErr, IfSome, IsSome};
+ghost use Rattle.std.specs.Prelude.{Contains, All, true, false, ◌<◌, ◌+◌, length, map};
+ghost use Rattle.std.specs.Prelude.{slice_index_or};
 ghost use Rattle.std.specs.Option.{option_copied};
 ghost use Rattle.tangle_names.specs.NameTable.{table_of};
-ghost use Rattle.tangle_expansion.specs.Kept.{kept_at, used_parts};
+ghost use Rattle.tangle_expansion.specs.Kept.{kept_at, used_symbols};
 ghost use Rattle.tangle_expansion.specs.Limits.{flat_of};
-ghost use Rattle.tangle_expansion.specs.NodeTexts.{node_uses};
+ghost use Rattle.tangle_expansion.specs.NodeBodies.{node_uses};
 ghost use Rattle.tangle_expansion.specs.Nodes.{IsGroupedBy};
-ghost use Rattle.tangle_expansion.specs.Projects.{project};
-ghost use Rattle.tangle_expansion.specs.Shapes.{Project};
+ghost use Rattle.tangle_expansion.specs.WebShapes.{shapes};
+ghost use Rattle.tangle_expansion.specs.Shapes.{Shapes};
 ghost use Rattle.tangle_expansion.specs.Slots.{filled};
 ghost use Rattle.tangle_expansion.specs.declared.nodes.Node.TheVariants as node_kind;
 ghost use Rattle.digraph.specs.Graph.{rows_of};
@@ -17,35 +19,39 @@ ghost use Rattle.tangle_graph.specs.Grouping.{places_of};
 ghost use Rattle.tangle_graph.specs.Nodes.{number_in};
 ghost use Rattle.tangle_graph.specs.Ordering.{IsOrderIn};
 ghost use Rattle.tangle_graph.specs.Outputs.{outputs};
-ghost use Rattle.tangle_graph.specs.Plans.{AreFilled, ArePlanned, ArePlans, AreTexts, node_texts, slots_of, uses_of_plans};
+ghost use Rattle.tangle_graph.specs.Plans.{AreFilled, ArePlanned, ArePlans, AreBodies, node_bodies};
+ghost use Rattle.tangle_graph.specs.Plans.{slots_of, uses_of_plans};
 ghost use Rattle.tangle_graph.specs.Rows.{texts_of};
 ghost use Rattle.tangle_graph.specs.Skeletons.{IsSkeletonOf};
-ghost use Rattle.tangle_graph.specs.Stores.{IsStoreOf, KeepsUsed, plan_uses_at, slots_at, title_in_store, contains_itself_at, is_expandable_at, weight_at, depth_at, uses_at, users_at, has_piece_at, pieces_of_node, text_at};
+ghost use Rattle.tangle_graph.specs.Stores.{IsStoreOf, KeepsUsed, plan_uses_at, slots_at};
+ghost use Rattle.tangle_graph.specs.Stores.{title_in_store, contains_itself_at, is_expandable_at};
+ghost use Rattle.tangle_graph.specs.Stores.{weight_at, depth_at, uses_at, users_at, has_piece_at};
+ghost use Rattle.tangle_graph.specs.Stores.{pieces_of_node, body_at};
 
+use crate::bodies::{bodies_by_node, filled_rows};
 use crate::faults::{NodeFlags, faults};
 use crate::measures::Measures;
 use crate::nodes::number_of;
 use crate::outputs::outputs;
 use crate::pieces::pieces_by_node;
 use crate::skeleton::{Skeleton, are_names_of, have_same_uses};
-use crate::texts::{filled_rows, texts_by_node};
 use std::alloc::Global;
 use std::marker::Model;
 use std::mem::replace;
 use std::rc::Rc;
 use tangle_expansion::{
-    Expansion, Kept, Node, NodeText, Output, PiecesByNode, Work, expand, filled_plans_are_right,
+    Expansion, Kept, Node, NodeBody, Output, PiecesByNode, Work, expand, filled_plans_are_right,
     names_resolve_inside,
 };
 use tangle_lines::{Fault, NoMemory};
 use tangle_names::{NameTable, names_are_the_full_names};
 use tangle_scan::Web;
 
-/// What is known of each node of a web: its pieces, which names it uses and what uses it, its weight and depth, whether it contains itself
-/// and whether it is expandable; and the output files.
+/// What is known of each node of a web: its pieces, which names it uses and what uses it, its
+/// weight and depth, whether it contains itself and whether it is expandable; and the output files.
 ///
-/// A node is a full name or the unnamed program. It uses a name if one of its pieces has a use that resolves to the name. A node beyond a
-/// store's names counts there as one without a piece.
+/// A node is a full name or the unnamed program. It uses a name if one of its pieces has a use that
+/// resolves to the name. A node beyond a store's names counts there as one without a piece.
 #[derive(Drop)]
 pub struct Store {
     skeleton: Rc<Skeleton>,
@@ -55,7 +61,7 @@ pub struct Store {
     depths: Vec<u16>,
     expandable: Vec<bool>,
     outputs: Vec<Output>,
-    texts: Vec<Rc<NodeText>>,
+    texts: Vec<Rc<NodeBody>>,
     faults: Vec<Fault>,
 }
 
@@ -76,26 +82,29 @@ impl Store {
     ///
     /// # Errors
     ///
-    /// `NoMemory`, where a growth was refused.
+    /// `NoMemory`, where an allocation failed.
     pub fn build(alloc: Global, web: &Web, table: &NameTable, out: &[u8]) -> Result<Store, NoMemory>
         requires { table.now ≡ record (table_of web.now) { faults = table.now.faults } }
-        ensures store { IfOk result (λ store. IsStoreOf (project web.now table.now) store) }
+        ensures store { IfOk result (λ store. IsStoreOf (shapes web.now table.now) store) }
         ensures names { IfOk result (λ store. store.names ≡ table.now.names) }
         ensures outputs { IfOk result (λ store. store.outputs ≡ outputs web.now table.now out.now) }
-        ensures faults { IfOk result (λ store. AreGraphFaults web.now table.now out.now store.faults) }
-        ensures grouped { IfOk result (λ store. IsGroupedBy web.now table.now store.names (pieces_of_node store)) }
+        ensures faults { IfOk result
+            (λ store. AreGraphFaults web.now table.now out.now store.faults) }
+        ensures grouped { IfOk result
+            (λ store. IsGroupedBy web.now table.now store.names (pieces_of_node store)) }
     {
         names_resolve_inside();
         let pieces = pieces_by_node(alloc, web.pieces(), table)?;
         let rows: &[Vec<usize>] = &pieces;
         let filled = filled_rows(alloc, rows)?;
         let flags: &[bool] = &filled;
-        let texts = texts_by_node(alloc, web, table, flags, rows, &[])?;
+        let texts = bodies_by_node(alloc, web, table, flags, rows, &[])?;
         let skeleton = Skeleton::shared(alloc, table, &texts)?;
         Store::over(alloc, web, table, out, pieces, filled, texts, skeleton)
     }
 
-    /// The same store, for a web that comes after another one: what the edit did not change is shared with the store of the web before.
+    /// The same store, for a web that comes after another one: what the edit did not change is
+    /// shared with the store of the web before.
     ///
     /// # Errors
     ///
@@ -108,11 +117,13 @@ impl Store {
         old: &Store,
     ) -> Result<Store, NoMemory>
         requires { table.now ≡ record (table_of web.now) { faults = table.now.faults } }
-        ensures store { IfOk result (λ store. IsStoreOf (project web.now table.now) store) }
+        ensures store { IfOk result (λ store. IsStoreOf (shapes web.now table.now) store) }
         ensures names { IfOk result (λ store. store.names ≡ table.now.names) }
         ensures outputs { IfOk result (λ store. store.outputs ≡ outputs web.now table.now out.now) }
-        ensures faults { IfOk result (λ store. AreGraphFaults web.now table.now out.now store.faults) }
-        ensures grouped { IfOk result (λ store. IsGroupedBy web.now table.now store.names (pieces_of_node store)) }
+        ensures faults { IfOk result
+            (λ store. AreGraphFaults web.now table.now out.now store.faults) }
+        ensures grouped { IfOk result
+            (λ store. IsGroupedBy web.now table.now store.names (pieces_of_node store)) }
     {
         names_resolve_inside();
         let pieces = pieces_by_node(alloc, web.pieces(), table)?;
@@ -121,7 +132,7 @@ impl Store {
         let flags: &[bool] = &filled;
         let same_names = old.has_names_of(table);
         let before = old.texts_under(table, same_names, flags);
-        let texts = texts_by_node(alloc, web, table, flags, rows, before)?;
+        let texts = bodies_by_node(alloc, web, table, flags, rows, before)?;
         let skeleton = old.skeleton_for(alloc, table, same_names, &texts)?;
         Store::over(alloc, web, table, out, pieces, filled, texts, skeleton)
     }
@@ -133,10 +144,12 @@ impl Store {
         are_names_of(&self.skeleton.names, table)
     }
 
-    /// The texts of the nodes, where the names are the same and just those have a piece that the flags say; else none.
-    fn texts_under(&self, table: &NameTable, same_names: bool, filled: &[bool]) -> &[Rc<NodeText>]
+    /// The texts of the nodes, where the names are the same and just those have a piece that the
+    /// flags say; else none.
+    fn texts_under(&self, table: &NameTable, same_names: bool, filled: &[bool]) -> &[Rc<NodeBody>]
         requires { same_names ≡ true → self.now.names ≡ table.now.names }
-        ensures { ArePlanned table.now.names (λ id. slice_index_or filled.now id false) (node_texts result.now) }
+        ensures { ArePlanned table.now.names (λ id. slice_index_or filled.now id false)
+            (node_bodies result.now) }
     {
         if same_names && self.filled.as_slice() == filled {
             self.texts.as_slice()
@@ -151,13 +164,16 @@ impl Store {
         alloc: Global,
         table: &NameTable,
         same_names: bool,
-        texts: &[Rc<NodeText>],
+        texts: &[Rc<NodeBody>],
     ) -> Result<Rc<Skeleton>, NoMemory>
         requires same_names { same_names ≡ true → self.now.names ≡ table.now.names }
         requires size { length texts.now ≡ length table.now.names + 1 }
-        requires inside { All (λ row. All (λ id. id < length table.now.names) row) (map node_uses (node_texts texts.now)) }
-        ensures names { IfOk result (λ skeleton. texts_of skeleton.value.names.items ≡ table.now.names) }
-        ensures skeleton { IfOk result (λ skeleton. IsSkeletonOf (map node_uses (node_texts texts.now)) skeleton.value) }
+        requires inside { All (λ row. All (λ id. id < length table.now.names) row)
+            (map node_uses (node_bodies texts.now)) }
+        ensures names { IfOk result
+            (λ skeleton. texts_of skeleton.value.names.items ≡ table.now.names) }
+        ensures skeleton { IfOk result
+            (λ skeleton. IsSkeletonOf (map node_uses (node_bodies texts.now)) skeleton.value) }
     {
         if same_names && have_same_uses(&self.texts, texts) {
             match self.skeleton.clone() {
@@ -169,7 +185,8 @@ impl Store {
         }
     }
 
-    /// The store over the pieces, the texts and the skeleton of a web's nodes, where the flags say which nodes have a piece.
+    /// The store over the pieces, the texts and the skeleton of a web's nodes, where the flags say
+    /// which nodes have a piece.
     fn over(
         alloc: Global,
         web: &Web,
@@ -177,22 +194,28 @@ impl Store {
         out: &[u8],
         pieces: Vec<Vec<usize>>,
         filled: Vec<bool>,
-        texts: Vec<Rc<NodeText>>,
+        texts: Vec<Rc<NodeBody>>,
         skeleton: Rc<Skeleton>,
     ) -> Result<Store, NoMemory>
         requires table { table.now ≡ record (table_of web.now) { faults = table.now.faults } }
-        requires grouped { IsRowsOf (length table.now.names + 1) (places_of table.now web.now.pieces) (rows_of pieces.items) }
+        requires grouped { IsRowsOf (length table.now.names + 1)
+            (places_of table.now web.now.pieces) (rows_of pieces.items) }
         requires filled { AreFilled (rows_of pieces.items) filled.items }
-        requires texts { AreTexts web.now table.now (rows_of pieces.items) (node_texts texts.items) }
-        requires plans { ArePlans web.now table.now (λ id. slice_index_or filled.items id false) (rows_of pieces.items) (slots_of texts.items) (uses_of_plans texts.items) }
-        requires planned { ArePlanned table.now.names (λ id. slice_index_or filled.items id false) (node_texts texts.items) }
+        requires texts { AreBodies web.now table.now (rows_of pieces.items)
+            (node_bodies texts.items) }
+        requires plans { ArePlans web.now table.now (λ id. slice_index_or filled.items id false)
+            (rows_of pieces.items) (slots_of texts.items) (uses_of_plans texts.items) }
+        requires planned { ArePlanned table.now.names (λ id. slice_index_or filled.items id false)
+            (node_bodies texts.items) }
         requires names { texts_of skeleton.value.names.items ≡ table.now.names }
-        requires skeleton { IsSkeletonOf (map node_uses (node_texts texts.items)) skeleton.value }
-        ensures store { IfOk result (λ store. IsStoreOf (project web.now table.now) store) }
+        requires skeleton { IsSkeletonOf (map node_uses (node_bodies texts.items)) skeleton.value }
+        ensures store { IfOk result (λ store. IsStoreOf (shapes web.now table.now) store) }
         ensures names { IfOk result (λ store. store.names ≡ table.now.names) }
         ensures outputs { IfOk result (λ store. store.outputs ≡ outputs web.now table.now out.now) }
-        ensures faults { IfOk result (λ store. AreGraphFaults web.now table.now out.now store.faults) }
-        ensures grouped { IfOk result (λ store. IsGroupedBy web.now table.now store.names (pieces_of_node store)) }
+        ensures faults { IfOk result
+            (λ store. AreGraphFaults web.now table.now out.now store.faults) }
+        ensures grouped { IfOk result
+            (λ store. IsGroupedBy web.now table.now store.names (pieces_of_node store)) }
     {
         names_resolve_inside();
         names_are_the_full_names();
@@ -233,14 +256,15 @@ impl Store {
     }
 
     /// What is kept of the node, if the store has it.
-    pub(crate) fn text(&self, node: Node) -> Option<&NodeText>
-        ensures text { option_copied result ≡ text_at self.now node }
-        ensures uses { IfSome result (λ text. All (λ id. id < length self.now.names) (node_uses text.now)) }
+    pub(crate) fn text(&self, node: Node) -> Option<&NodeBody>
+        ensures text { option_copied result ≡ body_at self.now node }
+        ensures uses { IfSome result
+            (λ text. All (λ id. id < length self.now.names) (node_uses text.now)) }
     {
         match self.number(node) {
             Some(n) => match self.texts.get(n) {
                 Some(text) => {
-                    let text: &NodeText = text;
+                    let text: &NodeBody = text;
                     Some(text)
                 }
                 None => None,
@@ -272,8 +296,8 @@ impl Store {
         }
     }
 
-    /// Whether the node is expandable: it has a piece, reaches no name that contains itself, weighs at most 16,777,216 and is at most 1,000
-    /// deep.
+    /// Whether the node is expandable: it has a piece, reaches no name that contains itself, weighs
+    /// at most 16,777,216 and is at most 1,000 deep.
     pub fn expandable(&self, node: Node) -> bool
         ensures { result ≡ is_expandable_at self.now node }
     {
@@ -283,8 +307,9 @@ impl Store {
         }
     }
 
-    /// The weight of the node: each byte of an item counts 1, and so do an opening, a closing, a mark, a use and the macros; a use counts the
-    /// weight of its name besides. What weighs more than 16,777,216, or reaches a name that contains itself, has 16,777,217.
+    /// The weight of the node: each byte of an item counts 1, and so do an opening, a closing, a
+    /// mark, a use and the macros; a use counts the weight of its name besides. What weighs more
+    /// than 16,777,216, or reaches a name that contains itself, has 16,777,217.
     pub fn weight(&self, node: Node) -> u32
         ensures { result ≡ weight_at self.now node }
     {
@@ -297,8 +322,9 @@ impl Store {
         }
     }
 
-    /// The depth of the node: 0 without a piece, else one more than the greatest depth among the names that it uses. What is deeper than
-    /// 1,000, or reaches a name that contains itself, has 1,001.
+    /// The depth of the node: 0 without a piece, else one more than the greatest depth among the
+    /// names that it uses. What is deeper than 1,000, or reaches a name that contains itself, has
+    /// 1,001.
     pub fn depth(&self, node: Node) -> u16
         ensures { result ≡ depth_at self.now node }
     {
@@ -337,24 +363,27 @@ impl Store {
         }
     }
 
-    /// The output files: the main file first, if the program has no piece or is expandable, and then each other file name with a piece that
-    /// is expandable, in the order of the first occurrences that are marked `@(`.
+    /// The output files: the main file first, if the program has no piece or is expandable, and
+    /// then each other file name with a piece that is expandable, in the order of the first
+    /// occurrences that are marked `@(`.
     pub fn outputs(&self) -> &[Output]
         ensures { result.now ≡ self.now.outputs }
     {
         self.outputs.as_slice()
     }
 
-    /// The faults of the graph: names that are used and have no piece, names that are never used, names that contain themselves, nodes that
-    /// are too large, and names with `@(` that are the main file's, each kind in the order of the names with the program last; and at the end
-    /// that the program has no piece. A use in a piece that is dropped counts, an abbreviation too.
+    /// The faults of the graph: names that are used and have no piece, names that are never used,
+    /// names that contain themselves, nodes that are too large, and names with `@(` that are the
+    /// main file's, each kind in the order of the names with the program last; and at the end that
+    /// the program has no piece. A use in a piece that is dropped counts, an abbreviation too.
     pub fn faults(&self) -> &[Fault]
         ensures { result.now ≡ self.now.faults }
     {
         self.faults.as_slice()
     }
 
-    /// The faults of the graph, for one who keeps them with others. The store has none from then on.
+    /// The faults of the graph, for one who keeps them with others. The store has none from then
+    /// on.
     pub fn take_faults(&mut self) -> Vec<Fault>
         ensures taken { result.items ≡ self.old.faults }
         ensures others { self.new ≡ record self.old { faults = [] } }
@@ -363,7 +392,8 @@ impl Store {
         replace(&mut self.faults, Vec::new(alloc))
     }
 
-    /// Nodes of the store, each once and after the names that it uses; each that is expandable is among them.
+    /// Nodes of the store, each once and after the names that it uses; each that is expandable is
+    /// among them.
     pub fn order(&self) -> &[Node]
         ensures { IsOrderIn self.now result.now }
     {
@@ -372,13 +402,13 @@ impl Store {
 }
 
 impl PiecesByNode for Store {
-    ghost use Rattle.tangle_graph.specs.Stores.{pieces_of_node, text_at};
+    ghost use Rattle.tangle_graph.specs.Stores.{pieces_of_node, body_at};
 
     ghost names = { λ s. s.names };
 
     ghost pieces = { pieces_of_node };
 
-    ghost texts = { text_at };
+    ghost texts = { body_at };
 
     fn name_count(&self) -> usize {
         self.skeleton.names.len()
@@ -398,7 +428,7 @@ impl PiecesByNode for Store {
         }
     }
 
-    fn node_text(&self, node: Node) -> Option<&Rc<NodeText>> {
+    fn node_body(&self, node: Node) -> Option<&Rc<NodeBody>> {
         match self.number(node) {
             Some(n) => match self.texts.get(n) {
                 Some(text) => Some(text),
@@ -409,8 +439,8 @@ impl PiecesByNode for Store {
     }
 }
 
-/// Expands a node: its own parts, with the expansions that are kept of the names with a piece that it uses where it uses them. The node goes
-/// last in the work's list.
+/// Expands a node: its own symbols, with the expansions that are kept of the names with a piece
+/// that it uses where it uses them. The node goes last in the work's list.
 ///
 /// # Errors
 ///
@@ -423,10 +453,13 @@ pub fn expand_one(
     work: &mut Work,
 ) -> Result<Expansion, NoMemory>
     requires expandable { is_expandable_at store.now node ≡ true }
-    requires kept { (id : ℕ) → Contains (plan_uses_at store.now node) id → IsSome (kept_at kept.now (node_kind.Name id)) }
-    ensures parts { IfOk result (λ e. e ≡ filled (used_parts kept.now) (slots_at store.now node)) }
-    ensures right { (project : Project) → IsStoreOf project store.now → KeepsUsed project store.now kept.now node
-        → IfOk result (λ e. e ≡ flat_of project (title_in_store store.now node)) }
+    requires kept { (id : ℕ) → Contains (plan_uses_at store.now node) id
+        → IsSome (kept_at kept.now (node_kind.Name id)) }
+    ensures symbols { IfOk result
+        (λ e. e ≡ filled (used_symbols kept.now) (slots_at store.now node)) }
+    ensures right { (shapes : Shapes) → IsStoreOf shapes store.now
+        → KeepsUsed shapes store.now kept.now node
+        → IfOk result (λ e. e ≡ flat_of shapes (title_in_store store.now node)) }
     ensures listed { OnOk result (work.new ≡ work.old ++ node ∷ []) }
     ensures err { OnErr result (work.new ≡ work.old) }
 {

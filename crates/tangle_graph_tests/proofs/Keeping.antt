@@ -4,8 +4,8 @@ use Rattle.std.specs.Prelude.{nat_lt, if◌then◌else◌, Some, None, IsSome, u
 use Rattle.std.proofs.lemmas.Bool.Decides.{nat_tests}
 use Rattle.tangle_affected.specs.Keeping.{KeepsJust}
 use Rattle.tangle_expansion.specs.Limits.{heaviest, flat_of, IsExpandableNode}
-use Rattle.tangle_expansion.specs.Outputs.{node_parts}
-use Rattle.tangle_expansion.specs.Shapes.{Title, Project}
+use Rattle.tangle_expansion.specs.Outputs.{node_symbols}
+use Rattle.tangle_expansion.specs.Shapes.{Title, Shapes}
 use Rattle.tangle_expansion.specs.declared.kept.Kept.{Kept}
 use Rattle.tangle_expansion.specs.declared.nodes.Node.{Node}
 use Rattle.tangle_expansion.specs.declared.nodes.Node.TheVariants.{Program, Name}
@@ -25,15 +25,15 @@ node_in names flags (Name id) e = by (nat_lt id (length names)) refl e
 expandable_in : (store : StoreRead) (node : Node) → is_expandable_at store node ≡ true → IsNodeIn store node
 expandable_in store node e = node_in store.names store.expandable node e
 
-pub just_writable : (project : Project) (store : StoreRead) (kept : Kept) → IsStoreOf project store → KeepsJust project store kept
-    → ((p : Project) (t : Title) → IsExpandableNode p t → length (flat_of p t) ≤ heaviest) → KeepsWritable store kept
-just_writable project store kept is keeps law = record {
+pub just_writable : (shapes : Shapes) (store : StoreRead) (kept : Kept) → IsStoreOf shapes store → KeepsJust shapes store kept
+    → ((p : Shapes) (t : Title) → IsExpandableNode p t → length (flat_of p t) ≤ heaviest) → KeepsWritable store kept
+just_writable shapes store kept is keeps law = record {
   there = λ node e. subst IsSome (sym (keeps.expandable node e)) refl;
   light = λ node. by node (is_expandable_at store node) refl;
 }
   where
-    by : (node : Node) (b : Bool) → is_expandable_at store node ≡ b → length (node_parts kept node) ≤ heaviest
+    by : (node : Node) (b : Bool) → is_expandable_at store node ≡ b → length (node_symbols kept node) ≤ heaviest
     by node true e =
         let fits = (is.expandable node (expandable_in store node e)).0 e in
-        subst (λ o. length (unwrap_or o []) ≤ heaviest) (sym (keeps.expandable node e)) (law project (title_in_store store node) fits)
+        subst (λ o. length (unwrap_or o []) ≤ heaviest) (sym (keeps.expandable node e)) (law shapes (title_in_store store node) fits)
     by node false e = subst (λ o. length (unwrap_or o []) ≤ heaviest) (sym (keeps.others node e)) (omega arith)

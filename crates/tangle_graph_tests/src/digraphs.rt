@@ -1,4 +1,5 @@
-//! Large graphs of which nothing may take long: each test has to end within the time that a test has.
+//! Large graphs of which nothing may take long: each test has to end within the time that a test
+//! has.
 use digraph::{
     all_once, empty_rows, in_range, order, push_to, reaching_along, reaching_cycles,
     self_containing, users,
@@ -32,7 +33,7 @@ fn count(flags: &[bool]) -> usize {
     flags.iter().filter(|flag| **flag).count()
 }
 
-/// So many nodes contain themselves, so many reach one that does, and the others stand in the order.
+/// So many nodes contain themselves, so many reach one that does, and the others are in the order.
 fn check_counts(
     rt: &impl Abort,
     alloc: Global,

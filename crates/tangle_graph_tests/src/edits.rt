@@ -9,7 +9,7 @@ use tangle_graph::Store;
 use tangle_lines::NoMemory;
 use tangle_names::NameTable;
 use tangle_scan::{Web, scan};
-use tangle_test_support::{end_refusals, files_with, read, refuse_growth};
+use tangle_test_support::{end_refusals, fail_allocation, files_with, read};
 
 const TWO_BRANCHES: &[u8] =
     b"@ P.\n@c\n@<A@>@<S@>\n@ @<A@>=\n@<B@>\n@ @<B@>=\n@<C@>\n@ @<C@>=\n1\n@ @<S@>=\n2\n";
@@ -26,9 +26,10 @@ const C_USES_A: &[u8] =
 const S_WITHOUT_A_PIECE: &[u8] =
     b"@ P.\n@c\n@<A@>@<S@>\n@ @<A@>=\n@<B@>\n@ @<B@>=\n@<C@>\n@ @<C@>=\n1\n";
 
-// Webs before and after an edit, and the nodes that it affects, each behind those that it uses: a line below one of two branches is
-// replaced, and replaced by itself; a use becomes one of another name with as long a text; a name comes to contain itself, and no longer
-// does; and a name loses its only piece. The names are A, S, B and C, in the order of their first occurrences.
+// Webs before and after an edit, and the nodes that it affects, each behind those that it uses: a
+// line below one of two branches is replaced, and replaced by itself; a use becomes one of another
+// name with as long a text; a name comes to contain itself, and no longer does; and a name loses
+// its only piece. The names are A, S, B and C, in the order of their first occurrences.
 const EDITS: [(&[u8], &[u8], &[Node]); 6] = [
     (
         TWO_BRANCHES,
@@ -50,8 +51,8 @@ const EDITS: [(&[u8], &[u8], &[Node]); 6] = [
     (TWO_BRANCHES, S_WITHOUT_A_PIECE, &[Node::Program]),
 ];
 
-// The nodes that the edit from one web to the other affects, told with this growth refused, and
-// whether none was.
+// The nodes that the edit from one web to the other affects, reported with this allocation failing,
+// and whether none was.
 fn affected_without(
     alloc: Global,
     old_web: &Web,
@@ -62,12 +63,13 @@ fn affected_without(
     let new_names = NameTable::build(alloc, new_web)?;
     let old = Store::build(alloc, old_web, &old_names, b"a.c")?;
     let new = Store::rebuild(alloc, new_web, &new_names, b"a.c", &old)?;
-    let is_harnessed = refuse_growth(alloc, nth);
+    let is_harnessed = fail_allocation(alloc, nth);
     let nodes = affected(alloc, &old, &old_names, &new, &new_names);
     Ok((nodes, end_refusals(alloc, is_harnessed)))
 }
 
-// Whether the store of the web behind an edit is made over the one of the web before it, where this allocation fails: then none does.
+// Whether the store of the web behind an edit is made over the one of the web before it, where this
+// allocation fails: then none does.
 fn rebuilding_is_spared(
     rt: &impl Abort,
     alloc: Global,
@@ -78,14 +80,14 @@ fn rebuilding_is_spared(
     let old_names = NameTable::build(alloc, old_web)?;
     let new_names = NameTable::build(alloc, new_web)?;
     let old = Store::build(alloc, old_web, &old_names, b"a.c")?;
-    let is_harnessed = refuse_growth(alloc, nth);
+    let is_harnessed = fail_allocation(alloc, nth);
     let new = Store::rebuild(alloc, new_web, &new_names, b"a.c", &old);
     let was_spared = end_refusals(alloc, is_harnessed);
     assert_eq!(rt; new.is_ok(), was_spared);
     Ok(was_spared)
 }
 
-// Whether no growth was refused: then the edit affects these nodes, and else it is not told.
+// Whether no allocation failed: then the edit affects these nodes, and else it is not reported.
 fn affected_is_spared(
     rt: &impl Abort,
     alloc: Global,
@@ -93,15 +95,15 @@ fn affected_is_spared(
     nodes: &[Node],
     nth: u32,
 ) -> Result<bool, NoMemory> {
-    let (told, was_spared) = affected_without(alloc, webs.0, webs.1, nth)?;
-    assert_eq!(rt; told.is_ok(), was_spared);
-    if let Ok(told) = &told {
-        assert!(rt; told.as_slice() == nodes);
+    let (reported, was_spared) = affected_without(alloc, webs.0, webs.1, nth)?;
+    assert_eq!(rt; reported.is_ok(), was_spared);
+    if let Ok(reported) = &reported {
+        assert!(rt; reported.as_slice() == nodes);
     }
     Ok(was_spared)
 }
 
-// Refuses the first growth, the second and so on, until none is refused.
+// Fails the first allocation, the second and so on, until none fails.
 fn refuse_each(
     rt: &impl Abort,
     alloc: Global,
@@ -113,7 +115,7 @@ fn refuse_each(
             return Ok(());
         }
     }
-    Err(Fail::from("never told"))
+    Err(Fail::from("never reported"))
 }
 
 // The same of the store of the web behind the edit.
@@ -150,7 +152,7 @@ fn check_affected(
 }
 
 #[test]
-fn nodes_that_edits_affect_with_each_growth_refused(rt: HostRuntime) -> Result<(), Fail> {
+fn nodes_that_edits_affect_with_each_allocation_failing(rt: HostRuntime) -> Result<(), Fail> {
     for (before, after, nodes) in &EDITS {
         check_affected(&rt, rt.alloc(), before, after, nodes)?;
     }

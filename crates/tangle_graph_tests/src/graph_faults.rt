@@ -5,9 +5,11 @@ use std::process::Abort;
 use std::test::Fail;
 use tangle_test_support::{doubling, lines_of};
 
-// Webs, and the lines of the faults of their graphs: a web without faults, an empty one, an abbreviation of two names, a cycle of two names
-// and a name in its place, a name that only reaches a cycle, undefined names, which are told once and at their first use, a file with the
-// main file's name, a name never used, a use in a piece that is dropped, and each kind in the order of the names.
+// Webs, and the lines of the faults of their graphs: a web without faults, an empty one, an
+// abbreviation of two names, a cycle of two names and a name in its place, a name that only reaches
+// a cycle, undefined names, which are reported once and at their first use, a file with the main
+// file's name, a name never used, a use in a piece that is dropped, and each kind in the order of
+// the names.
 const WEBS: [(&[u8], &[u8]); 12] = [
     (b"@ A.\n@c\n@<Ini...@>\n@ @<Initialize@>=\nx=0;\n", b""),
     (b"", b"warning: no program text\n"),

@@ -12,8 +12,8 @@ const CYCLE: &[u8] = b"@ P.\n@c\n@<A@>\n@ @<A@>=\n@<B@>\n@ @<B@>=\n@<A@>\n@ @(h.
 
 const MAIN_FILES_NAME: &[u8] = b"@ A.\n@(a.c@>=\nx\n";
 
-// Webs, each with its output files: their names and nodes, and whether the macros begin them. They do not where an unused piece has their
-// place.
+// Webs, each with its output files: their names and nodes, and whether the macros begin them. They
+// do not where an unused piece has their place.
 const FILES: [(&[u8], &[(&[u8], Node, bool)]); 8] = [
     (b"@ A.\n@c\nint x;\n", &[(b"a.c", Node::Program, true)]),
     (NAME_AND_USE, &[(b"a.c", Node::Program, true)]),
@@ -59,16 +59,17 @@ fn files_of_webs(rt: HostRuntime) -> Result<(), Fail> {
     Ok(())
 }
 
-// The weight and the depth of a node, whether it has a piece, whether it is expandable and whether it contains itself.
+// The weight and the depth of a node, whether it has a piece, whether it is expandable and whether
+// it contains itself.
 type Measures = (u32, u16, bool, bool, bool);
 
 const NO_PIECE: Measures = (0, 0, false, false, false);
 
 const IN_A_CYCLE: Measures = (16_777_217, 1001, true, false, true);
 
-// Webs, and of a node its measures, which names it uses and which nodes use it: a piece alone, a name and the program that uses it, a node
-// beyond the names, names that use each other and the program that uses one, a file with the main file's name, and the program that has no
-// piece there.
+// Webs, and of a node its measures, which names it uses and which nodes use it: a piece alone, a
+// name and the program that uses it, a node beyond the names, names that use each other and the
+// program that uses one, a file with the main file's name, and the program that has no piece there.
 const NODES: [(&[u8], Node, Measures, &[Node], &[Node]); 9] = [
     (
         b"@ A.\n@c\nint x;\n",
@@ -123,7 +124,7 @@ const NODES: [(&[u8], Node, Measures, &[Node], &[Node]); 9] = [
     (MAIN_FILES_NAME, Node::Program, NO_PIECE, &[], &[]),
 ];
 
-// What the store tells of a node.
+// What the store reports a node.
 fn measures(store: &Store, node: Node) -> Measures {
     (
         store.weight(node),
@@ -136,9 +137,9 @@ fn measures(store: &Store, node: Node) -> Measures {
 
 #[test]
 fn nodes_of_webs(rt: HostRuntime) -> Result<(), Fail> {
-    for (text, node, told, uses, users) in &NODES {
+    for (text, node, reported, uses, users) in &NODES {
         let tangled = tangle(rt.alloc(), text)?;
-        assert!(rt; measures(&tangled.store, *node) == *told);
+        assert!(rt; measures(&tangled.store, *node) == *reported);
         assert!(rt; tangled.store.uses(*node) == *uses);
         assert!(rt; tangled.store.users(*node) == *users);
     }
@@ -158,15 +159,16 @@ const DOUBLING: [(Node, u32, u16, bool); 5] = [
 fn names_that_double(rt: HostRuntime) -> Result<(), Fail> {
     let tangled = tangle(rt.alloc(), doubling(rt.alloc())?.as_slice())?;
     for (node, weight, depth, expandable) in &DOUBLING {
-        let told = (*weight, *depth, true, *expandable, false);
-        assert!(rt; measures(&tangled.store, *node) == told);
+        let reported = (*weight, *depth, true, *expandable, false);
+        assert!(rt; measures(&tangled.store, *node) == reported);
     }
     assert_eq!(rt; tangled.work.made(), 22);
     assert_eq!(rt; tangled.store.outputs().len(), 1);
     Ok(())
 }
 
-// Of the chain of a thousand names, the weight and the depth of a node, and whether it is expandable.
+// Of the chain of a thousand names, the weight and the depth of a node, and whether it is
+// expandable.
 const CHAIN: [(Node, u32, u16, bool); 3] = [
     (Node::Name(999), 6, 1, true),
     (Node::Name(0), 6_999, 1000, true),
@@ -178,8 +180,8 @@ fn a_chain_of_a_thousand_names(rt: HostRuntime) -> Result<(), Fail> {
     let web = chain(rt.alloc(), b'k', 10_001, 11_000, 1)?;
     let tangled = tangle(rt.alloc(), web.as_slice())?;
     for (node, weight, depth, expandable) in &CHAIN {
-        let told = (*weight, *depth, true, *expandable, false);
-        assert!(rt; measures(&tangled.store, *node) == told);
+        let reported = (*weight, *depth, true, *expandable, false);
+        assert!(rt; measures(&tangled.store, *node) == reported);
     }
     assert!(rt; tangled.store.outputs().is_empty());
     assert_eq!(rt; tangled.work.made(), 1000);

@@ -1,8 +1,11 @@
-//! The tests of the crates from the graph to the expansions of all nodes: what no clause of theirs says.
+//! The tests of the crates from the graph to the expansions of all nodes: what no clause of theirs
+//! says.
 //!
-//! They stand in a crate of their own, since a crate that has tests is proved once more for them.
+//! They are in a crate of their own, since a crate that has tests is proved once more for them.
 #![tactic(auto)]
 
+#[cfg(test)]
+mod allocations;
 #[cfg(test)]
 mod digraphs;
 #[cfg(test)]
@@ -13,8 +16,6 @@ mod expansions;
 mod graph_faults;
 #[cfg(test)]
 mod graphs;
-#[cfg(test)]
-mod growths;
 #[cfg(test)]
 mod outputs;
 #[cfg(test)]

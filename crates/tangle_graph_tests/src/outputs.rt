@@ -14,10 +14,12 @@ use tangle_test_support::{DOUBLING_FILE, doubling};
 // Room for all that a test writes.
 const AMPLE: usize = 1_000_000;
 
-// Webs, with their output files, of which each is its name on a line and its bytes, and the number of the nodes that are expanded: a piece
-// alone, a name and the program that uses it, the same below a line and below a section more, an abbreviation of one name and of two, macros
-// where no piece asks for them, where the program does and where a piece does that nothing uses, names that use each other, a name in place
-// of the cycle, a file with the main file's name, and a name over four levels.
+// Webs, with their output files, of which each is its name on a line and its bytes, and the number
+// of the nodes that are expanded: a piece alone, a name and the program that uses it, the same
+// below a line and below a section more, an abbreviation of one name and of two, macros where no
+// piece asks for them, where the program does and where a piece does that nothing uses, names that
+// use each other, a name in place of the cycle, a file with the main file's name, and a name over
+// four levels.
 const WEBS: [(&[u8], &[u8], u64); 12] = [
     (
         b"@ A.\n@c\nint x;\n",

@@ -2,7 +2,7 @@
 ghost use Rattle.std.specs.Prelude.{◌≡◌, true, IfOk};
 ghost use Rattle.tangle_names.specs.NameTable.{table_of};
 ghost use Rattle.tangle_expansion.specs.Outputs.{IsReady};
-ghost use Rattle.tangle_expansion.specs.Shapes.{Project};
+ghost use Rattle.tangle_expansion.specs.Shapes.{Shapes};
 ghost use Rattle.tangle_graph.specs.Stores.{IsStoreOf};
 ghost use Rattle.tangle_graph_tests.specs.Keeping.{KeepsWritable};
 
@@ -18,7 +18,8 @@ use tangle_names::NameTable;
 use tangle_scan::{Web, scan};
 use tangle_test_support::{files_with, read};
 
-/// What tangling of a web makes: its store, the expansions of its nodes, the numbers that their texts take, and which nodes were expanded.
+/// What tangling of a web makes: its store, the expansions of its nodes, the numbers that their
+/// texts take, and which nodes were expanded.
 #[derive(Drop)]
 pub(crate) struct Tangled {
     pub(crate) store: Store,
@@ -29,7 +30,7 @@ pub(crate) struct Tangled {
 
 // Expands each expandable node: what is kept then can be written.
 fn expand_writable(alloc: Global, store: &Store, work: &mut Work) -> Result<Kept, NoMemory>
-    requires { (project : Project) × IsStoreOf project store.now }
+    requires { (shapes : Shapes) × IsStoreOf shapes store.now }
     ensures { IfOk result (KeepsWritable store.now) }
 {
     expandable_nodes_are_light();
@@ -104,7 +105,7 @@ fn write_ready<S: Sink>(
     (size, written)
 }
 
-/// Writes an output file. It answers how many bytes the file has, and how many went out.
+/// Writes an output file. It answers how many bytes the file has, and how many were written.
 pub(crate) fn write_output<S: Sink>(
     tangled: &Tangled,
     output: &Output,

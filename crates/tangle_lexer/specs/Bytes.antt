@@ -61,8 +61,8 @@ lower b = if is_between 65 90 b then b + 32 else b
 
 -- this byte
 abbrev pub holds : ℕ → Option ℕ → Bool
-holds wanted None = false
-holds wanted (Some b) = b == wanted
+holds expected None = false
+holds expected (Some b) = b == expected
 
 -- a line end
 abbrev pub is_line_end : Option ℕ → Bool

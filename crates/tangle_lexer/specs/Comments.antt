@@ -19,19 +19,19 @@ unit_line_end u c next = line_end_by c.byte c.line
 abbrev pub line_ends : Region → List Cell → List Token
 line_ends r text = from_units unit_line_end r 0 text
 
--- */ stands at the front
+-- */ is at the front
 abbrev pub ends_comment : List Cell → Bool
 ends_comment text = are asterisk slash (byte_at 0 text) (byte_at 1 text)
 
--- @> stands at the front
+-- @> is at the front
 abbrev pub has_end_code : List Cell → Bool
 has_end_code text = is_end_code (byte_at 0 text) (byte_at 1 text)
 
--- a section start stands at the front
+-- a section start is at the front
 abbrev pub starts_section : List Cell → Bool
 starts_section text = is_section_start (byte_at 0 text) (byte_at 1 text)
 
--- two more cells if the end stands there
+-- two more cells if the end is there
 abbrev pub two_if : Bool → ℕ
 two_if b = if b then 2 else 0
 
@@ -50,7 +50,7 @@ line_comment s text =
     let behind : List Cell = drop inside (drop 2 text) in
     white_lexeme [] (fault_if (starts_section behind) fault.CommentEnd (line_at s.last behind)) (1 + inside) s
 
--- @^, @., @:, @t, @q up to @>; another code but @@, or the end of the source, before that is a fault
+-- @^, @., @:, @t, @q up to @>; another control code but @@, or the end of the source, before that is a fault
 abbrev pub control_text : ScanState → List Cell → Lexeme
 control_text s text =
     let inside : ℕ = count_before region.ControlText 0 (drop 2 text) in

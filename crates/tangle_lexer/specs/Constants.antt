@@ -1,6 +1,6 @@
 -- ASCII constants: the value of a character, and how many cells it has.
 use Rattle.std.specs.Prelude.{ℕ, ◌+◌, ◌-◌, ◌*◌, ◌==◌, nat_le, not, ◌||◌, List, [], ◌∷◌, drop, if◌then◌else◌, Option, Some, None, unwrap_or}
-use Rattle.tangle_lexer.specs.declared.constants.Constant.{Constant}
+use Rattle.tangle_lexer.specs.declared.constants.AsciiConstant.{AsciiConstant}
 use Rattle.tangle_lines.specs.declared.faults.FaultKind.TheVariants as fault
 use Rattle.tangle_lexer.specs.declared.regions.Region.TheVariants as region
 use Rattle.tangle_lexer.specs.declared.modes.ScanState.{ScanState}
@@ -28,7 +28,7 @@ escape_value None = None
 escape_value (Some b) = escape_of b
 
 -- a character of so many cells with this value is a constant where an apostrophe follows it
-abbrev pub if_closed : Option ℕ → ℕ → List Cell → Option Constant
+abbrev pub if_closed : Option ℕ → ℕ → List Cell → Option AsciiConstant
 if_closed None count text = None
 if_closed (Some value) count text =
     if holds apostrophe (byte_at count text) then Some (record { value = value; count = count }) else None
@@ -38,23 +38,23 @@ abbrev pub digit_at : ℕ → List Cell → ℕ
 digit_at k text = unwrap_or (byte_at k text) 48 - 48
 
 -- a value that fits a byte
-abbrev pub if_byte : ℕ → ℕ → List Cell → Option Constant
+abbrev pub if_byte : ℕ → ℕ → List Cell → Option AsciiConstant
 if_byte value count text = if_closed (if nat_le value 255 then Some value else None) count text
 
 -- a backslash at the front and one to three octal digits, as many as there are, with a value of at most 255
-abbrev pub octal_constant : List Cell → Option Constant
+abbrev pub octal_constant : List Cell → Option AsciiConstant
 octal_constant text =
     if not (is_octal (byte_at 2 text)) then if_byte (digit_at 1 text) 2 text else
     if not (is_octal (byte_at 3 text)) then if_byte (8 * digit_at 1 text + digit_at 2 text) 3 text
     else if_byte (64 * digit_at 1 text + 8 * digit_at 2 text + digit_at 3 text) 4 text
 
 -- a backslash at the front
-abbrev pub escaped_constant : List Cell → Option Constant
+abbrev pub escaped_constant : List Cell → Option AsciiConstant
 escaped_constant text =
     if is_octal (byte_at 1 text) then octal_constant text else if_closed (escape_value (byte_at 1 text)) 2 text
 
 -- @@, a backslash with what it escapes, or any other byte but an apostrophe
-abbrev pub constant_by : Option ℕ → List Cell → Option Constant
+abbrev pub constant_by : Option ℕ → List Cell → Option AsciiConstant
 constant_by None text = None
 constant_by (Some b) text =
     if b == at_sign then if_closed (if holds at_sign (byte_at 1 text) then Some at_sign else None) 2 text else
@@ -62,7 +62,7 @@ constant_by (Some b) text =
     if b == apostrophe then None else if_closed (Some b) 1 text
 
 -- the constant behind @'
-abbrev pub constant_at : List Cell → Option Constant
+abbrev pub constant_at : List Cell → Option AsciiConstant
 constant_at text = constant_by (byte_at 0 text) text
 
 -- What is no constant is white space up to and with the first apostrophe of the line, or up to its end.
@@ -72,10 +72,10 @@ bad_constant s text =
     white_lexeme [] (token.Fault fault.AsciiBad (line_at s.last text) ∷ [])
     (1 + inside + one_if (holds apostrophe (byte_at 0 (drop inside (drop 2 text))))) s
 
-abbrev pub constant_lexeme : Option Constant → ScanState → List Cell → Lexeme
+abbrev pub constant_lexeme : Option AsciiConstant → ScanState → List Cell → Lexeme
 constant_lexeme None s text = bad_constant s text
 constant_lexeme (Some constant) s text =
-    lexeme_of (token.Constant constant.value (line_at s.last text) ∷ []) (2 + constant.count) (elsewhere s)
+    lexeme_of (token.AsciiConstant constant.value (line_at s.last text) ∷ []) (2 + constant.count) (elsewhere s)
 
 -- @'
 abbrev pub ascii_constant : ScanState → List Cell → Lexeme

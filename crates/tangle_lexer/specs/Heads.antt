@@ -12,11 +12,11 @@ is_head (token.UnnamedPart line) = true
 is_head (token.NamedPart name line) = true
 is_head _ = false
 
--- no head stands among these tokens
+-- no head is among these tokens
 abbrev pub HasNoHead : List Token → Type 0
 HasNoHead es = list_any is_head es ≡ false
 
--- a head stands alone
+-- a head is alone
 abbrev pub IsHeadAlone : List Token → Type 0
 IsHeadAlone es = HasNoHead es ⊎ ((head : Token) × (es ≡ head ∷ []) × (is_head head ≡ true))
 

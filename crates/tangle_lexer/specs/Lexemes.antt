@@ -1,4 +1,4 @@
--- What stands at the front of the text, and what is known there.
+-- What is at the front of the text, and what is known there.
 use Rattle.std.specs.Prelude.{ℕ, Bool, List, [], ◌∷◌, ◌++◌, if◌then◌else◌, Option, None}
 use Rattle.tangle_lines.specs.declared.faults.FaultKind.{FaultKind}
 use Rattle.tangle_lexer.specs.declared.occurrences.OccurrenceRole.{OccurrenceRole}
@@ -11,17 +11,17 @@ use Rattle.tangle_lexer.specs.declared.tokens.Token.TheVariants as token
 use Rattle.tangle_lexer.specs.Bytes.{is_line_end}
 
 -- an occurrence of a section name as it is read: the text of the name, whether it is opened by @(, and the line of its first byte
-pub record NameRead : Type 0 where
+pub record ReadOccurrence : Type 0 where
   pub text : List ℕ
   pub is_file : Bool
   pub role : OccurrenceRole
   pub line : ℕ
 
--- What stands at the front of the text: its tokens, the occurrence of a name if it is one, how many cells it has after its first, and
+-- What is at the front of the text: its tokens, the occurrence of a name if it is one, how many cells it has after its first, and
 -- what is known behind it.
 pub record Lexeme : Type 0 where
   pub tokens : List Token
-  pub name : Option NameRead
+  pub name : Option ReadOccurrence
   pub more : ℕ
   pub after : ScanState
 

@@ -17,7 +17,7 @@ use Rattle.tangle_lexer.specs.declared.tokens.Token.TheVariants as token
 use Rattle.tangle_lexer.specs.Bytes.{at_sign, left_parenthesis, plus_sign, equals_sign, holds}
 use Rattle.tangle_lexer.specs.Text.{Cell, byte_at, line_at}
 use Rattle.tangle_lexer.specs.Regions.{count_before, from_units, region_end}
-use Rattle.tangle_lexer.specs.Lexemes.{NameRead, Lexeme, fault_if, in_mode, elsewhere}
+use Rattle.tangle_lexer.specs.Lexemes.{ReadOccurrence, Lexeme, fault_if, in_mode, elsewhere}
 use Rattle.tangle_lexer.specs.Comments.{has_end_code, two_if}
 
 -- the text of a name
@@ -26,7 +26,7 @@ use Rattle.tangle_lexer.specs.Comments.{has_end_code, two_if}
 abbrev pub name_byte : Option ℕ → ℕ
 name_byte b = unwrap_or b 32
 
--- @@ is @, and other codes are kept as two bytes
+-- @@ is @, and other control codes are kept as two bytes
 abbrev pub unit_name_bytes : Unit-of → Option ℕ → Option ℕ → List ℕ
 unit_name_bytes unit.Two b next = if holds at_sign next then at_sign ∷ [] else at_sign ∷ name_byte next ∷ []
 unit_name_bytes _ b next = name_byte b ∷ []
@@ -34,14 +34,14 @@ unit_name_bytes _ b next = name_byte b ∷ []
 abbrev pub name_bytes : Unit-of → Cell → Option ℕ → List ℕ
 name_bytes u c next = unit_name_bytes u c.byte next
 
--- A byte that isn't white space is put out, behind a space where white space stands between it and a byte before. The flags say whether
--- such a byte stands before, and whether white space stands directly before.
+-- A byte that isn't white space is added, behind a space where white space is between it and a byte before. The flags say whether
+-- such a byte is before, and whether white space is directly before.
 abbrev pub with_single_spaces : Bool → Bool → List ℕ → List ℕ
 with_single_spaces begun white [] = []
 with_single_spaces begun white (b ∷ bs) =
     (if is_white b then [] else if begun && white then 32 ∷ b ∷ [] else b ∷ []) ++ with_single_spaces (begun || not (is_white b)) (is_white b) bs
 
--- something was put out already
+-- something was added already
 abbrev pub has_begun : List ℕ → Bool
 has_begun name = nat_lt 0 (length name)
 
@@ -53,7 +53,7 @@ normal_form bytes = with_single_spaces false false bytes
 abbrev pub name_text : List Cell → List ℕ
 name_text text = normal_form (from_units name_bytes region.Name 0 text)
 
--- These bytes stand at the front of a text, and the rest behind them: where a name is read there, they belong to it.
+-- These bytes are at the front of a text, and the rest behind them: where a name is read there, they belong to it.
 pub record BeginsName (bytes : List ℕ) (text rest : List Cell) : Type 0 where
   pub units : from_units name_bytes region.Name 0 text ≡ bytes ++ from_units name_bytes region.Name 0 rest
   pub end : region_end region.Name text ≡ region_end region.Name rest
@@ -68,11 +68,11 @@ is_abbreviation text = bytes_eq (drop (length text - 3) text) dots
 
 -- where a name ends
 
--- how many cells stand between the opening of the name at the front and its end
+-- how many cells are between the opening of the name at the front and its end
 abbrev pub name_count : List Cell → ℕ
 name_count text = count_before region.Name 0 (drop 2 text)
 
--- the text from the end of the name on: @> stands there, or what cuts the name off
+-- the text from the end of the name on: @> is there, or what cuts the name off
 abbrev pub name_end : List Cell → List Cell
 name_end text = drop (name_count text) (drop 2 text)
 
@@ -92,7 +92,7 @@ name_faults last text = fault_if (not (is_ended text)) fault.NameEnd (line_at la
 
 -- what makes a name the head of a definition
 
--- how many cells stand before the equals sign: white space, + and white space
+-- how many cells are before the equals sign: white space, + and white space
 abbrev pub count_before_equals : List Cell → ℕ
 count_before_equals text =
     let first : ℕ = count_before region.White 0 text in
@@ -128,7 +128,7 @@ head_count text = if is_ended text then equals_count (behind_name text) else Non
 
 -- the lexemes of names
 
-abbrev pub name_read : OccurrenceRole → ℕ → List Cell → NameRead
+abbrev pub name_read : OccurrenceRole → ℕ → List Cell → ReadOccurrence
 name_read role last text = record {
   text = name_text (drop 2 text);
   is_file = holds left_parenthesis (byte_at 1 text);
@@ -142,14 +142,14 @@ name_lexeme role tokens more after text = record {
   tokens = tokens;
   name = Some (name_read role after.last text);
   more = more;
-  after = record after { names = after.names + 1 };
+  after = record after { occurrences = after.occurrences + 1 };
 }
 
 -- In C text a name is a use, also where it looks like the head of a definition, which is a fault. The use ends on the line of the name's end.
 abbrev pub use_of_name : ScanState → List Cell → Lexeme
 use_of_name s text =
     name_lexeme role.Use
-    (token.UseOf s.names (line_at s.last (name_end text))
+    (token.UseOf s.occurrences (line_at s.last (name_end text))
     ∷ name_faults s.last text ++ fault_if (has_single_equals (behind_name text)) fault.NameEquals (line_at s.last text))
     (name_more text) (elsewhere s) text
 
@@ -157,8 +157,8 @@ use_of_name s text =
 abbrev pub head_or_mention : Option ℕ → ScanState → List Cell → Lexeme
 head_or_mention None s text = name_lexeme role.Mention (name_faults s.last text) (name_more text) s text
 head_or_mention (Some count) s text =
-    name_lexeme role.Definition (token.NamedPart s.names (line_at s.last (drop (name_more text + count) text)) ∷ [])
-    (name_more text + count) (in_mode mode.Code s) text
+    name_lexeme role.Definition (token.NamedPart s.occurrences (line_at s.last (drop (name_more text + count) text)) ∷ [])
+    (name_more text + count) (in_mode mode.CPart s) text
 
 abbrev pub name_in_documentation : ScanState → List Cell → Lexeme
 name_in_documentation s text = head_or_mention (head_count text) s text

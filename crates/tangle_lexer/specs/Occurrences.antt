@@ -3,7 +3,7 @@ use Rattle.std.specs.Prelude.{ℕ, Bool, List}
 use Rattle.tangle_lines.specs.declared.faults.Origin.{Origin}
 use Rattle.tangle_lines.specs.Reading.{Line, place_at}
 use Rattle.tangle_lexer.specs.declared.occurrences.OccurrenceRole.{OccurrenceRole}
-use Rattle.tangle_lexer.specs.Lexemes.{NameRead}
+use Rattle.tangle_lexer.specs.Lexemes.{ReadOccurrence}
 use Rattle.tangle_lexer.specs.Names.{is_abbreviation}
 
 -- an occurrence of a section name: its text, an abbreviation's with its dots; whether it is abbreviated; whether it is opened by @(
@@ -15,7 +15,7 @@ pub record OccurrenceRead : Type 0 where
   pub place : Origin
 
 -- the occurrence that a name is which was read
-abbrev pub occurrence_of : List Line → NameRead → OccurrenceRead
+abbrev pub occurrence_of : List Line → ReadOccurrence → OccurrenceRead
 occurrence_of lines n = record {
   text = n.text;
   is_abbreviation = is_abbreviation n.text;

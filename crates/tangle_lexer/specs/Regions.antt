@@ -16,17 +16,17 @@ abbrev pub quoted_unit : ℕ → Option ℕ → Option ℕ → Unit-of
 quoted_unit close b next =
     unit_by (holds close b || is_line_end b) (are at_sign at_sign b next || holds backslash b && not (holds at_sign next))
 
--- What a region has where these two cells stand: its end; two cells that belong together; or one.
+-- What a region has where these two cells are: its end; two cells that belong together; or one.
 abbrev pub unit_of : Region → Option ℕ → Option ℕ → Unit-of
--- a comment ends at */; a code in it is taken with its two bytes, but a section start ends it too
+-- a comment ends at */; a control code in it is taken with its two bytes, but a section start ends it too
 unit_of region.Comment b next = unit_by (are asterisk slash b next || is_section_start b next) (holds at_sign b)
 -- the same for a comment that a line end ends
 unit_of region.LineComment b next = unit_by (is_line_end b || is_section_start b next) (holds at_sign b)
--- a control text ends at any code but @@
+-- a control text ends at any control code but @@
 unit_of region.ControlText b next = unit_by (holds at_sign b && not (holds at_sign next)) (holds at_sign b)
 -- a verbatim text ends at @> and at a line end; @@ belongs together
 unit_of region.Verbatim b next = unit_by (is_line_end b || is_end_code b next) (are at_sign at_sign b next)
--- a name ends at @>, at a section start, and where another name starts; other codes belong together
+-- a name ends at @>, at a section start, and where another name starts; other control codes belong together
 unit_of region.Name b next = unit_by (is_end_code b next || is_section_start b next || is_name_start b next) (holds at_sign b)
 unit_of region.DoubleQuote b next = quoted_unit double_quote b next
 unit_of region.Apostrophe b next = quoted_unit apostrophe b next
@@ -59,7 +59,7 @@ abbrev pub more_by : Unit-of → ℕ
 more_by unit.Two = 1
 more_by _ = 0
 
--- How many cells stand before the first place where the region ends (all, if there is none). The number handed in is how many cells
+-- How many cells are before the first place where the region ends (all, if there is none). The number handed in is how many cells
 -- are still to be passed over.
 abbrev pub count_before : Region → ℕ → List Cell → ℕ
 count_before r k [] = 0

@@ -18,7 +18,7 @@ use Rattle.tangle_lexer.specs.Lexemes.{Lexeme}
 use Rattle.tangle_lexer.specs.Comments.{has_end_code}
 use Rattle.tangle_lexer.specs.Steps.{code_at, kind_of, lexeme, at_first}
 
--- where bytes stand: a point is a line and a column of it, both from 0
+-- where bytes are: a point is a line and a column of it, both from 0
 
 -- so many columns of a line, from one on
 abbrev pub columns_from : ℕ → ℕ → ℕ → List (ℕ × ℕ)
@@ -36,17 +36,17 @@ cell_point (Some b) c = (c.line, c.column) ∷ []
 abbrev pub byte_points : List Cell → List (ℕ × ℕ)
 byte_points cells = flat_map (λ c. cell_point c.byte c) cells
 
--- What a segment is. All but the first are dropped: of a code, a section name and a constant comes what they stand for, and no byte.
+-- What a segment is. All but the first are dropped: of a control code, a section name and a constant comes what they represent, and no byte.
 pub data Fate : Type 0 where
   Kept : Fate  -- a word, a sign, or a part of a quoted or verbatim text
-  SecondSign : Fate  -- the second @ of an @@ that stands for one @
+  SecondSign : Fate  -- the second @ of an @@ that represents one @
   LineEnd : Fate
   WhiteSpace : Fate
   Comment : Fate
   ControlText : Fate
-  Code : Fate  -- @ and the byte behind it; of a section start, @ alone
+  ControlBytes : Fate  -- @ and the byte behind it; of a section start, @ alone
   SectionName : Fate  -- a use of one
-  Constant : Fate  -- @' and what belongs to it
+  AsciiConstant : Fate  -- @' and what belongs to it
   Outside : Fate  -- what is no text of a C part
 
 pub record Segment : Type 0 where
@@ -56,7 +56,7 @@ pub record Segment : Type 0 where
 abbrev pub segment : Fate → List Cell → Segment
 segment fate cells = record { fate = fate; cells = cells }
 
--- @ and the byte behind it are this code
+-- @ and the byte behind it are this control code
 abbrev pub OpensWith : ControlCode → List Cell → Type 0
 OpensWith kind cells = (holds at_sign (byte_at 0 cells) ≡ true) × (code_at (byte_at 1 cells) ≡ kind)
 
@@ -79,8 +79,8 @@ ShowsFate WhiteSpace cells = AllByRecursion (λ c. is_space c.byte ≡ true) cel
 ShowsFate Comment cells = IsBlockComment cells ⊎ IsLineComment cells
 ShowsFate ControlText cells = OpensWith code.ControlText cells
 ShowsFate SectionName cells = OpensWith code.Name cells
-ShowsFate Constant cells = OpensWith code.Constant cells
-ShowsFate Code cells = (holds at_sign (byte_at 0 cells) ≡ true) × (length cells ≤ 2)
+ShowsFate AsciiConstant cells = OpensWith code.AsciiConstant cells
+ShowsFate ControlBytes cells = (holds at_sign (byte_at 0 cells) ≡ true) × (length cells ≤ 2)
 ShowsFate Outside cells = Unit {0}
 
 -- the points of the bytes that it keeps
@@ -91,7 +91,7 @@ points_by _ cells = []
 abbrev pub kept_points : Segment → List (ℕ × ℕ)
 kept_points s = points_by s.fate s.cells
 
--- Of a quoted or verbatim text all bytes are kept but the second @ of each @@. The flag says whether the first @ of one stands directly
+-- Of a quoted or verbatim text all bytes are kept but the second @ of each @@. The flag says whether the first @ of one is directly
 -- before.
 abbrev pub text_fate : Bool → Cell → Fate
 text_fate half c = if is_line_end c.byte then LineEnd else if half && holds at_sign c.byte then SecondSign else Kept
@@ -100,22 +100,22 @@ abbrev pub text_segments : Bool → List Cell → List Segment
 text_segments half [] = []
 text_segments half (c ∷ cs) = segment (text_fate half c) (c ∷ []) ∷ text_segments (holds at_sign c.byte && not half) cs
 
--- @= before a verbatim text, and @> behind it, if it stands there
+-- @= before a verbatim text, and @> behind it, if it is there
 abbrev pub verbatim_segments : List Cell → List Segment
 verbatim_segments text =
     let inside : ℕ = count_before region.Verbatim 0 (drop 2 text) in
     let behind : List Cell = drop inside (drop 2 text) in
-    segment Code (take 2 text) ∷ text_segments false (take inside (drop 2 text))
-    ++ (if has_end_code behind then segment Code (take 2 behind) ∷ [] else [])
+    segment ControlBytes (take 2 text) ∷ text_segments false (take inside (drop 2 text))
+    ++ (if has_end_code behind then segment ControlBytes (take 2 behind) ∷ [] else [])
 
--- The segments of so many cells, by the code that they begin with.
+-- The segments of so many cells, by the control code that they begin with.
 abbrev pub code_segments : ControlCode → ℕ → List Cell → List Segment
 code_segments code.DoubleAt n text = segment Kept (take 1 text) ∷ segment SecondSign (take 1 (drop 1 text)) ∷ []
 code_segments code.Verbatim n text = verbatim_segments text
 code_segments code.ControlText n text = segment ControlText (take n text) ∷ []
 code_segments code.Name n text = segment SectionName (take n text) ∷ []
-code_segments code.Constant n text = segment Constant (take n text) ∷ []
-code_segments _ n text = segment Code (take n text) ∷ []
+code_segments code.AsciiConstant n text = segment AsciiConstant (take n text) ∷ []
+code_segments _ n text = segment ControlBytes (take n text) ∷ []
 
 -- The segments of so many cells of C text, by what begins there.
 abbrev pub c_segments : TokenKind → ℕ → List Cell → List Segment
@@ -131,7 +131,7 @@ c_segments _ n text = text_segments false (take n text)
 
 -- those of so many cells that are read in a mode: a C part is what is read in its own
 abbrev pub segments_in : Mode → ScanState → ℕ → List Cell → List Segment
-segments_in mode.Code s n text = c_segments (kind_of s.include text) n text
+segments_in mode.CPart s n text = c_segments (kind_of s.include text) n text
 segments_in _ s n text = segment Outside (take n text) ∷ []
 
 -- The segments of a text, lexeme by lexeme. The number handed in is how many cells are still to be passed over.

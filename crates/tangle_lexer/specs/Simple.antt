@@ -1,4 +1,4 @@
--- What stands in most places of C text: words, white space, signs and line ends that open nothing.
+-- What is in most places of C text: words, white space, signs and line ends that open nothing.
 use Rattle.std.specs.Prelude.{◌≡◌, ◌<◌, ℕ, Bool, true, false, ◌==◌, ◌||◌, not, if◌then◌else◌, List, length, Option, None, Some, IsSome}
 use Rattle.tangle_lines.specs.Bytes.{is_white}
 use Rattle.tangle_lexer.specs.declared.modes.Mode.{Mode}
@@ -33,7 +33,7 @@ simple_kind simple.White = token_kind.White
 simple_kind simple.Sign = token_kind.Other
 simple_kind simple.LineEnd = token_kind.LineEnd
 
--- this stands at the front, however much of #include was read
+-- this is at the front, however much of #include was read
 pub record IsSimple (text : List Cell) (kind : Simple) : Type 0 where
   pub inside : 0 < length text
   pub token_kind : (inc : IncludeState) → kind_of inc text ≡ simple_kind kind
@@ -41,6 +41,6 @@ pub record IsSimple (text : List Cell) (kind : Simple) : Type 0 where
 
 -- C text, also of a macro
 abbrev pub is_c_text : Mode → Bool
-is_c_text mode.Code = true
+is_c_text mode.CPart = true
 is_c_text mode.Macro = true
 is_c_text _ = false

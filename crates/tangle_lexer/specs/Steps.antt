@@ -20,7 +20,7 @@ use Rattle.tangle_lexer.specs.declared.tokens.Token.TheVariants as token
 use Rattle.tangle_lexer.specs.Bytes.{at_sign, asterisk, slash, less_sign, left_parenthesis, equals_sign, greater_sign, number_sign, double_quote, apostrophe, holds, is_word_byte, lower}
 use Rattle.tangle_lexer.specs.Text.{Cell, byte_at, bytes_of, line_at, span_at, text_from}
 use Rattle.tangle_lexer.specs.Regions.{count_before}
-use Rattle.tangle_lexer.specs.Lexemes.{NameRead, Lexeme, lexeme_of, in_mode, with_include, elsewhere, white_lexeme}
+use Rattle.tangle_lexer.specs.Lexemes.{ReadOccurrence, Lexeme, lexeme_of, in_mode, with_include, elsewhere, white_lexeme}
 use Rattle.tangle_lexer.specs.Comments.{block_comment, line_comment, control_text, starts_section}
 use Rattle.tangle_lexer.specs.Quoted.{quoted_text, verbatim_text}
 use Rattle.tangle_lexer.specs.Constants.{ascii_constant}
@@ -28,7 +28,7 @@ use Rattle.tangle_lexer.specs.Names.{use_of_name, name_in_documentation}
 
 -- what begins at a place
 
--- which code @ and this byte are
+-- which control code @ and this byte are
 abbrev pub code_of : ℕ → ControlCode
 code_of b =
     if is_white b || b == asterisk then code.SectionStart else
@@ -40,8 +40,8 @@ code_of b =
     if b == 94 || b == 46 || b == 58 || b == 116 || b == 113 then code.ControlText else  -- @^ @. @: @t @q
     if b == equals_sign then code.Verbatim else  -- @=
     if b == 38 then code.Join else  -- @&
-    if b == 104 then code.Defs else  -- @h
-    if b == apostrophe then code.Constant else code.Other  -- @'
+    if b == 104 then code.AllMacros else  -- @h
+    if b == apostrophe then code.AsciiConstant else code.Other  -- @'
 
 -- a capital letter counts as the small one
 abbrev pub code_at : Option ℕ → ControlCode
@@ -64,7 +64,7 @@ byte_kind inc b next =
     if is_white b then token_kind.White else
     if is_word_byte b then token_kind.Word else token_kind.Other
 
--- what begins where these two cells stand in C text
+-- what begins where these two cells are in C text
 abbrev pub kind_by : IncludeState → Option ℕ → Option ℕ → TokenKind
 kind_by inc None next = token_kind.LineEnd
 kind_by inc (Some b) next = if b == at_sign then token_kind.Control (code_at next) else byte_kind inc b next
@@ -113,29 +113,29 @@ section_start s = lexeme_of (token.Section ∷ []) 0 (in_mode mode.Documentation
 abbrev pub prose : ScanState → List Cell → Lexeme
 prose s text = lexeme_of [] (count_before region.Prose 0 (drop 1 text)) s
 
--- Limbo. All is passed over up to the first section start, a code with its two bytes.
+-- Limbo. All is passed over up to the first section start, a control code with its two bytes.
 abbrev pub limbo_lexeme : ScanState → List Cell → Lexeme
 limbo_lexeme s text =
     if starts_section text then section_start s else
     if holds at_sign (byte_at 0 text) then lexeme_of [] 1 s else prose s text
 
--- Documentation, by the code that stands there.
+-- Documentation, by the control code that is there.
 abbrev pub documentation_code : ControlCode → ScanState → List Cell → Lexeme
 documentation_code code.SectionStart s text = section_start s
 -- @d begins a macro
 documentation_code code.Macro s text = lexeme_of (token.MacroStart (line_at s.last text) ∷ []) 1 (in_mode mode.Macro s)
 -- @c and @p begin an unnamed C part
-documentation_code code.UnnamedPart s text = lexeme_of (token.UnnamedPart (line_at s.last text) ∷ []) 1 (in_mode mode.Code s)
+documentation_code code.UnnamedPart s text = lexeme_of (token.UnnamedPart (line_at s.last text) ∷ []) 1 (in_mode mode.CPart s)
 -- @< and @( begin a C part of that name where a head's = or == follows, and else mention it
 documentation_code code.Name s text = name_in_documentation s text
--- all other codes are passed over
+-- all other control codes are passed over
 documentation_code _ s text = lexeme_of [] 1 s
 
 abbrev pub documentation_lexeme : ScanState → List Cell → Lexeme
 documentation_lexeme s text =
     if holds at_sign (byte_at 0 text) then documentation_code (code_at (byte_at 1 text)) s text else prose s text
 
--- C text, by the code that stands there.
+-- C text, by the control code that is there.
 abbrev pub c_code : ControlCode → ScanState → List Cell → Lexeme
 c_code code.SectionStart s text = section_start s
 -- @@ is the sign @
@@ -153,10 +153,10 @@ c_code code.Verbatim s text = verbatim_text s text
 -- @&
 c_code code.Join s text = lexeme_of (token.Join ∷ []) 1 (elsewhere s)
 -- @h
-c_code code.Defs s text = lexeme_of (token.Defs (line_at s.last text) ∷ []) 1 (elsewhere s)
+c_code code.AllMacros s text = lexeme_of (token.AllMacros (line_at s.last text) ∷ []) 1 (elsewhere s)
 -- @'
-c_code code.Constant s text = ascii_constant s text
--- other codes are white space
+c_code code.AsciiConstant s text = ascii_constant s text
+-- other control codes are white space
 c_code code.Other s text = lexeme_of (token.White ∷ []) 1 s
 
 -- C text, by what begins there.
@@ -174,7 +174,7 @@ c_lexeme token_kind.Word s text = word s text
 c_lexeme token_kind.Other s text =
     lexeme_of (token.Text text_kind.Sign (span_at 1 text) ∷ []) 0 (with_include (include_after_sign (byte_at 0 text) s.include) s)
 
--- A macro is read as C text, but for codes that end it and then act as in documentation.
+-- A macro is read as C text, but for control codes that end it and then act as in documentation.
 abbrev pub macro_code : ControlCode → ScanState → List Cell → Lexeme
 macro_code code.Macro s text = documentation_code code.Macro s text
 macro_code code.UnnamedPart s text = documentation_code code.UnnamedPart s text
@@ -182,18 +182,18 @@ macro_code code.Name s text = documentation_code code.Name (in_mode mode.Documen
 -- @f and @s lead back to documentation
 macro_code code.Format s text = lexeme_of [] 1 (in_mode mode.Documentation s)
 -- @h is a fault and white space
-macro_code code.Defs s text = white_lexeme [] (token.Fault fault.MisplacedH (line_at s.last text) ∷ []) 1 s
+macro_code code.AllMacros s text = white_lexeme [] (token.Fault fault.MisplacedH (line_at s.last text) ∷ []) 1 s
 macro_code other s text = c_code other s text
 
 abbrev pub macro_lexeme : TokenKind → ScanState → List Cell → Lexeme
 macro_lexeme (token_kind.Control code) s text = macro_code code s text
 macro_lexeme other s text = c_lexeme other s text
 
--- what stands at the front of the text in a mode
+-- what is at the front of the text in a mode
 abbrev pub lexeme_in : Mode → ScanState → List Cell → Lexeme
 lexeme_in mode.Limbo s text = limbo_lexeme s text
 lexeme_in mode.Documentation s text = documentation_lexeme s text
-lexeme_in mode.Code s text = c_lexeme (kind_of s.include text) s text
+lexeme_in mode.CPart s text = c_lexeme (kind_of s.include text) s text
 lexeme_in mode.Macro s text = macro_lexeme (kind_of s.include text) s text
 
 unfoldable pub lexeme : ScanState → List Cell → Lexeme
@@ -210,16 +210,16 @@ unfoldable pub tokens_from : ScanState → List Cell → List Token
 tokens_from s text = flat_map (λ l. l.tokens) (lexemes 0 s text)
 
 -- the occurrences of names from a place on
-unfoldable pub names_from : ScanState → List Cell → List NameRead
-names_from s text = flat_map (λ l. option_to_list l.name) (lexemes 0 s text)
+unfoldable pub occurrences_from : ScanState → List Cell → List ReadOccurrence
+occurrences_from s text = flat_map (λ l. option_to_list l.name) (lexemes 0 s text)
 
 -- what is known before the first line of a source with so many lines
 abbrev pub at_first : ℕ → ScanState
-at_first count = record { mode = mode.Limbo; include = include.AtStart; names = 0; last = count - 1 }
+at_first count = record { mode = mode.Limbo; include = include.AtStart; occurrences = 0; last = count - 1 }
 
 -- the tokens and the occurrences of a whole source
 abbrev pub all_tokens : List Line → List Token
 all_tokens lines = tokens_from (at_first (length lines)) (text_from 0 lines)
 
-abbrev pub all_names : List Line → List NameRead
-all_names lines = names_from (at_first (length lines)) (text_from 0 lines)
+abbrev pub all_occurrences : List Line → List ReadOccurrence
+all_occurrences lines = occurrences_from (at_first (length lines)) (text_from 0 lines)

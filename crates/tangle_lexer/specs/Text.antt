@@ -39,7 +39,7 @@ abbrev pub column_at : List Cell → ℕ
 column_at [] = 0
 column_at (c ∷ cs) = c.column
 
--- so many bytes from the front on, which stand on one line
+-- so many bytes from the front on, which are on one line
 abbrev pub span_at : ℕ → List Cell → Span
 span_at count [] = record { line = 0; start = 0; end = 0 }
 span_at count (c ∷ cs) = record { line = c.line; start = c.column; end = c.column + count }

@@ -1,12 +1,15 @@
 //! The text that is still ahead of the scanner.
-ghost use Rattle.std.specs.Prelude.{◌≡◌, ◌≤◌, ◌<◌, ◌+◌, ◌^◌, ℕ, List, [], ◌∷◌, length, take, drop, get_or, Option, Some, None, slice_get, IsSome, IfSome, IfNone, true, false};
+ghost use Rattle.std.specs.Prelude.{◌≡◌, ◌≤◌, ◌<◌, ◌+◌, ◌^◌, ℕ, List, [], ◌∷◌, length, take, drop};
+ghost use Rattle.std.specs.Prelude.{get_or, Option, Some, None, slice_get, IsSome, IfSome, IfNone};
+ghost use Rattle.std.specs.Prelude.{true, false};
 ghost use Rattle.tangle_lines.specs.Bytes as lines;
 ghost use Rattle.tangle_lexer.specs.Ahead.{IsFront, run_length};
 ghost use Rattle.tangle_lexer.specs.Bytes as byte;
 ghost use Rattle.tangle_lexer.specs.Names.{BeginsName};
 ghost use Rattle.tangle_lexer.specs.declared.regions.Region.TheVariants as region;
 ghost use Rattle.tangle_lexer.specs.Steps.{word_more, is_include_word};
-ghost use Rattle.tangle_lexer.specs.Text.{text_from, byte_at, bytes_of, line_at, column_at, span_at};
+ghost use Rattle.tangle_lexer.specs.Text.{text_from, byte_at, bytes_of, line_at, column_at};
+ghost use Rattle.tangle_lexer.specs.Text.{span_at};
 ghost use Rattle.tangle_lexer.specs.Regions as regions;
 ghost use Rattle.tangle_lexer.specs.Regions.{count_before, more_by, region_end};
 
@@ -17,7 +20,7 @@ use memchr::memchr;
 use std::marker::Model;
 use tangle_lines::Source;
 
-/// What stands at a place and behind it: bytes, or line ends.
+/// What is at a place and behind it: bytes, or line ends.
 #[derive(Clone, Copy)]
 pub struct Front {
     pub byte: Option<u8>,
@@ -45,7 +48,8 @@ impl<'s, 'a> Model for Reader<'s, 'a> {
 
     ghost view = { λ r. rest_of r.source.now.lines r.text.now r.line r.column r.is_done };
 
-    ghost invariant = { λ r. (r.column ≤ length r.text.now) × ((r.is_done ≡ false → r.line < length r.source.now.lines)
+    ghost invariant = { λ r. (r.column ≤ length r.text.now)
+        × ((r.is_done ≡ false → r.line < length r.source.now.lines)
         × ((r.line ≤ 2000000) × (length r.text.now ≤ 65535))) };
 }
 
@@ -205,7 +209,7 @@ impl<'s, 'a> Reader<'s, 'a> {
         }
     }
 
-    /// What stands here, unless the text is at its end.
+    /// What is here, unless the text is at its end.
     pub fn front(&self) -> Option<Front>
         ensures front { IfSome result (λ front. IsFront self.now front) }
         ensures end { IfNone result (self.now ≡ []) }
@@ -222,7 +226,7 @@ impl<'s, 'a> Reader<'s, 'a> {
         Some(Front { byte, next })
     }
 
-    /// The byte that stands here; none at a line end, and none behind the last line.
+    /// The byte that is here; none at a line end, and none behind the last line.
     #[inline(always)]
     pub fn byte(&self) -> Option<u8>
         ensures { result ≡ byte_at 0 self.now }
@@ -277,7 +281,7 @@ impl<'s, 'a> Reader<'s, 'a> {
         if self.is_done { 0 } else { self.column }
     }
 
-    /// The column behind the byte that stands here.
+    /// The column behind the byte that is here.
     pub fn column_behind(&self) -> usize
         requires { IsSome (byte_at 0 self.now) }
         ensures column { result ≡ column_at self.now + 1 }
@@ -286,7 +290,7 @@ impl<'s, 'a> Reader<'s, 'a> {
         self.column + 1
     }
 
-    /// The span of the byte that stands here.
+    /// The span of the byte that is here.
     #[inline(always)]
     pub fn sign_span(&self) -> Span
         requires { IsSome (byte_at 0 self.now) }
@@ -398,19 +402,22 @@ impl<'s, 'a> Reader<'s, 'a> {
     #[inline(always)]
     pub fn skip_white(&mut self)
         requires { IsSome (byte_at 0 self.old) }
-        ensures { self.new ≡ drop (count_before region.White 0 (drop 1 self.old)) (drop 1 self.old) }
+        ensures { self.new ≡ drop (count_before region.White 0 (drop 1 self.old))
+            (drop 1 self.old) }
     {
         self.column = white_end(self.text, self.column + 1);
     }
 
-    /// Goes on in this line over bytes without a meaning in comments, control texts, quoted and verbatim texts.
+    /// Goes on in this line over bytes without a meaning in comments, control texts, quoted and
+    /// verbatim texts.
     pub fn skip_ordinary(&mut self)
         ensures { (n : ℕ) × (self.new ≡ drop n self.old) × regions.AreOrdinary n self.old }
     {
         self.column = ordinary_end(self.text, self.column);
     }
 
-    /// Takes the bytes of this line up to the next `@`, or to its end, which are bytes of a name where one is read.
+    /// Takes the bytes of this line up to the next `@`, or to its end, which are bytes of a name
+    /// where one is read.
     pub fn take_name_bytes(&mut self) -> &'a [u8]
         ensures { BeginsName result.now self.old self.new }
     {

@@ -4,11 +4,11 @@ ghost use Rattle.tangle_lines.specs.Bytes as lines;
 ghost use Rattle.tangle_lexer.specs.Bytes as spec;
 
 /// This byte.
-pub fn holds(wanted: u8, byte: Option<u8>) -> bool
-    ensures { result ≡ spec.holds wanted byte }
+pub fn holds(expected: u8, byte: Option<u8>) -> bool
+    ensures { result ≡ spec.holds expected byte }
 {
     match byte {
-        Some(byte) => byte == wanted,
+        Some(byte) => byte == expected,
         None => false,
     }
 }
@@ -20,7 +20,8 @@ pub fn is_white(byte: u8) -> bool
     byte == b' ' || byte == b'\t' || byte == b'\r' || byte == 11 || byte == 12
 }
 
-/// Whether each byte is a letter, a digit, `_`, `$` or past 127: words have more bytes than all else.
+/// Whether each byte is a letter, a digit, `_`, `$` or past 127: words have more bytes than all
+/// else.
 const WORD_BYTES: [bool; 256] = [
     false, false, false, false, false, false, false, false, false, false, false, false, false,
     false, false, false, false, false, false, false, false, false, false, false, false, false,

@@ -14,7 +14,7 @@ use crate::tokens::Token;
 use std::alloc::AllocError;
 use tangle_lines::FaultKind;
 
-/// Puts out the line end that stands here, if one does. Behind it `#include` may begin.
+/// Adds the line end that is here, if there is one. Behind it `#include` may begin.
 fn push_line_end(
     tokens: &mut Vec<Token>,
     include: IncludeState,
@@ -31,10 +31,10 @@ fn push_line_end(
     Ok(IncludeState::AtStart)
 }
 
-/// Goes on to the end of a comment or a control text, and puts out its line ends.
+/// Goes on to the end of a comment or a control text, and adds its line ends.
 ///
-/// Its line ends are line ends of the part: so the C has as many lines as the web there, and what stands behind the comment is on the
-/// line that the compiler counts, without a line mark.
+/// Its line ends are line ends of the part: so the C has as many lines as the web there, and what
+/// is behind the comment is on the line that the compiler counts, without a line mark.
 fn pass_line_ends(
     tokens: &mut Vec<Token>,
     ahead: &mut Reader,
@@ -43,7 +43,8 @@ fn pass_line_ends(
 ) -> Result<IncludeState, AllocError>
     requires { is_text region ≡ true }
     ensures ahead { OnOk result (ahead.new ≡ region_end region ahead.old) }
-    ensures tokens { OnOk result (tokens.new.items ≡ tokens.old.items ++ spec.line_ends region ahead.old) }
+    ensures tokens { OnOk result
+        (tokens.new.items ≡ tokens.old.items ++ spec.line_ends region ahead.old) }
     ensures include { IfOk result (λ after. after
         ≡ include_over (spec.line_ends region ahead.old) state.include) }
 {
@@ -60,7 +61,7 @@ fn pass_line_ends(
     Ok(include)
 }
 
-/// `*/` stands here.
+/// `*/` is here.
 fn ends_comment(ahead: &Reader) -> bool
     ensures { result ≡ spec.ends_comment ahead.now }
 {
@@ -70,7 +71,7 @@ fn ends_comment(ahead: &Reader) -> bool
     }
 }
 
-/// `@>` stands here.
+/// `@>` is here.
 pub fn has_end_code(ahead: &Reader) -> bool
     ensures { result ≡ spec.has_end_code ahead.now }
 {
@@ -80,7 +81,7 @@ pub fn has_end_code(ahead: &Reader) -> bool
     }
 }
 
-/// Goes on behind `@>`, if it stands here, and answers whether it does.
+/// Goes on behind `@>`, if it is here, and answers whether it does.
 pub fn pass_end_code(ahead: &mut Reader) -> bool
     ensures is_there { result ≡ spec.has_end_code ahead.old }
     ensures ahead { ahead.new ≡ drop (spec.two_if (spec.has_end_code ahead.old)) ahead.old }
@@ -92,7 +93,7 @@ pub fn pass_end_code(ahead: &mut Reader) -> bool
     false
 }
 
-/// A section start stands here.
+/// A section start is here.
 pub fn starts_section(ahead: &Reader) -> bool
     ensures { result ≡ spec.starts_section ahead.now }
 {
@@ -108,7 +109,8 @@ pub fn block_comment(
     ahead: &mut Reader,
     state: ScanState,
 ) -> Result<ScanState, AllocError>
-    ensures { IfOk result (λ after. IsRead tokens.old.items tokens.new.items ahead.old ahead.new after
+    ensures { IfOk result (λ after. IsRead tokens.old.items tokens.new.items ahead.old ahead.new
+        after
         (spec.block_comment state ahead.old)) }
 {
     tokens.push(Token::White)?;
@@ -128,7 +130,8 @@ pub fn line_comment(
     ahead: &mut Reader,
     state: ScanState,
 ) -> Result<ScanState, AllocError>
-    ensures { IfOk result (λ after. IsRead tokens.old.items tokens.new.items ahead.old ahead.new after
+    ensures { IfOk result (λ after. IsRead tokens.old.items tokens.new.items ahead.old ahead.new
+        after
         (spec.line_comment state ahead.old)) }
 {
     tokens.push(Token::White)?;
@@ -140,13 +143,14 @@ pub fn line_comment(
     Ok(state)
 }
 
-/// Reads the code of a control text, and the text up to `@>`.
+/// Reads the control code of a control text, and the text up to `@>`.
 pub fn control_text(
     tokens: &mut Vec<Token>,
     ahead: &mut Reader,
     state: ScanState,
 ) -> Result<ScanState, AllocError>
-    ensures { IfOk result (λ after. IsRead tokens.old.items tokens.new.items ahead.old ahead.new after
+    ensures { IfOk result (λ after. IsRead tokens.old.items tokens.new.items ahead.old ahead.new
+        after
         (spec.control_text state ahead.old)) }
 {
     tokens.push(Token::White)?;

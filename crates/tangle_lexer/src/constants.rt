@@ -14,7 +14,7 @@ use tangle_lines::FaultKind;
 
 /// A constant: its value, and how many bytes its character has.
 #[derive(Clone, Copy)]
-pub struct Constant {
+pub struct AsciiConstant {
     value: u8,
     count: usize,
 }
@@ -47,13 +47,13 @@ fn escape_value(byte: Option<u8>) -> Option<u8>
 }
 
 /// A character of so many bytes with this value is a constant where an apostrophe follows it.
-fn if_closed(ahead: &Reader, value: Option<u8>, count: usize) -> Option<Constant>
+fn if_closed(ahead: &Reader, value: Option<u8>, count: usize) -> Option<AsciiConstant>
     ensures { result ≡ spec.if_closed value count ahead.now }
 {
     match value {
         Some(value) => {
             if holds(b'\'', ahead.peek(count)) {
-                Some(Constant { value, count })
+                Some(AsciiConstant { value, count })
             } else {
                 None
             }
@@ -63,7 +63,7 @@ fn if_closed(ahead: &Reader, value: Option<u8>, count: usize) -> Option<Constant
 }
 
 /// The same for a value that may be too large.
-fn if_byte(ahead: &Reader, value: usize, count: usize) -> Option<Constant>
+fn if_byte(ahead: &Reader, value: usize, count: usize) -> Option<AsciiConstant>
     ensures { result ≡ spec.if_byte value count ahead.now }
 {
     if value <= 255 {
@@ -84,8 +84,8 @@ fn digit_at(ahead: &Reader, distance: usize) -> usize
     }
 }
 
-/// A backslash stands here, and an octal digit behind it.
-fn octal_constant(ahead: &Reader) -> Option<Constant>
+/// A backslash is here, and an octal digit behind it.
+fn octal_constant(ahead: &Reader) -> Option<AsciiConstant>
     ensures { result ≡ spec.octal_constant ahead.now }
 {
     let first = digit_at(ahead, 1);
@@ -100,8 +100,8 @@ fn octal_constant(ahead: &Reader) -> Option<Constant>
     if_byte(ahead, 64 * first + 8 * second + third, 4)
 }
 
-/// A backslash stands here.
-fn escaped_constant(ahead: &Reader) -> Option<Constant>
+/// A backslash is here.
+fn escaped_constant(ahead: &Reader) -> Option<AsciiConstant>
     ensures { result ≡ spec.escaped_constant ahead.now }
 {
     let next = ahead.peek(1);
@@ -111,8 +111,8 @@ fn escaped_constant(ahead: &Reader) -> Option<Constant>
     if_closed(ahead, escape_value(next), 2)
 }
 
-/// The constant whose character stands here.
-fn constant_at(ahead: &Reader) -> Option<Constant>
+/// The constant whose character is here.
+fn constant_at(ahead: &Reader) -> Option<AsciiConstant>
     ensures { result ≡ spec.constant_at ahead.now }
 {
     match ahead.byte() {
@@ -137,7 +137,8 @@ fn bad_constant(
     ahead: &mut Reader,
     state: ScanState,
 ) -> Result<ScanState, AllocError>
-    ensures { IfOk result (λ after. IsRead tokens.old.items tokens.new.items ahead.old ahead.new after
+    ensures { IfOk result (λ after. IsRead tokens.old.items tokens.new.items ahead.old ahead.new
+        after
         (spec.bad_constant state ahead.old)) }
 {
     tokens.push(Token::White)?;
@@ -156,7 +157,8 @@ pub fn ascii_constant(
     ahead: &mut Reader,
     state: ScanState,
 ) -> Result<ScanState, AllocError>
-    ensures { IfOk result (λ after. IsRead tokens.old.items tokens.new.items ahead.old ahead.new after
+    ensures { IfOk result (λ after. IsRead tokens.old.items tokens.new.items ahead.old ahead.new
+        after
         (spec.ascii_constant state ahead.old)) }
 {
     let mut character = ahead.copy();
@@ -164,7 +166,7 @@ pub fn ascii_constant(
     let Some(constant) = constant_at(&character) else {
         return bad_constant(tokens, ahead, state);
     };
-    tokens.push(Token::Constant(constant.value, ahead.line(state.last)))?;
+    tokens.push(Token::AsciiConstant(constant.value, ahead.line(state.last)))?;
     ahead.advance();
     ahead.skip(2 + constant.count);
     Ok(state.elsewhere())

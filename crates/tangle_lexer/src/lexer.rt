@@ -1,7 +1,8 @@
 //! The scanner: from the text to its tokens, one C part or macro at a time.
-ghost use Rattle.std.specs.Prelude.{◌≡◌, ◌<◌, ◌++◌, [], false, true, length, map, IfOk, IfSome, IfNone, OnOk, option_to_list};
+ghost use Rattle.std.specs.Prelude.{◌≡◌, ◌<◌, ◌++◌, [], false, true, length, map, IfOk, IfSome};
+ghost use Rattle.std.specs.Prelude.{IfNone, OnOk, option_to_list};
 ghost use Rattle.std.specs.List.{list_any};
-ghost use Rattle.tangle_lexer.specs.Steps.{at_first, tokens_from, names_from};
+ghost use Rattle.tangle_lexer.specs.Steps.{at_first, tokens_from, occurrences_from};
 ghost use Rattle.tangle_lexer.specs.Occurrences.{occurrence_of};
 ghost use Rattle.tangle_lexer.specs.Heads.{is_head as is_head_token};
 ghost use Rattle.tangle_lexer.specs.Heads.{PopsHead};
@@ -32,7 +33,7 @@ pub fn first_state(source: &Source) -> ScanState
     ScanState {
         mode: Mode::Limbo,
         include: IncludeState::AtStart,
-        names: 0,
+        occurrences: 0,
         last: source.count().saturating_sub(1) as u32,
     }
 }
@@ -47,8 +48,8 @@ fn pop_head(tokens: &mut Vec<Token>) -> Option<Token>
     }
 }
 
-/// Reads the tokens before the next head, and answers that head and what is known behind it; or those before the end of the text.
-/// The tokens read before are dropped.
+/// Reads the tokens before the next head, and answers that head and what is known behind it; or
+/// those before the end of the text. The tokens read before are dropped.
 pub fn next_block(
     alloc: Global,
     source: &Source,
@@ -56,17 +57,19 @@ pub fn next_block(
     ahead: &mut Reader,
     from: ScanState,
 ) -> Result<(ScanState, Option<Token>), AllocError>
-    requires { from.names ≡ length output.old.occurrences.items }
+    requires { from.occurrences ≡ length output.old.occurrences.items }
     ensures tokens { IfOk result (λ next. tokens_from from ahead.old
         ≡ output.new.tokens.items ++ option_to_list next.1 ++ tokens_from next.0 ahead.new) }
     ensures no_head { OnOk result (list_any is_head_token output.new.tokens.items ≡ false) }
     ensures head { IfOk result (λ next. IfSome next.1 (λ head. is_head_token head ≡ true)) }
     ensures end { IfOk result (λ next. IfNone next.1 (ahead.new ≡ [])) }
-    ensures shorter { IfOk result (λ next. IfSome next.1 (λ head. length ahead.new < length ahead.old)) }
+    ensures shorter { IfOk result
+        (λ next. IfSome next.1 (λ head. length ahead.new < length ahead.old)) }
     ensures names { IfOk result (λ next. output.new.occurrences.items
-        ++ map (occurrence_of source.now.lines) (names_from next.0 ahead.new)
-        ≡ output.old.occurrences.items ++ map (occurrence_of source.now.lines) (names_from from ahead.old)) }
-    ensures count { IfOk result (λ next. next.0.names ≡ length output.new.occurrences.items) }
+        ++ map (occurrence_of source.now.lines) (occurrences_from next.0 ahead.new)
+        ≡ output.old.occurrences.items ++ map (occurrence_of source.now.lines)
+        (occurrences_from from ahead.old)) }
+    ensures count { IfOk result (λ next. next.0.occurrences ≡ length output.new.occurrences.items) }
 {
     output.tokens.clear();
     let mut state = from;

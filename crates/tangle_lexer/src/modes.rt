@@ -11,7 +11,7 @@ pub enum Mode {
     /// The text before the first section.
     Limbo,
     Documentation,
-    Code,
+    CPart,
     Macro,
 }
 
@@ -31,8 +31,8 @@ pub enum IncludeState {
 /// What is known at a place of the text.
 #[derive(Clone, Copy)]
 pub struct ScanState {
-    /// How many names were read before.
-    pub names: usize,
+    /// How many occurrences of names were read before.
+    pub occurrences: usize,
     /// The number of the last source line.
     pub last: u32,
     pub mode: Mode,
@@ -79,7 +79,8 @@ impl ScanState {
 
     /// A word was read.
     pub fn after_word(self, is_include: bool) -> Self
-        ensures { result ≡ lexemes.with_include (steps.include_after_word is_include self.include) self }
+        ensures { result ≡ lexemes.with_include (steps.include_after_word is_include self.include)
+            self }
     {
         match self.include {
             IncludeState::AfterSign if is_include => self.with_include(IncludeState::AfterInclude),

@@ -1,5 +1,6 @@
 //! Section names.
-ghost use Rattle.std.specs.Prelude.{◌≡◌, ◌+◌, ◌++◌, [], ◌∷◌, ℕ, List, length, drop, IfOk, OnOk, not, Option, Some, None};
+ghost use Rattle.std.specs.Prelude.{◌≡◌, ◌+◌, ◌++◌, [], ◌∷◌, ℕ, List, length, drop, IfOk, OnOk};
+ghost use Rattle.std.specs.Prelude.{not, Option, Some, None};
 ghost use Rattle.tangle_lexer.specs.Ahead.{IsFront, IsRead};
 ghost use Rattle.tangle_lexer.specs.Bytes as byte;
 ghost use Rattle.tangle_lexer.specs.Text.{byte_at, line_at, front_cell};
@@ -11,7 +12,7 @@ ghost use Rattle.tangle_lexer.specs.declared.tokens.Token.TheVariants as token;
 ghost use Rattle.tangle_lexer.specs.Lexemes.{fault_if, in_mode};
 ghost use Rattle.tangle_lexer.specs.declared.modes.Mode.TheVariants as mode;
 ghost use Rattle.tangle_lexer.specs.declared.occurrences.OccurrenceRole.TheVariants as role;
-ghost use Rattle.tangle_lexer.specs.Ahead.{PassesHead, AddsName};
+ghost use Rattle.tangle_lexer.specs.Ahead.{PassesHead, AddsOccurrence};
 ghost use Rattle.tangle_lexer.specs.Names as spec;
 
 use crate::ahead::{Front, Reader};
@@ -31,7 +32,7 @@ pub struct LexerOutput {
     pub occurrences: Vec<Occurrence>,
 }
 
-/// What stands where the head of a definition may end.
+/// What is where the head of a definition may end.
 #[derive(Clone, Copy)]
 pub enum Equals {
     Absent,
@@ -54,11 +55,12 @@ struct Name {
     is_ended: bool,
 }
 
-/// Adds a byte to a name in normal form, and answers whether white space stands at its end.
+/// Adds a byte to a name in normal form, and answers whether white space is at its end.
 fn push_byte(name: &mut Vec<u8>, white: bool, byte: u8) -> Result<bool, AllocError>
     ensures { IfOk result (λ after. (bytes : List ℕ) →
         name.new.items ++ spec.with_single_spaces (spec.has_begun name.new.items) after bytes
-        ≡ name.old.items ++ spec.with_single_spaces (spec.has_begun name.old.items) white (byte ∷ bytes)) }
+        ≡ name.old.items ++ spec.with_single_spaces (spec.has_begun name.old.items) white
+        (byte ∷ bytes)) }
 {
     if is_white(byte) {
         return Ok(true);
@@ -104,7 +106,8 @@ fn push_unit(name: &mut Vec<u8>, white: bool, unit: Unit, front: Front) -> Resul
 fn push_bytes(name: &mut Vec<u8>, white: bool, bytes: &[u8]) -> Result<bool, AllocError>
     ensures { IfOk result (λ after. (more : List ℕ) →
         name.new.items ++ spec.with_single_spaces (spec.has_begun name.new.items) after more
-        ≡ name.old.items ++ spec.with_single_spaces (spec.has_begun name.old.items) white (bytes.now ++ more)) }
+        ≡ name.old.items ++ spec.with_single_spaces (spec.has_begun name.old.items) white
+        (bytes.now ++ more)) }
 {
     let mut after = white;
     for byte in bytes {
@@ -138,7 +141,8 @@ fn read_text(alloc: Global, ahead: &mut Reader) -> Result<Vec<u8>, AllocError>
 /// Reads a name from its opening on, and goes on behind it.
 fn read_name(alloc: Global, ahead: &mut Reader, last: u32) -> Result<Name, AllocError>
     ensures text { IfOk result (λ name. name.text.items ≡ spec.name_text (drop 2 ahead.old)) }
-    ensures is_file { IfOk result (λ name. name.is_file ≡ byte.holds byte.left_parenthesis (byte_at 1 ahead.old)) }
+    ensures is_file { IfOk result
+        (λ name. name.is_file ≡ byte.holds byte.left_parenthesis (byte_at 1 ahead.old)) }
     ensures line { IfOk result (λ name. name.line ≡ line_at last ahead.old) }
     ensures end { IfOk result (λ name. name.end ≡ line_at last (spec.name_end ahead.old)) }
     ensures is_ended { IfOk result (λ name. name.is_ended ≡ spec.is_ended ahead.old) }
@@ -176,7 +180,7 @@ fn is_abbreviation(text: &[u8]) -> bool
     &text[text.len().saturating_sub(3)..] == b"...".as_slice()
 }
 
-/// Puts out the occurrence of a name.
+/// Adds the occurrence of a name.
 fn push_name(
     source: &Source,
     occurrences: &mut Vec<Occurrence>,
@@ -197,7 +201,7 @@ fn push_name(
     Ok(())
 }
 
-/// Goes on to where the equals sign of a head may stand: over white space, `+` and white space.
+/// Goes on to where the equals sign of a head may be: over white space, `+` and white space.
 fn skip_to_equals(ahead: &mut Reader)
     ensures { ahead.new ≡ drop (spec.count_before_equals ahead.old) ahead.old }
 {
@@ -208,7 +212,7 @@ fn skip_to_equals(ahead: &mut Reader)
     }
 }
 
-/// What stands here of an equals sign.
+/// What is here of an equals sign.
 fn equals_at(ahead: &Reader) -> Equals
     ensures { result ≡ spec.equals_by (byte_at 0 ahead.now) (byte_at 1 ahead.now) }
 {
@@ -224,7 +228,7 @@ fn equals_at(ahead: &Reader) -> Equals
     }
 }
 
-/// Whether `=` alone stands where the head of a definition would end.
+/// Whether `=` alone is where the head of a definition would end.
 fn has_single_equals(ahead: &Reader) -> bool
     ensures { result ≡ spec.has_single_equals ahead.now }
 {
@@ -233,7 +237,7 @@ fn has_single_equals(ahead: &Reader) -> bool
     matches!(equals_at(&further), Equals::Single)
 }
 
-/// Puts out a use of this name, and its faults.
+/// Adds a use of this name, and its faults.
 fn push_use(
     tokens: &mut Vec<Token>,
     name: &Name,
@@ -262,25 +266,28 @@ pub fn use_of_name(
     ahead: &mut Reader,
     state: ScanState,
 ) -> Result<ScanState, AllocError>
-    requires { state.names ≡ length output.old.occurrences.items }
-    ensures read { IfOk result (λ after. IsRead output.old.tokens.items output.new.tokens.items ahead.old ahead.new after
+    requires { state.occurrences ≡ length output.old.occurrences.items }
+    ensures read { IfOk result
+        (λ after. IsRead output.old.tokens.items output.new.tokens.items ahead.old ahead.new after
         (spec.use_of_name state ahead.old)) }
-    ensures names { OnOk result (AddsName source.now.lines output.old.occurrences.items output.new.occurrences.items
+    ensures names { OnOk result
+        (AddsOccurrence source.now.lines output.old.occurrences.items output.new.occurrences.items
         (spec.use_of_name state ahead.old).name) }
 {
     let name = read_name(alloc, ahead, state.last)?;
     let equals = has_single_equals(ahead);
-    push_use(&mut output.tokens, &name, state.names, equals)?;
+    push_use(&mut output.tokens, &name, state.occurrences, equals)?;
     push_name(source, &mut output.occurrences, name, OccurrenceRole::Use)?;
     Ok(ScanState {
-        names: output.occurrences.len(),
+        occurrences: output.occurrences.len(),
         ..state.elsewhere()
     })
 }
 
-/// Goes on behind the head of a definition, if one stands here, and answers the line on which it ends.
+/// Goes on behind the head of a definition, if one is here, and answers the line on which it ends.
 fn pass_head(ahead: &mut Reader, last: u32) -> Option<u32>
-    ensures { PassesHead (spec.equals_in ahead.old) (spec.count_before_equals ahead.old) last ahead.old ahead.new result }
+    ensures { PassesHead (spec.equals_in ahead.old) (spec.count_before_equals ahead.old) last
+        ahead.old ahead.new result }
 {
     let mut further = ahead.copy();
     skip_to_equals(&mut further);
@@ -302,14 +309,14 @@ fn pass_head(ahead: &mut Reader, last: u32) -> Option<u32>
     }
 }
 
-/// Puts out a mention, and its fault.
+/// Adds a mention, and its fault.
 fn mention(
     source: &Source,
     output: &mut LexerOutput,
     name: Name,
     state: ScanState,
 ) -> Result<ScanState, AllocError>
-    requires { state.names ≡ length output.old.occurrences.items }
+    requires { state.occurrences ≡ length output.old.occurrences.items }
     ensures tokens { OnOk result (output.new.tokens.items
         ≡ output.old.tokens.items ++ fault_if (not name.is_ended) fault.NameEnd name.end) }
     ensures names { OnOk result (output.new.occurrences.items ≡ output.old.occurrences.items
@@ -319,7 +326,8 @@ fn mention(
           role = role.Mention;
           line = name.line;
         }) ∷ []) }
-    ensures state { IfOk result (λ after. after ≡ record state { names = state.names + 1 }) }
+    ensures state { IfOk result
+        (λ after. after ≡ record state { occurrences = state.occurrences + 1 }) }
 {
     if !name.is_ended {
         output
@@ -333,12 +341,12 @@ fn mention(
         OccurrenceRole::Mention,
     )?;
     Ok(ScanState {
-        names: output.occurrences.len(),
+        occurrences: output.occurrences.len(),
         ..state
     })
 }
 
-/// Puts out the head of a definition, which ends on this line.
+/// Adds the head of a definition, which ends on this line.
 fn definition(
     source: &Source,
     output: &mut LexerOutput,
@@ -346,9 +354,9 @@ fn definition(
     line: u32,
     state: ScanState,
 ) -> Result<ScanState, AllocError>
-    requires { state.names ≡ length output.old.occurrences.items }
+    requires { state.occurrences ≡ length output.old.occurrences.items }
     ensures tokens { OnOk result (output.new.tokens.items
-        ≡ output.old.tokens.items ++ token.NamedPart state.names line ∷ []) }
+        ≡ output.old.tokens.items ++ token.NamedPart state.occurrences line ∷ []) }
     ensures names { OnOk result (output.new.occurrences.items ≡ output.old.occurrences.items
         ++ occurrence_of source.now.lines (record {
           text = name.text.items;
@@ -356,9 +364,13 @@ fn definition(
           role = role.Definition;
           line = name.line;
         }) ∷ []) }
-    ensures state { IfOk result (λ after. after ≡ record (in_mode mode.Code state) { names = state.names + 1 }) }
+    ensures state { IfOk result
+        (λ after. after ≡ record (in_mode mode.CPart state)
+        { occurrences = state.occurrences + 1 }) }
 {
-    output.tokens.push(Token::NamedPart(state.names, line))?;
+    output
+        .tokens
+        .push(Token::NamedPart(state.occurrences, line))?;
     push_name(
         source,
         &mut output.occurrences,
@@ -366,8 +378,8 @@ fn definition(
         OccurrenceRole::Definition,
     )?;
     Ok(ScanState {
-        names: output.occurrences.len(),
-        ..state.in_mode(Mode::Code)
+        occurrences: output.occurrences.len(),
+        ..state.in_mode(Mode::CPart)
     })
 }
 
@@ -379,10 +391,12 @@ pub fn name_in_documentation(
     ahead: &mut Reader,
     state: ScanState,
 ) -> Result<ScanState, AllocError>
-    requires { state.names ≡ length output.old.occurrences.items }
-    ensures read { IfOk result (λ after. IsRead output.old.tokens.items output.new.tokens.items ahead.old ahead.new after
+    requires { state.occurrences ≡ length output.old.occurrences.items }
+    ensures read { IfOk result
+        (λ after. IsRead output.old.tokens.items output.new.tokens.items ahead.old ahead.new after
         (spec.name_in_documentation state ahead.old)) }
-    ensures names { OnOk result (AddsName source.now.lines output.old.occurrences.items output.new.occurrences.items
+    ensures names { OnOk result
+        (AddsOccurrence source.now.lines output.old.occurrences.items output.new.occurrences.items
         (spec.name_in_documentation state ahead.old).name) }
 {
     let name = read_name(alloc, ahead, state.last)?;

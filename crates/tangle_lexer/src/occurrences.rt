@@ -9,9 +9,9 @@ use tangle_lines::Origin;
 pub enum OccurrenceRole {
     /// It heads a C part.
     Definition,
-    /// It stands in C text.
+    /// It is in C text.
     Use,
-    /// It stands in documentation.
+    /// It is in documentation.
     Mention,
 }
 
@@ -65,7 +65,8 @@ impl Occurrence {
         }
     }
 
-    /// The name: white space at its ends is dropped, inner runs are one space, and `@@` is `@`. An abbreviation has its dots.
+    /// The name: white space at its ends is dropped, inner runs are one space, and `@@` is `@`. An
+    /// abbreviation has its dots.
     pub fn text(&self) -> &[u8]
         ensures { result.now ≡ self.now.text }
     {

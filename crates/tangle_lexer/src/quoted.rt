@@ -30,7 +30,7 @@ fn kind_in(region: Region) -> TextKind
     }
 }
 
-/// Puts out a range of a line, unless it is empty.
+/// Adds a range of a line, unless it is empty.
 fn push_range(
     tokens: &mut Vec<Token>,
     region: Region,
@@ -39,7 +39,8 @@ fn push_range(
     end: usize,
 ) -> Result<(), AllocError>
     requires { end ≤ 65535 }
-    ensures { OnOk result (tokens.new.items ≡ tokens.old.items ++ spec.cut_range region line start end) }
+    ensures { OnOk result (tokens.new.items ≡ tokens.old.items
+        ++ spec.cut_range region line start end) }
 {
     if start < end {
         let span = Span {
@@ -52,7 +53,8 @@ fn push_range(
     Ok(())
 }
 
-/// Puts out what a unit gives that is not the end of its region, and answers where the next range starts.
+/// Adds what a unit gives that is not the end of its region, and answers where the next range
+/// starts.
 fn push_unit(
     tokens: &mut Vec<Token>,
     ahead: &Reader,
@@ -63,7 +65,8 @@ fn push_unit(
     line: u32,
 ) -> Result<usize, AllocError>
     requires { IsFront ahead.now front }
-    ensures tokens { (last : ℕ) → line ≡ line_at last ahead.now → OnOk result (tokens.new.items ≡ tokens.old.items
+    ensures tokens { (last : ℕ) → line ≡ line_at last ahead.now
+        → OnOk result (tokens.new.items ≡ tokens.old.items
         ++ spec.unit_tokens region unit start (front_cell last ahead.now) (byte_at 1 ahead.now)) }
     ensures start { (last : ℕ) → IfOk result (λ next. next
         ≡ spec.next_start unit start (front_cell last ahead.now) (byte_at 1 ahead.now)) }
@@ -123,7 +126,8 @@ fn end_quote(
 ) -> Result<(), AllocError>
     ensures tokens { OnOk result (tokens.new.items ≡ tokens.old.items
         ++ spec.quote_end region close last start ahead.old) }
-    ensures ahead { OnOk result (ahead.new ≡ drop (spec.one_if (byte.holds close (byte_at 0 ahead.old))) ahead.old) }
+    ensures ahead { OnOk result
+        (ahead.new ≡ drop (spec.one_if (byte.holds close (byte_at 0 ahead.old))) ahead.old) }
 {
     let Some(front) = ahead.front() else {
         tokens.push(Token::Fault(FaultKind::StringEnd, last))?;
@@ -149,7 +153,8 @@ pub fn quoted_text(
     state: ScanState,
 ) -> Result<ScanState, AllocError>
     requires { is_text region ≡ true }
-    ensures { IfOk result (λ after. IsRead tokens.old.items tokens.new.items ahead.old ahead.new after
+    ensures { IfOk result (λ after. IsRead tokens.old.items tokens.new.items ahead.old ahead.new
+        after
         (spec.quoted_text region close state ahead.old)) }
 {
     let opening = ahead.column();
@@ -169,7 +174,8 @@ fn end_verbatim(
     start: usize,
     last: u32,
 ) -> Result<(), AllocError>
-    ensures { OnOk result (tokens.new.items ≡ tokens.old.items ++ spec.verbatim_end start ahead.now) }
+    ensures { OnOk result (tokens.new.items ≡ tokens.old.items
+        ++ spec.verbatim_end start ahead.now) }
 {
     let Some(front) = ahead.front() else {
         return Ok(());
@@ -192,10 +198,11 @@ fn ends_at_once(ahead: &Reader, region: Region) -> bool
     }
 }
 
-/// Puts out an empty verbatim text.
+/// Adds an empty verbatim text.
 fn push_empty(tokens: &mut Vec<Token>, ahead: &Reader) -> Result<(), AllocError>
     ensures { OnOk result (tokens.new.items
-        ≡ tokens.old.items ++ token.Text text_kind.Verbatim (span_at 0 ahead.now) ∷ spec.empty_end ahead.now) }
+        ≡ tokens.old.items ++ token.Text text_kind.Verbatim (span_at 0 ahead.now)
+        ∷ spec.empty_end ahead.now) }
 {
     let line = ahead.line(0);
     let column = ahead.column() as u16;
@@ -213,9 +220,10 @@ fn push_empty(tokens: &mut Vec<Token>, ahead: &Reader) -> Result<(), AllocError>
     Ok(())
 }
 
-/// Puts out a verbatim text, from behind its code on.
+/// Adds a verbatim text, from behind its control code on.
 fn push_verbatim(tokens: &mut Vec<Token>, ahead: &mut Reader, last: u32) -> Result<(), AllocError>
-    ensures tokens { OnOk result (tokens.new.items ≡ tokens.old.items ++ spec.verbatim_tokens ahead.old) }
+    ensures tokens { OnOk result
+        (tokens.new.items ≡ tokens.old.items ++ spec.verbatim_tokens ahead.old) }
     ensures ahead { OnOk result (ahead.new ≡ region_end region.Verbatim ahead.old) }
 {
     if ends_at_once(ahead, Region::Verbatim) {
@@ -233,7 +241,8 @@ pub fn verbatim_text(
     ahead: &mut Reader,
     state: ScanState,
 ) -> Result<ScanState, AllocError>
-    ensures { IfOk result (λ after. IsRead tokens.old.items tokens.new.items ahead.old ahead.new after
+    ensures { IfOk result (λ after. IsRead tokens.old.items tokens.new.items ahead.old ahead.new
+        after
         (spec.verbatim_text state ahead.old)) }
 {
     ahead.pass(Unit::Two);

@@ -50,7 +50,7 @@ fn quoted_unit(close: u8, byte: Option<u8>, next: Option<u8>) -> Unit
     unit_by(holds(close, byte) || byte.is_none(), is_two)
 }
 
-/// What a region has where this byte or line end stands before that one.
+/// What a region has where this byte or line end is before that one.
 #[inline(always)]
 pub fn unit_of(region: Region, byte: Option<u8>, next: Option<u8>) -> Unit
     ensures { result ≡ spec.unit_of region byte next }

@@ -4,7 +4,7 @@ ghost use Rattle.std.specs.List.{list_any};
 ghost use Rattle.tangle_lexer.specs.Ahead.{IsRead};
 ghost use Rattle.tangle_lexer.specs.Simple.{IsSimple, simple_kind};
 ghost use Rattle.tangle_lexer.specs.Simple as spec;
-ghost use Rattle.tangle_lexer.specs.Steps.{c_lexeme, tokens_from, names_from};
+ghost use Rattle.tangle_lexer.specs.Steps.{c_lexeme, tokens_from, occurrences_from};
 ghost use Rattle.tangle_lexer.specs.Heads.{is_head};
 
 use crate::ahead::Reader;
@@ -15,7 +15,7 @@ use crate::steps::{line_end, sign, white_space, word};
 use crate::tokens::Token;
 use std::alloc::AllocError;
 
-/// What stands in most places of C text.
+/// What is in most places of C text.
 #[derive(Clone, Copy)]
 pub enum Simple {
     Word,
@@ -71,7 +71,7 @@ fn simple_of(byte: u8) -> Option<Simple>
     }
 }
 
-/// What stands here, if it opens nothing longer.
+/// What is here, if it opens nothing longer.
 #[inline(always)]
 fn simple_at(ahead: &Reader) -> Option<Simple>
     ensures { IfSome result (λ simple. IsSimple ahead.now simple) }
@@ -83,7 +83,7 @@ fn simple_at(ahead: &Reader) -> Option<Simple>
     }
 }
 
-/// Reads what stands here.
+/// Reads what is here.
 #[inline(always)]
 fn simple_step(
     tokens: &mut Vec<Token>,
@@ -92,7 +92,8 @@ fn simple_step(
     simple: Simple,
 ) -> Result<ScanState, AllocError>
     requires { IsSimple ahead.old simple }
-    ensures { IfOk result (λ after. IsRead tokens.old.items tokens.new.items ahead.old ahead.new after
+    ensures { IfOk result (λ after. IsRead tokens.old.items tokens.new.items ahead.old ahead.new
+        after
         (c_lexeme (simple_kind simple) state ahead.old)) }
 {
     match simple {
@@ -110,7 +111,7 @@ fn simple_step(
 fn is_c_text(mode: Mode) -> bool
     ensures { result ≡ spec.is_c_text mode }
 {
-    matches!(mode, Mode::Code | Mode::Macro)
+    matches!(mode, Mode::CPart | Mode::Macro)
 }
 
 /// In C text, reads on up to what may be longer; in other text, reads nothing.
@@ -123,8 +124,9 @@ pub fn read_simple(
         ≡ tokens.old.items ++ tokens_from from ahead.old) }
     ensures no_head { list_any is_head tokens.old.items ≡ false →
         OnOk result (list_any is_head tokens.new.items ≡ false) }
-    ensures names { IfOk result (λ after. names_from after ahead.new ≡ names_from from ahead.old) }
-    ensures count { IfOk result (λ after. after.names ≡ from.names) }
+    ensures names { IfOk result
+        (λ after. occurrences_from after ahead.new ≡ occurrences_from from ahead.old) }
+    ensures count { IfOk result (λ after. after.occurrences ≡ from.occurrences) }
     ensures shorter { OnOk result (length ahead.new ≤ length ahead.old) }
 {
     if !is_c_text(from.mode) {

@@ -1,6 +1,6 @@
-//! What stands at a place, by the mode.
+//! What is at a place, by the mode.
 ghost use Rattle.std.specs.Prelude.{◌≡◌, ◌++◌, [], ◌∷◌, length, drop, IfOk, OnOk, IsSome};
-ghost use Rattle.tangle_lexer.specs.Ahead.{AddsName, IsFront, IsRead};
+ghost use Rattle.tangle_lexer.specs.Ahead.{AddsOccurrence, IsFront, IsRead};
 ghost use Rattle.tangle_lexer.specs.Text.{byte_at, line_at, span_at};
 ghost use Rattle.tangle_lexer.specs.Regions.{count_before, more_by};
 ghost use Rattle.tangle_lexer.specs.declared.regions.Region.TheVariants as region;
@@ -29,7 +29,8 @@ fn section_start(
     ahead: &mut Reader,
     state: ScanState,
 ) -> Result<ScanState, AllocError>
-    ensures { IfOk result (λ after. IsRead tokens.old.items tokens.new.items ahead.old ahead.new after
+    ensures { IfOk result (λ after. IsRead tokens.old.items tokens.new.items ahead.old ahead.new
+        after
         (spec.section_start state)) }
 {
     tokens.push(Token::Section)?;
@@ -53,7 +54,8 @@ fn limbo(
     front: Front,
 ) -> Result<ScanState, AllocError>
     requires { IsFront ahead.old front }
-    ensures { IfOk result (λ after. IsRead tokens.old.items tokens.new.items ahead.old ahead.new after
+    ensures { IfOk result (λ after. IsRead tokens.old.items tokens.new.items ahead.old ahead.new
+        after
         (spec.limbo_lexeme state ahead.old)) }
 {
     if is_section_start(front.byte, front.next) {
@@ -75,7 +77,8 @@ fn start_block(
     head: Token,
     mode: Mode,
 ) -> Result<ScanState, AllocError>
-    ensures { IfOk result (λ after. IsRead tokens.old.items tokens.new.items ahead.old ahead.new after
+    ensures { IfOk result (λ after. IsRead tokens.old.items tokens.new.items ahead.old ahead.new
+        after
         (lexeme_of (head ∷ []) 1 (in_mode mode state))) }
 {
     tokens.push(head)?;
@@ -83,7 +86,7 @@ fn start_block(
     Ok(state.in_mode(mode))
 }
 
-/// Reads a code of documentation.
+/// Reads a control code of documentation.
 fn documentation_code(
     alloc: Global,
     source: &Source,
@@ -92,10 +95,12 @@ fn documentation_code(
     state: ScanState,
     code: ControlCode,
 ) -> Result<ScanState, AllocError>
-    requires { state.names ≡ length output.old.occurrences.items }
-    ensures read { IfOk result (λ after. IsRead output.old.tokens.items output.new.tokens.items ahead.old ahead.new after
+    requires { state.occurrences ≡ length output.old.occurrences.items }
+    ensures read { IfOk result
+        (λ after. IsRead output.old.tokens.items output.new.tokens.items ahead.old ahead.new after
         (spec.documentation_code code state ahead.old)) }
-    ensures names { OnOk result (AddsName source.now.lines output.old.occurrences.items output.new.occurrences.items
+    ensures names { OnOk result
+        (AddsOccurrence source.now.lines output.old.occurrences.items output.new.occurrences.items
         (spec.documentation_code code state ahead.old).name) }
 {
     let line = ahead.line(state.last);
@@ -106,7 +111,7 @@ fn documentation_code(
             start_block(tokens, ahead, state, Token::MacroStart(line), Mode::Macro)
         }
         ControlCode::UnnamedPart => {
-            start_block(tokens, ahead, state, Token::UnnamedPart(line), Mode::Code)
+            start_block(tokens, ahead, state, Token::UnnamedPart(line), Mode::CPart)
         }
         ControlCode::Name => name_in_documentation(alloc, source, output, ahead, state),
         _ => {
@@ -126,10 +131,12 @@ fn documentation(
     front: Front,
 ) -> Result<ScanState, AllocError>
     requires front { IsFront ahead.old front }
-    requires names { state.names ≡ length output.old.occurrences.items }
-    ensures read { IfOk result (λ after. IsRead output.old.tokens.items output.new.tokens.items ahead.old ahead.new after
+    requires names { state.occurrences ≡ length output.old.occurrences.items }
+    ensures read { IfOk result
+        (λ after. IsRead output.old.tokens.items output.new.tokens.items ahead.old ahead.new after
         (spec.documentation_lexeme state ahead.old)) }
-    ensures names { OnOk result (AddsName source.now.lines output.old.occurrences.items output.new.occurrences.items
+    ensures names { OnOk result
+        (AddsOccurrence source.now.lines output.old.occurrences.items output.new.occurrences.items
         (spec.documentation_lexeme state ahead.old).name) }
 {
     if holds(b'@', front.byte) {
@@ -148,7 +155,8 @@ pub fn sign(
     after: ScanState,
 ) -> Result<ScanState, AllocError>
     requires { IsSome (byte_at 0 ahead.old) }
-    ensures { IfOk result (λ state. IsRead tokens.old.items tokens.new.items ahead.old ahead.new state
+    ensures { IfOk result (λ state. IsRead tokens.old.items tokens.new.items ahead.old ahead.new
+        state
         (lexeme_of (token.Text text_kind.Sign (span_at 1 ahead.old) ∷ []) (more_by unit) after)) }
 {
     tokens.push(Token::Text(TextKind::Sign, ahead.sign_span()))?;
@@ -156,14 +164,15 @@ pub fn sign(
     Ok(after)
 }
 
-/// Reads a code that is one token.
+/// Reads a control code that is one token.
 fn code_token(
     tokens: &mut Vec<Token>,
     ahead: &mut Reader,
     token: Token,
     after: ScanState,
 ) -> Result<ScanState, AllocError>
-    ensures { IfOk result (λ state. IsRead tokens.old.items tokens.new.items ahead.old ahead.new state
+    ensures { IfOk result (λ state. IsRead tokens.old.items tokens.new.items ahead.old ahead.new
+        state
         (lexeme_of (token ∷ []) 1 after)) }
 {
     tokens.push(token)?;
@@ -171,14 +180,15 @@ fn code_token(
     Ok(after)
 }
 
-/// Reads a code that is a fault and white space.
+/// Reads a control code that is a fault and white space.
 fn code_fault(
     tokens: &mut Vec<Token>,
     ahead: &mut Reader,
     kind: FaultKind,
     state: ScanState,
 ) -> Result<ScanState, AllocError>
-    ensures { IfOk result (λ after. IsRead tokens.old.items tokens.new.items ahead.old ahead.new after
+    ensures { IfOk result (λ after. IsRead tokens.old.items tokens.new.items ahead.old ahead.new
+        after
         (white_lexeme [] (token.Fault kind (line_at state.last ahead.old) ∷ []) 1 state)) }
 {
     tokens.push(Token::White)?;
@@ -187,7 +197,7 @@ fn code_fault(
     Ok(state)
 }
 
-/// Reads a code of C text.
+/// Reads a control code of C text.
 fn c_code(
     alloc: Global,
     source: &Source,
@@ -197,10 +207,12 @@ fn c_code(
     code: ControlCode,
 ) -> Result<ScanState, AllocError>
     requires at { IsSome (byte_at 0 ahead.old) }
-    requires names { state.names ≡ length output.old.occurrences.items }
-    ensures read { IfOk result (λ after. IsRead output.old.tokens.items output.new.tokens.items ahead.old ahead.new after
+    requires names { state.occurrences ≡ length output.old.occurrences.items }
+    ensures read { IfOk result
+        (λ after. IsRead output.old.tokens.items output.new.tokens.items ahead.old ahead.new after
         (spec.c_code code state ahead.old)) }
-    ensures names { OnOk result (AddsName source.now.lines output.old.occurrences.items output.new.occurrences.items
+    ensures names { OnOk result
+        (AddsOccurrence source.now.lines output.old.occurrences.items output.new.occurrences.items
         (spec.c_code code state ahead.old).name) }
 {
     let line = ahead.line(state.last);
@@ -215,8 +227,13 @@ fn c_code(
         ControlCode::ControlText => control_text(tokens, ahead, state),
         ControlCode::Verbatim => verbatim_text(tokens, ahead, state),
         ControlCode::Join => code_token(tokens, ahead, Token::Join, state.elsewhere()),
-        ControlCode::Defs => code_token(tokens, ahead, Token::Defs(line), state.elsewhere()),
-        ControlCode::Constant => ascii_constant(tokens, ahead, state),
+        ControlCode::AllMacros => code_token(
+            tokens,
+            ahead,
+            Token::AllMacros(line),
+            state.elsewhere(),
+        ),
+        ControlCode::AsciiConstant => ascii_constant(tokens, ahead, state),
         ControlCode::Other => code_token(tokens, ahead, Token::White, state),
     }
 }
@@ -229,7 +246,8 @@ pub fn word(
     state: ScanState,
 ) -> Result<ScanState, AllocError>
     requires { IsSome (byte_at 0 ahead.old) }
-    ensures { IfOk result (λ after. IsRead tokens.old.items tokens.new.items ahead.old ahead.new after
+    ensures { IfOk result (λ after. IsRead tokens.old.items tokens.new.items ahead.old ahead.new
+        after
         (spec.word state ahead.old)) }
 {
     let after = match state.include {
@@ -248,7 +266,8 @@ pub fn white_space(
     state: ScanState,
 ) -> Result<ScanState, AllocError>
     requires { IsSome (byte_at 0 ahead.old) }
-    ensures { IfOk result (λ after. IsRead tokens.old.items tokens.new.items ahead.old ahead.new after
+    ensures { IfOk result (λ after. IsRead tokens.old.items tokens.new.items ahead.old ahead.new
+        after
         (spec.white_space state ahead.old)) }
 {
     tokens.push(Token::White)?;
@@ -263,7 +282,8 @@ pub fn line_end(
     ahead: &mut Reader,
     state: ScanState,
 ) -> Result<ScanState, AllocError>
-    ensures { IfOk result (λ after. IsRead tokens.old.items tokens.new.items ahead.old ahead.new after
+    ensures { IfOk result (λ after. IsRead tokens.old.items tokens.new.items ahead.old ahead.new
+        after
         (spec.c_lexeme token_kinds.LineEnd state ahead.old)) }
 {
     tokens.push(Token::LineEnd(ahead.line(state.last)))?;
@@ -282,10 +302,12 @@ fn c_text(
     token_kind: TokenKind,
 ) -> Result<ScanState, AllocError>
     requires byte { (token_kind ≡ token_kinds.LineEnd → ⊥) → IsSome (byte_at 0 ahead.old) }
-    requires names { state.names ≡ length output.old.occurrences.items }
-    ensures read { IfOk result (λ after. IsRead output.old.tokens.items output.new.tokens.items ahead.old ahead.new after
+    requires names { state.occurrences ≡ length output.old.occurrences.items }
+    ensures read { IfOk result
+        (λ after. IsRead output.old.tokens.items output.new.tokens.items ahead.old ahead.new after
         (spec.c_lexeme token_kind state ahead.old)) }
-    ensures names { OnOk result (AddsName source.now.lines output.old.occurrences.items output.new.occurrences.items
+    ensures names { OnOk result
+        (AddsOccurrence source.now.lines output.old.occurrences.items output.new.occurrences.items
         (spec.c_lexeme token_kind state ahead.old).name) }
 {
     let tokens = &mut output.tokens;
@@ -306,7 +328,7 @@ fn c_text(
     }
 }
 
-/// Reads a macro, by the code that stands there.
+/// Reads a macro, by the control code that is there.
 fn macro_code(
     alloc: Global,
     source: &Source,
@@ -316,10 +338,12 @@ fn macro_code(
     code: ControlCode,
 ) -> Result<ScanState, AllocError>
     requires at { IsSome (byte_at 0 ahead.old) }
-    requires names { state.names ≡ length output.old.occurrences.items }
-    ensures read { IfOk result (λ after. IsRead output.old.tokens.items output.new.tokens.items ahead.old ahead.new after
+    requires names { state.occurrences ≡ length output.old.occurrences.items }
+    ensures read { IfOk result
+        (λ after. IsRead output.old.tokens.items output.new.tokens.items ahead.old ahead.new after
         (spec.macro_code code state ahead.old)) }
-    ensures names { OnOk result (AddsName source.now.lines output.old.occurrences.items output.new.occurrences.items
+    ensures names { OnOk result
+        (AddsOccurrence source.now.lines output.old.occurrences.items output.new.occurrences.items
         (spec.macro_code code state ahead.old).name) }
 {
     match code {
@@ -334,7 +358,9 @@ fn macro_code(
             ahead.pass(Unit::Two);
             Ok(state.in_mode(Mode::Documentation))
         }
-        ControlCode::Defs => { code_fault(&mut output.tokens, ahead, FaultKind::MisplacedH, state) }
+        ControlCode::AllMacros => {
+            code_fault(&mut output.tokens, ahead, FaultKind::MisplacedH, state)
+        }
         _ => c_code(alloc, source, output, ahead, state, code),
     }
 }
@@ -349,10 +375,12 @@ fn macro_text(
     token_kind: TokenKind,
 ) -> Result<ScanState, AllocError>
     requires byte { (token_kind ≡ token_kinds.LineEnd → ⊥) → IsSome (byte_at 0 ahead.old) }
-    requires names { state.names ≡ length output.old.occurrences.items }
-    ensures read { IfOk result (λ after. IsRead output.old.tokens.items output.new.tokens.items ahead.old ahead.new after
+    requires names { state.occurrences ≡ length output.old.occurrences.items }
+    ensures read { IfOk result
+        (λ after. IsRead output.old.tokens.items output.new.tokens.items ahead.old ahead.new after
         (spec.macro_lexeme token_kind state ahead.old)) }
-    ensures names { OnOk result (AddsName source.now.lines output.old.occurrences.items output.new.occurrences.items
+    ensures names { OnOk result
+        (AddsOccurrence source.now.lines output.old.occurrences.items output.new.occurrences.items
         (spec.macro_lexeme token_kind state ahead.old).name) }
 {
     match token_kind {
@@ -361,7 +389,7 @@ fn macro_text(
     }
 }
 
-/// Reads what stands here, in any mode.
+/// Reads what is here, in any mode.
 #[tactic(auto, unfolding(crate::specs::Steps::lexeme))]
 pub fn step(
     alloc: Global,
@@ -372,16 +400,18 @@ pub fn step(
     front: Front,
 ) -> Result<ScanState, AllocError>
     requires front { IsFront ahead.old front }
-    requires names { state.names ≡ length output.old.occurrences.items }
-    ensures read { IfOk result (λ after. IsRead output.old.tokens.items output.new.tokens.items ahead.old ahead.new after
+    requires names { state.occurrences ≡ length output.old.occurrences.items }
+    ensures read { IfOk result
+        (λ after. IsRead output.old.tokens.items output.new.tokens.items ahead.old ahead.new after
         (spec.lexeme state ahead.old)) }
-    ensures names { OnOk result (AddsName source.now.lines output.old.occurrences.items output.new.occurrences.items
+    ensures names { OnOk result
+        (AddsOccurrence source.now.lines output.old.occurrences.items output.new.occurrences.items
         (spec.lexeme state ahead.old).name) }
 {
     match state.mode {
         Mode::Limbo => limbo(&mut output.tokens, ahead, state, front),
         Mode::Documentation => documentation(alloc, source, output, ahead, state, front),
-        Mode::Code => {
+        Mode::CPart => {
             let token_kind = kind_by(state.include, front.byte, front.next);
             c_text(alloc, source, output, ahead, state, token_kind)
         }

@@ -27,9 +27,9 @@ pub enum ControlCode {
     /// `@&`.
     Join,
     /// `@h`.
-    Defs,
+    AllMacros,
     /// `@'`.
-    Constant,
+    AsciiConstant,
     /// `@` before another byte.
     Other,
 }
@@ -52,7 +52,7 @@ pub enum TokenKind {
     Other,
 }
 
-/// Which code `@` and this byte or line end are.
+/// Which control code `@` and this byte or line end are.
 pub fn code_at(next: Option<u8>) -> ControlCode
     ensures { result ≡ spec.code_at next }
 {
@@ -62,7 +62,7 @@ pub fn code_at(next: Option<u8>) -> ControlCode
     }
 }
 
-/// Which code `@` and this byte are, which is no capital letter.
+/// Which control code `@` and this byte are, which is no capital letter.
 fn code_of(byte: u8) -> ControlCode
     ensures { result ≡ spec.code_of byte }
 {
@@ -78,8 +78,8 @@ fn code_of(byte: u8) -> ControlCode
         b'^' | b'.' | b':' | b't' | b'q' => ControlCode::ControlText,
         b'=' => ControlCode::Verbatim,
         b'&' => ControlCode::Join,
-        b'h' => ControlCode::Defs,
-        b'\'' => ControlCode::Constant,
+        b'h' => ControlCode::AllMacros,
+        b'\'' => ControlCode::AsciiConstant,
         _ => ControlCode::Other,
     }
 }
@@ -117,7 +117,7 @@ fn byte_kind(include: IncludeState, byte: u8, next: Option<u8>) -> TokenKind
     }
 }
 
-/// What begins where this byte or line end stands before that one.
+/// What begins where this byte or line end is before that one.
 #[inline(always)]
 pub fn kind_by(include: IncludeState, byte: Option<u8>, next: Option<u8>) -> TokenKind
     ensures { result ≡ spec.kind_by include byte next }

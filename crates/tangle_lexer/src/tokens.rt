@@ -13,7 +13,7 @@ pub enum TextKind {
     Verbatim,
 }
 
-/// What stands in the text. Each `u32` is the number of a source line, from 0.
+/// What is in the text. Each `u32` is the number of a source line, from 0.
 #[derive(Clone, Copy)]
 pub enum Token {
     /// A section begins.
@@ -22,20 +22,21 @@ pub enum Token {
     MacroStart(u32),
     /// An unnamed C part begins; the line on which its head ends.
     UnnamedPart(u32),
-    /// A C part begins whose name is the occurrence of this number; the line on which its head ends.
+    /// A C part begins whose name is the occurrence of this number; the line on which its head
+    /// ends.
     NamedPart(usize, u32),
     /// A text of this kind, in this range.
     Text(TextKind, Span),
     /// The line end at which a quoted text is cut.
     QuoteBreak,
     /// An ASCII constant, by its value.
-    Constant(u8, u32),
+    AsciiConstant(u8, u32),
     Join,
     White,
     LineEnd(u32),
     /// A use of a name, by the number of its occurrence; the line on which it ends.
     UseOf(usize, u32),
     /// All macros.
-    Defs(u32),
+    AllMacros(u32),
     Fault(FaultKind, u32),
 }

@@ -2,7 +2,7 @@
 use Rattle.std.proofs.Common.{◌≡◌, ℕ, ◌+◌, Bool, List, [], ◌∷◌, ◌++◌, drop, Option, None, Some, slice_get, true, false, not, ◌&&◌, cond, refl, sym, ap, ◌∙◌, append-nil, arith}
 use Rattle.tangle_files.specs.Lines.{FileTable}
 use Rattle.tangle_lines.specs.Change.{Change}
-use Rattle.tangle_lines.specs.Faults.{Finding}
+use Rattle.tangle_lines.specs.Faults.{FaultRead}
 use Rattle.tangle_lines.specs.Inclusion.{included_name}
 use Rattle.tangle_lines.specs.Reading.{WaitingLine, Line, Reads, plain_step, begins, change_here, waiting_lines, reads_from, before_reads}
 use Rattle.tangle_lines.specs.Waiting.{Makes, PassesOn, awaited, is_awaited}
@@ -12,7 +12,7 @@ abbrev line_of : WaitingLine → Line
 line_of w = record { bytes = w.bytes; place = w.place; changed = w.changed }
 
 -- what is read in all from these lines and from what waits
-abbrev all : FileTable → ℕ → List Change → List Line → List Finding → List WaitingLine → ℕ → Reads
+abbrev all : FileTable → ℕ → List Change → List Line → List FaultRead → List WaitingLine → ℕ → Reads
 all files change_file cs lines faults ws t =
     before_reads (record { lines = lines; faults = faults }) (reads_from files change_file (at ws cs t))
 
@@ -29,7 +29,7 @@ module _ (cs : List Change) (lines : List Line) (ws : List WaitingLine) where
       ∙ second files change_file faults (t + n) (omega (arith, h))
       ∙ first files change_file faults t (omega (arith, h))
 
-  is_plain : (files : FileTable) (faults : List Finding) (w : WaitingLine) (name : Option (List ℕ)) → None ≡ name
+  is_plain : (files : FileTable) (faults : List FaultRead) (w : WaitingLine) (name : Option (List ℕ)) → None ≡ name
       → Makes (plain_step files w ws [] 0 name) ws lines (lines ++ line_of w ∷ []) faults faults
   is_plain files faults w name none = rw (← none) (refl, (refl, sym (append-nil faults)))
 

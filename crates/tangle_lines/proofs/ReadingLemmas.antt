@@ -1,7 +1,7 @@
 -- Each step of reading takes a line, so reading has as many steps as it needs.
 use Rattle.std.proofs.Common.{◌≡◌, ℕ, zero, suc, ◌+◌, ◌-◌, ◌<◌, ◌≤◌, Bool, true, false, cond, not, ◌&&◌, List, [], ◌∷◌, ◌++◌, length, min, drop, Option, None, Some, refl, sym, ap, ◌∙◌, arith, true≢false, append_assoc, append-nil}
 use Rattle.tangle_lines.specs.declared.faults.FaultKind.TheVariants.{SourceTooLong}
-use Rattle.tangle_lines.specs.Faults.{fault_at, Finding}
+use Rattle.tangle_lines.specs.Faults.{fault_at, FaultRead}
 use Rattle.std.proofs.lemmas.Bool.{ltb-true, lt-ltb, false_from_ne_true}
 use Rattle.std.specs.Prelude.{nat_lt}
 use Rattle.tangle_files.specs.Lines.{FileTable}
@@ -99,8 +99,8 @@ module _ (files : FileTable) (change_file : ℕ) (ws : List WaitingLine) (cs : L
   unfolding by_limit
   reads_from-line w h = reads_from-step files change_file (at (w ∷ ws) cs t) ∙ ap (by_limit w) (lt-ltb t line_limit h)
 
--- how reading goes on: what was put out so far, and then what waits, is all of it
-module _ (files : FileTable) (change_file : ℕ) (start : Reads) (lines : List Line) (faults : List Finding) (waiting : List WaitingLine) (changes : List Change) (t : ℕ)
+-- how reading goes on: what was given so far, and then what waits, is all of it
+module _ (files : FileTable) (change_file : ℕ) (start : Reads) (lines : List Line) (faults : List FaultRead) (waiting : List WaitingLine) (changes : List Change) (t : ℕ)
     (so_far : before_reads (record { lines = lines; faults = faults }) (reads_from files change_file (at waiting changes t)) ≡ start) where
   out : Reads
   out = record { lines = lines; faults = faults }
@@ -122,7 +122,7 @@ module _ (files : FileTable) (change_file : ℕ) (start : Reads) (lines : List L
         ∙ ap (before_reads out) (reads_from-stop files change_file ws changes t w h)
         ∙ (λ i. record { lines = append-nil lines i; faults = faults ++ fault_at SourceTooLong (named files w.place) ∷ [] })
 
-    -- a step puts out more, and reading goes on from where it leads
+    -- a step gives more, and reading goes on from where it leads
     step_out : (more : Reads) (s : State) → line_step files change_file w ws changes t (change_here changes w) ≡ Goes more s
         → t < line_limit → before_reads (before_reads out more) (reads_from files change_file s) ≡ start
     unfolding out
@@ -132,7 +132,7 @@ module _ (files : FileTable) (change_file : ℕ) (start : Reads) (lines : List L
         ∙ ap (λ ws. before_reads out (reads_from files change_file (at ws changes t))) (sym first)
         ∙ so_far
 
-    pub so_far-plain : (ws' : List WaitingLine) (lines' : List Line) (faults' : List Finding) → t < line_limit → None ≡ change_here changes w
+    pub so_far-plain : (ws' : List WaitingLine) (lines' : List Line) (faults' : List FaultRead) → t < line_limit → None ≡ change_here changes w
         → IsPlain files w ws ws' lines lines' faults faults'
         → before_reads (record { lines = lines'; faults = faults' }) (reads_from files change_file (at ws' changes (t + 1))) ≡ start
     unfolding out
@@ -147,7 +147,7 @@ module _ (files : FileTable) (change_file : ℕ) (start : Reads) (lines : List L
             (λ i. before_reads (record { lines = made.1.0 i; faults = made.1.1 i }) (reads_from files change_file (at (made.0 i) changes (t + 1))))
             ∙ step_out _ _ (ap (line_step files change_file w ws changes t) (sym none) ∙ ap (plain_step files w ws changes t) (sym e)) h
 
-    pub so_far-used : (c : Change) (ws' : List WaitingLine) (faults' : List Finding) (n : ℕ) → t < line_limit → Some c ≡ change_here changes w
+    pub so_far-used : (c : Change) (ws' : List WaitingLine) (faults' : List FaultRead) (n : ℕ) → t < line_limit → Some c ≡ change_here changes w
         → IsUsed files change_file c w ws ws' faults faults' → n ≡ min (length c.old_lines) (length (w ∷ ws))
         → before_reads (record { lines = lines; faults = faults' }) (reads_from files change_file (at ws' (drop 1 changes) (t + n))) ≡ start
     unfolding out

@@ -25,7 +25,7 @@ line file bytes n = record { bytes = bytes; place = record { file = file; line =
 abbrev new_line : List ℕ → ℕ → Line
 new_line bytes n = record { bytes = bytes; place = record { file = 1; line = n }; changed = true }
 
--- a new line stands in place of an old one, with its own place
+-- a new line replaces an old one, with its own place
 line_replaced : changed (codes "@ A.\n@c\nint a;\nint b;\n") (codes "@x\nint a;\n@y\nint z;\n@z\n") ≡ record {
   lines = line 0 (codes "@ A.") 1 ∷ line 0 (codes "@c") 2 ∷ new_line (codes "int z;") 4 ∷ line 0 (codes "int b;") 4 ∷ [];
   faults = [];
@@ -68,7 +68,7 @@ change_never_used : changed (codes "@ A.\n@c\nint x;\n") (codes "@x\nint q;\n@y\
 unfolding reads_in
 change_never_used = refl
 
--- an empty line directly after the mark is no old line
+-- an empty line directly after the `@x` is no old line
 change_without_old_lines : changed (codes "@ A.\n@c\nint x;\n") (codes "@x\n\n@y\nint z;\n@z") ≡ record {
   lines = line 0 (codes "@ A.") 1 ∷ line 0 (codes "@c") 2 ∷ line 0 (codes "int x;") 3 ∷ [];
   faults = fault_at EmptyOld (record { file = change; line = 1 }) ∷ [];
@@ -76,7 +76,7 @@ change_without_old_lines : changed (codes "@ A.\n@c\nint x;\n") (codes "@x\n\n@y
 unfolding reads_in
 change_without_old_lines = refl
 
-marks_out_of_order : changed (codes "@ A.\n@c\nint x;\n") (codes "@z\n@x\nint x;\n@x\nint x;\n@y\n@y\nint y;\n") ≡ record {
+delimiters_out_of_order : changed (codes "@ A.\n@c\nint x;\n") (codes "@z\n@x\nint x;\n@x\nint x;\n@y\n@y\nint y;\n") ≡ record {
   lines = line 0 (codes "@ A.") 1 ∷ line 0 (codes "@c") 2 ∷ new_line (codes "int y;") 8 ∷ [];
   faults =
       fault_at StrayMark (record { file = change; line = 1 })
@@ -86,7 +86,7 @@ marks_out_of_order : changed (codes "@ A.\n@c\nint x;\n") (codes "@z\n@x\nint x;
       ∷ [];
 }
 unfolding reads_in
-marks_out_of_order = refl
+delimiters_out_of_order = refl
 
 inclusions_without_a_file : reads ((web, cut (codes "@i\n@i \"n.w\" x\n@ A.\n@c\nx\n")) ∷ []) web None ≡ record {
   lines = line 0 (codes "@ A.") 3 ∷ line 0 (codes "@c") 4 ∷ line 0 (codes "x") 5 ∷ [];

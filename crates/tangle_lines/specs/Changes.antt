@@ -9,7 +9,7 @@ use Rattle.tangle_lines.specs.declared.changes.ChangePhase.{ChangePhase}
 use Rattle.tangle_lines.specs.declared.changes.ChangePhase.TheVariants.{Outside, InOld, InNew}
 use Rattle.tangle_lines.specs.declared.changes.LineKind.{LineKind}
 use Rattle.tangle_lines.specs.declared.changes.LineKind.TheVariants.{BeginsChange, BeginsNew, EndsChange, IsText}
-use Rattle.tangle_lines.specs.Faults.{Finding, fault_at}
+use Rattle.tangle_lines.specs.Faults.{FaultRead, fault_at}
 
 -- what a line of a change file is
 abbrev pub kind_of : List ℕ → LineKind
@@ -22,7 +22,7 @@ kind_of (a ∷ b ∷ bs) =
 -- the changes and the faults that were found
 pub record Found : Type 0 where
   pub changes : List Change
-  pub faults : List Finding
+  pub faults : List FaultRead
 
 abbrev pub nothing : Found
 nothing = record { changes = []; faults = [] }

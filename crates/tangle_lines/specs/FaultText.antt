@@ -4,7 +4,7 @@ use Rattle.tangle_lines.specs.declared.faults.FaultKind.{FaultKind}
 use Rattle.tangle_lines.specs.declared.faults.FaultKind.TheVariants.{StrayMark, MissingY, MissingZ, EmptyOld, IncludeNoName, IncludeMissing, IncludeTooDeep, ChangeMismatch, SourceTooLong, ChangeUnused, CodeInC, MisplacedH, MacroName, ControlText, StringAt, StringEnd, VerbatimEnd, AsciiBad, CommentEnd, NameEnd, NameEquals, NoFullName, Ambiguous, PrefixName, Undefined, Unused, SelfContaining, TooLarge, FileClash, NoProgram}
 use Rattle.tangle_lines.specs.declared.fault_text.Ending.{Ending}
 use Rattle.tangle_lines.specs.declared.fault_text.Ending.TheVariants.{Nothing, FileName, Count, SectionName, NameOrProgram}
-use Rattle.tangle_lines.specs.Faults.{Spot, Finding, is_error_kind}
+use Rattle.tangle_lines.specs.Faults.{PlaceRead, FaultRead, is_error_kind}
 
 -- what the line of a fault says, and what its text ends with
 abbrev pub wording : FaultKind → List ℕ × Ending
@@ -44,11 +44,11 @@ abbrev pub bracketed : List ℕ → List ℕ
 bracketed name = codes "<" ++ name ++ codes ">"
 
 -- the program has no name, and a fault of it no place
-abbrev pub name_or_program : Option Spot → List ℕ → List ℕ
+abbrev pub name_or_program : Option PlaceRead → List ℕ → List ℕ
 name_or_program None name = codes "the unnamed program"
-name_or_program (Some spot) name = bracketed name
+name_or_program (Some named_place) name = bracketed name
 
-abbrev pub ending_text : Ending → Finding → List ℕ
+abbrev pub ending_text : Ending → FaultRead → List ℕ
 ending_text Nothing fault = []
 ending_text FileName fault = fault.subject
 ending_text Count fault = decimal fault.count
@@ -56,17 +56,17 @@ ending_text SectionName fault = bracketed fault.subject
 ending_text NameOrProgram fault = name_or_program fault.place fault.subject
 
 -- a place in front of a fault
-abbrev pub spot_text : Spot → List ℕ
-spot_text spot = spot.file ++ codes ":" ++ decimal spot.line ++ codes ": "
+abbrev pub named_place_text : PlaceRead → List ℕ
+named_place_text named_place = named_place.file ++ codes ":" ++ decimal named_place.line ++ codes ": "
 
-abbrev pub place_text : Option Spot → List ℕ
+abbrev pub place_text : Option PlaceRead → List ℕ
 place_text None = []
-place_text (Some spot) = spot_text spot
+place_text (Some named_place) = named_place_text named_place
 
 abbrev pub severity : FaultKind → List ℕ
 severity kind = if is_error_kind kind then codes "error: " else codes "warning: "
 
 -- the line of a fault, with its line feed
-abbrev pub fault_line : Finding → List ℕ
+abbrev pub fault_line : FaultRead → List ℕ
 fault_line fault =
     place_text fault.place ++ severity fault.kind ++ (wording fault.kind).0 ++ ending_text (wording fault.kind).1 fault ++ codes "\n"

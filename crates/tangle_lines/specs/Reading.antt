@@ -6,7 +6,7 @@ use Rattle.tangle_lines.specs.declared.faults.FaultKind.TheVariants.{IncludeNoNa
 use Rattle.tangle_lines.specs.declared.faults.Origin.{Origin}
 use Rattle.tangle_files.specs.Lines.{FileTable, file_number, number_of, name_at, lines_at}
 use Rattle.tangle_files.specs.Roles.{RolesRead}
-use Rattle.tangle_lines.specs.Faults.{Spot, Finding, fault_at, fault_about, fault_counting}
+use Rattle.tangle_lines.specs.Faults.{PlaceRead, FaultRead, fault_at, fault_about, fault_counting}
 use Rattle.tangle_lines.specs.Change.{Change}
 use Rattle.tangle_lines.specs.Changes.{Found, nothing, changes_of}
 use Rattle.tangle_lines.specs.Inclusion.{included_name}
@@ -20,7 +20,7 @@ abbrev pub line_limit : ℕ
 line_limit = 2000000
 
 -- a place with its file's name
-abbrev pub named : FileTable → Origin → Spot
+abbrev pub named : FileTable → Origin → PlaceRead
 named files origin = record { file = name_at files origin.file; line = origin.line }
 
 -- a line that waits to be read; it is changed if it comes from the change file, or from a file that a changed line includes
@@ -39,7 +39,7 @@ pub record Line : Type 0 where
 -- what is read: source lines, and the faults of change file and reading
 pub record Reads : Type 0 where
   pub lines : List Line
-  pub faults : List Finding
+  pub faults : List FaultRead
 
 abbrev pub before_reads : Reads → Reads → Reads
 before_reads first rest = record { lines = first.lines ++ rest.lines; faults = first.faults ++ rest.faults }
@@ -76,29 +76,29 @@ abbrev pub unequal_lines : List (List ℕ) → List WaitingLine → ℕ
 unequal_lines [] ws = 0
 unequal_lines (o ∷ os) ws = unequal_front o ws + unequal_lines os (drop 1 ws)
 
-abbrev pub mismatch_faults : Spot → ℕ → List Finding
-mismatch_faults spot n = if n == 0 then [] else fault_counting ChangeMismatch spot n ∷ []
+abbrev pub mismatch_faults : PlaceRead → ℕ → List FaultRead
+mismatch_faults named_place n = if n == 0 then [] else fault_counting ChangeMismatch named_place n ∷ []
 
--- where reading stands: the lines that wait, the changes not yet used, and how many lines were taken
+-- where reading is: the lines that wait, the changes not yet used, and how many lines were taken
 pub record State : Type 0 where
   pub waiting : List WaitingLine
   pub changes : List Change
   pub taken : ℕ
 
--- one step of reading: it ends, or puts out source lines and faults and goes on
+-- one step of reading: it ends, or gives source lines and faults and goes on
 pub data Step : Type 0 where
-  Ends : List Finding → Step
+  Ends : List FaultRead → Step
   Goes : Reads → State → Step
 
 module _ (files : FileTable) where
-  -- the lines that stand in place of an inclusion of the file of this name and number, or the first fault that applies
-  abbrev pub included : WaitingLine → List ℕ → Option ℕ → (List WaitingLine × List Finding)
+  -- the lines that replace an inclusion of the file of this name and number, or the first fault that applies
+  abbrev pub included : WaitingLine → List ℕ → Option ℕ → (List WaitingLine × List FaultRead)
   included w name None = ([], fault_about IncludeMissing (named files w.place) name ∷ [])
   included w name (Some n) =
       if nat_lt w.depth depth_limit then (waiting_lines n w.changed (w.depth + 1) 1 (lines_at files n), [])
       else ([], fault_at IncludeTooDeep (named files w.place) ∷ [])
 
-  abbrev pub inclusion : WaitingLine → List ℕ → (List WaitingLine × List Finding)
+  abbrev pub inclusion : WaitingLine → List ℕ → (List WaitingLine × List FaultRead)
   inclusion w [] = ([], fault_at IncludeNoName (named files w.place) ∷ [])
   inclusion w (b ∷ bs) = included w (b ∷ bs) (file_number files (b ∷ bs))
 
@@ -113,19 +113,19 @@ module _ (files : FileTable) where
 
 module _ (files : FileTable) (change_file : ℕ) where
   -- the place of a change
-  abbrev pub change_spot : Change → Spot
-  change_spot c = named files (record { file = change_file; line = c.at })
+  abbrev pub change_place : Change → PlaceRead
+  change_place c = named files (record { file = change_file; line = c.at })
 
   -- the first of the changes that are left was not used
-  abbrev pub unused_faults : List Change → List Finding
+  abbrev pub unused_faults : List Change → List FaultRead
   unused_faults [] = []
-  unused_faults (c ∷ cs) = fault_at ChangeUnused (change_spot c) ∷ []
+  unused_faults (c ∷ cs) = fault_at ChangeUnused (change_place c) ∷ []
 
   -- a change that is used takes as many lines as it has old lines, and its new lines wait in their place
   abbrev pub change_step : Change → List Change → WaitingLine → List WaitingLine → ℕ → Step
   change_step c cs w ws taken =
       let lines = min (length c.old_lines) (length (w ∷ ws)) in
-      Goes (record { lines = []; faults = mismatch_faults (change_spot c) (unequal_lines (drop 1 c.old_lines) ws) })
+      Goes (record { lines = []; faults = mismatch_faults (change_place c) (unequal_lines (drop 1 c.old_lines) ws) })
       (record { waiting = change_lines change_file w.depth c.new_lines ++ drop lines (w ∷ ws); changes = cs; taken = taken + lines })
 
   -- a change that is used here comes before inclusion
@@ -140,7 +140,7 @@ module _ (files : FileTable) (change_file : ℕ) where
       if nat_lt taken line_limit then line_step w ws changes taken (change_here changes w)
       else Ends (fault_at SourceTooLong (named files w.place) ∷ [])
 
-  -- what a step puts out, and then what the rest puts out
+  -- what a step gives, and then what the rest gives
   abbrev pub after : Step → (State → Reads) → Reads
   after (Ends faults) rest = record { lines = []; faults = faults }
   after (Goes out s) rest = before_reads out (rest s)
@@ -179,7 +179,7 @@ reads files web change = reads_web files (number_of files web) (change_number fi
 pub record SourceRead : Type 0 where
   pub files : FileTable
   pub lines : List Line
-  pub faults : List Finding
+  pub faults : List FaultRead
 
 abbrev pub with_files : FileTable → Reads → SourceRead
 with_files files r = record { files = files; lines = r.lines; faults = r.faults }
@@ -201,5 +201,5 @@ abbrev pub place_at : List Line → ℕ → Origin
 place_at lines number = (line_at lines number).place
 
 -- a fault at the source line of this number
-abbrev pub fault_at_line : SourceRead → FaultKind → ℕ → Finding
+abbrev pub fault_at_line : SourceRead → FaultKind → ℕ → FaultRead
 fault_at_line source kind number = fault_at kind (named source.files (place_at source.lines number))

@@ -5,7 +5,7 @@ use Rattle.tangle_lines.specs.declared.waiting.Rest.{Rest}
 use Rattle.tangle_lines.specs.declared.waiting.Rest.TheVariants.{OfFile, OfChange}
 use Rattle.tangle_files.specs.Lines.{FileTable}
 use Rattle.tangle_files.specs.Adding.{most_lines}
-use Rattle.tangle_lines.specs.Faults.{Finding}
+use Rattle.tangle_lines.specs.Faults.{FaultRead}
 use Rattle.tangle_lines.specs.Change.{Change}
 use Rattle.tangle_lines.specs.Inclusion.{included_name}
 use Rattle.tangle_lines.specs.Reading.{WaitingLine, Line, Step, waiting_lines, change_lines, plain_step, change_step, reads_from, before_reads, line_limit}
@@ -26,17 +26,17 @@ abbrev pub IsShort : Rest → Type 0
 IsShort (OfFile lines read) = length lines.now ≤ most_lines
 IsShort (OfChange lines) = Unit {0}
 
--- what a step puts out and leaves waiting
-abbrev pub Makes : Step → List WaitingLine → List Line → List Line → List Finding → List Finding → Type 0
+-- what a step gives and leaves waiting
+abbrev pub Makes : Step → List WaitingLine → List Line → List Line → List FaultRead → List FaultRead → Type 0
 Makes (Ends faults) waiting lines lines' noted noted' = (lines' ≡ lines) × (noted' ≡ noted ++ faults)
 Makes (Goes out s) waiting lines lines' noted noted' = (waiting ≡ s.waiting) × ((lines' ≡ lines ++ out.lines) × (noted' ≡ noted ++ out.faults))
 
 -- a line was read that no change takes
-abbrev pub IsPlain : FileTable → WaitingLine → List WaitingLine → List WaitingLine → List Line → List Line → List Finding → List Finding → Type 0
+abbrev pub IsPlain : FileTable → WaitingLine → List WaitingLine → List WaitingLine → List Line → List Line → List FaultRead → List FaultRead → Type 0
 IsPlain files w ws ws' lines lines' noted noted' = Makes (plain_step files w ws [] 0 (included_name w.bytes)) ws' lines lines' noted noted'
 
 -- a change was used at a line
-abbrev pub IsUsed : FileTable → ℕ → Change → WaitingLine → List WaitingLine → List WaitingLine → List Finding → List Finding → Type 0
+abbrev pub IsUsed : FileTable → ℕ → Change → WaitingLine → List WaitingLine → List WaitingLine → List FaultRead → List FaultRead → Type 0
 IsUsed files change_file c w ws ws' noted noted' = Makes (change_step files change_file c [] w ws 0) ws' [] [] noted noted'
 
 -- the first old line of the next change, in lines that it may be used at
@@ -51,6 +51,6 @@ is_awaited (Some old) line = bytes_eq line old
 -- so many lines were taken, below the limit, and reading goes on from where that leads as it would have without it
 abbrev pub PassesOn : List Change → List Line → List WaitingLine → ℕ → List Line → List WaitingLine → Type 0
 PassesOn changes lines ws n lines' ws' =
-    (files : FileTable) (change_file : ℕ) (faults : List Finding) (t : ℕ) → t + n ≤ line_limit
+    (files : FileTable) (change_file : ℕ) (faults : List FaultRead) (t : ℕ) → t + n ≤ line_limit
     → before_reads (record { lines = lines'; faults = faults }) (reads_from files change_file (record { waiting = ws'; changes = changes; taken = t + n }))
     ≡ before_reads (record { lines = lines; faults = faults }) (reads_from files change_file (record { waiting = ws; changes = changes; taken = t }))

@@ -1,10 +1,13 @@
 //! The changes of a change file.
-ghost use Rattle.std.specs.Prelude.{◌≡◌, ◌+◌, ◌≤◌, [], ◌∷◌, ◌++◌, length, map, IfOk, OnOk, IsTrue, ◌↔◌};
+ghost use Rattle.std.specs.Prelude.{◌≡◌, ◌+◌, ◌≤◌, [], ◌∷◌, ◌++◌, length, map, IfOk, OnOk, IsTrue};
+ghost use Rattle.std.specs.Prelude.{◌↔◌};
 ghost use Rattle.std.specs.List.{list_all};
 ghost use Rattle.tangle_files.specs.Adding.{most_lines};
 ghost use Rattle.tangle_lines.specs.Bytes.{is_white};
-ghost use Rattle.tangle_lines.specs.Changes.{kind_of, next_phase, closed, at_end, changes_of as changes_found};
-ghost use Rattle.tangle_lines.specs.declared.changes.ChangePhase.TheVariants.{Outside, InOld, InNew};
+ghost use Rattle.tangle_lines.specs.Changes.{kind_of, next_phase, closed, at_end};
+ghost use Rattle.tangle_lines.specs.Changes.{changes_of as changes_found};
+ghost use Rattle.tangle_lines.specs.declared.changes.ChangePhase.TheVariants.{Outside, InOld};
+ghost use Rattle.tangle_lines.specs.declared.changes.ChangePhase.TheVariants.{InNew};
 
 use crate::faults::{Fault, FaultKind, note};
 use crate::inclusion::is_white_byte;
@@ -60,7 +63,8 @@ impl<'a> Change<'a> {
 
     /// Adds an old line.
     fn add_old(&mut self, line: &'a Line) -> Result<(), NoMemory>
-        ensures { OnOk result (self.new ≡ record self.old { old_lines = self.old.old_lines ++ line.entry.now ∷ [] }) }
+        ensures { OnOk result (self.new ≡ record self.old
+            { old_lines = self.old.old_lines ++ line.entry.now ∷ [] }) }
     {
         self.old_lines.push(line)?;
         Ok(())
@@ -68,7 +72,8 @@ impl<'a> Change<'a> {
 
     /// Adds a new line with its number.
     fn add_new(&mut self, number: u32, line: &'a Line) -> Result<(), NoMemory>
-        ensures { OnOk result (self.new ≡ record self.old { new_lines = self.old.new_lines ++ (number, line.entry.now) ∷ [] }) }
+        ensures { OnOk result (self.new ≡ record self.old
+            { new_lines = self.old.new_lines ++ (number, line.entry.now) ∷ [] }) }
     {
         self.new_lines.push((number, line))?;
         Ok(())
@@ -103,7 +108,7 @@ impl<'a> Change<'a> {
     }
 }
 
-/// Where in the change file a line stands.
+/// Where in the change file a line is.
 #[derive(Drop)]
 pub enum ChangePhase<'a> {
     Outside,
@@ -111,7 +116,8 @@ pub enum ChangePhase<'a> {
     InNew(Change<'a>),
 }
 
-/// The changes of the change file of this name, whose faults are added to the others as they are found.
+/// The changes of the change file of this name, whose faults are added to the others as they are
+/// found.
 pub(crate) fn changes_of<'a>(
     alloc: Global,
     file: &[u8],
@@ -119,8 +125,10 @@ pub(crate) fn changes_of<'a>(
     faults: &mut Vec<Fault>,
 ) -> Result<Vec<Change<'a>>, NoMemory>
     requires { length lines.now ≤ most_lines }
-    ensures changes { IfOk result (λ cs. cs.items ≡ (changes_found file.now lines.entry.now).changes) }
-    ensures faults { OnOk result (faults.new.items ≡ faults.old.items ++ (changes_found file.now lines.entry.now).faults) }
+    ensures changes { IfOk result
+        (λ cs. cs.items ≡ (changes_found file.now lines.entry.now).changes) }
+    ensures faults { OnOk result
+        (faults.new.items ≡ faults.old.items ++ (changes_found file.now lines.entry.now).faults) }
 {
     let mut changes = Vec::new(alloc);
     let mut phase = ChangePhase::Outside;
@@ -145,9 +153,17 @@ fn next<'a>(
     changes: &mut Vec<Change<'a>>,
     faults: &mut Vec<Fault>,
 ) -> Result<ChangePhase<'a>, NoMemory>
-    ensures phase { IfOk result (λ p. p ≡ (next_phase file.now phase.entry number line.entry.now (kind_of line.entry.now)).0) }
-    ensures changes { OnOk result (changes.new.items ≡ changes.old.items ++ (next_phase file.now phase.entry number line.entry.now (kind_of line.entry.now)).1.changes) }
-    ensures faults { OnOk result (faults.new.items ≡ faults.old.items ++ (next_phase file.now phase.entry number line.entry.now (kind_of line.entry.now)).1.faults) }
+    ensures phase { IfOk result
+        (λ p. p ≡ (next_phase file.now phase.entry number line.entry.now
+        (kind_of line.entry.now)).0) }
+    ensures changes { OnOk result
+        (changes.new.items ≡ changes.old.items
+        ++ (next_phase file.now phase.entry number line.entry.now
+        (kind_of line.entry.now)).1.changes) }
+    ensures faults { OnOk result
+        (faults.new.items ≡ faults.old.items
+        ++ (next_phase file.now phase.entry number line.entry.now
+        (kind_of line.entry.now)).1.faults) }
 {
     let kind = line_kind(line.bytes());
     match phase {
@@ -168,7 +184,9 @@ fn next_outside<'a>(
     faults: &mut Vec<Fault>,
 ) -> Result<ChangePhase<'a>, NoMemory>
     ensures phase { IfOk result (λ p. p ≡ (next_phase file.now Outside number [] kind).0) }
-    ensures faults { OnOk result (faults.new.items ≡ faults.old.items ++ (next_phase file.now Outside number [] kind).1.faults) }
+    ensures faults { OnOk result
+        (faults.new.items ≡ faults.old.items
+        ++ (next_phase file.now Outside number [] kind).1.faults) }
 {
     match kind {
         LineKind::BeginsChange => Ok(ChangePhase::InOld(Change::new(alloc, number))),
@@ -190,8 +208,11 @@ fn next_in_old<'a>(
     kind: LineKind,
     faults: &mut Vec<Fault>,
 ) -> Result<ChangePhase<'a>, NoMemory>
-    ensures phase { IfOk result (λ p. p ≡ (next_phase file.now (InOld change.entry) number line.entry.now kind).0) }
-    ensures faults { OnOk result (faults.new.items ≡ faults.old.items ++ (next_phase file.now (InOld change.entry) number line.entry.now kind).1.faults) }
+    ensures phase { IfOk result
+        (λ p. p ≡ (next_phase file.now (InOld change.entry) number line.entry.now kind).0) }
+    ensures faults { OnOk result
+        (faults.new.items ≡ faults.old.items
+        ++ (next_phase file.now (InOld change.entry) number line.entry.now kind).1.faults) }
 {
     let mut change = change;
     match kind {
@@ -229,9 +250,14 @@ fn next_in_new<'a>(
     changes: &mut Vec<Change<'a>>,
     faults: &mut Vec<Fault>,
 ) -> Result<ChangePhase<'a>, NoMemory>
-    ensures phase { IfOk result (λ p. p ≡ (next_phase file.now (InNew change.entry) number line.entry.now kind).0) }
-    ensures changes { OnOk result (changes.new.items ≡ changes.old.items ++ (next_phase file.now (InNew change.entry) number line.entry.now kind).1.changes) }
-    ensures faults { OnOk result (faults.new.items ≡ faults.old.items ++ (next_phase file.now (InNew change.entry) number line.entry.now kind).1.faults) }
+    ensures phase { IfOk result
+        (λ p. p ≡ (next_phase file.now (InNew change.entry) number line.entry.now kind).0) }
+    ensures changes { OnOk result
+        (changes.new.items ≡ changes.old.items
+        ++ (next_phase file.now (InNew change.entry) number line.entry.now kind).1.changes) }
+    ensures faults { OnOk result
+        (faults.new.items ≡ faults.old.items
+        ++ (next_phase file.now (InNew change.entry) number line.entry.now kind).1.faults) }
 {
     let mut change = change;
     match kind {
@@ -263,8 +289,10 @@ fn finish<'a>(
     changes: &mut Vec<Change<'a>>,
     faults: &mut Vec<Fault>,
 ) -> Result<(), NoMemory>
-    ensures changes { OnOk result (changes.new.items ≡ changes.old.items ++ (at_end file.now phase.entry).changes) }
-    ensures faults { OnOk result (faults.new.items ≡ faults.old.items ++ (at_end file.now phase.entry).faults) }
+    ensures changes { OnOk result
+        (changes.new.items ≡ changes.old.items ++ (at_end file.now phase.entry).changes) }
+    ensures faults { OnOk result
+        (faults.new.items ≡ faults.old.items ++ (at_end file.now phase.entry).faults) }
 {
     match phase {
         ChangePhase::Outside => Ok(()),

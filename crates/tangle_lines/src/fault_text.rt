@@ -1,8 +1,9 @@
 //! The line of a fault.
 ghost use Rattle.std.specs.Prelude.{◌≡◌, ◌^◌, ◌<◌, length, decimal};
 ghost use Rattle.std.specs.Option.{option_copied};
-ghost use Rattle.tangle_lines.specs.FaultText.{wording, bracketed, ending_text, spot_text, place_text, severity as severity_of, fault_line};
-ghost use Rattle.tangle_streams.specs.Streams.{PutsOut, PutsOutMore};
+ghost use Rattle.tangle_lines.specs.FaultText.{wording, bracketed, ending_text, named_place_text};
+ghost use Rattle.tangle_lines.specs.FaultText.{place_text, severity as severity_of, fault_line};
+ghost use Rattle.tangle_streams.specs.Streams.{IsWritten, IsWrittenBehind};
 
 use crate::faults::{Fault, FaultKind, Place};
 use itoa::Buffer;
@@ -63,24 +64,25 @@ fn words(kind: FaultKind) -> (&'static [u8], Ending)
     }
 }
 
-/// Writes the line of a fault: how many bytes it has. CWEB's programs word their faults otherwise: see docs/faults.md.
+/// Writes the line of a fault: how many bytes it has. CWEB's programs word their faults otherwise:
+/// see docs/faults.md.
 ///
 /// # Errors
 ///
 /// `WriteFault(n)` where the sink failed, or took no byte, after the first `n` bytes of the line.
 pub fn write_fault<S: Sink>(fault: &Fault, sink: &mut S) -> Result<u128, WriteFault>
-    ensures { PutsOut (S.stream sink.old) (S.stream sink.new) (fault_line fault.now) result }
+    ensures { IsWritten (S.stream sink.old) (S.stream sink.new) (fault_line fault.now) result }
 {
     let kind = fault.kind();
     let (text, ending) = words(kind);
     let placed = put_place(fault.place(), sink);
     let judged = put(sink, placed, severity(kind));
-    let told = put(sink, judged, text);
-    let ended = put_ending(sink, told, ending, fault);
+    let reported = put(sink, judged, text);
+    let ended = put_ending(sink, reported, ending, fault);
     put(sink, ended, b"\n")
 }
 
-/// What stands in front of the text of a fault of this kind.
+/// What is in front of the text of a fault of this kind.
 fn severity(kind: FaultKind) -> &'static [u8]
     ensures { result.now ≡ severity_of kind }
 {
@@ -93,19 +95,21 @@ fn severity(kind: FaultKind) -> &'static [u8]
 
 /// Writes the place of a fault, if it has one.
 fn put_place<S: Sink>(place: Option<&Place>, sink: &mut S) -> Result<u128, WriteFault>
-    ensures written { PutsOut (S.stream sink.old) (S.stream sink.new) (place_text (option_copied place.entry)) result }
+    ensures written { IsWritten (S.stream sink.old) (S.stream sink.new)
+        (place_text (option_copied place.entry)) result }
     ensures short { length (place_text (option_copied place.entry)) < 2 ^ 65 }
 {
     match place {
-        Some(place) => put_spot(place, sink),
+        Some(place) => put_named_place(place, sink),
         None => Ok(0),
     }
 }
 
 /// Writes a place.
-fn put_spot<S: Sink>(place: &Place, sink: &mut S) -> Result<u128, WriteFault>
-    ensures written { PutsOut (S.stream sink.old) (S.stream sink.new) (spot_text place.now) result }
-    ensures short { length (spot_text place.now) < 2 ^ 65 }
+fn put_named_place<S: Sink>(place: &Place, sink: &mut S) -> Result<u128, WriteFault>
+    ensures written { IsWritten (S.stream sink.old) (S.stream sink.new) (named_place_text place.now)
+        result }
+    ensures short { length (named_place_text place.now) < 2 ^ 65 }
 {
     let mut digits = Buffer::new();
     let file = put(sink, Ok(0), place.file());
@@ -114,14 +118,15 @@ fn put_spot<S: Sink>(place: &Place, sink: &mut S) -> Result<u128, WriteFault>
     put(sink, line, b": ")
 }
 
-/// Writes the ending of a fault's text after what was put out so far.
+/// Writes the ending of a fault's text after what was written so far.
 fn put_ending<S: Sink>(
     sink: &mut S,
     so_far: Result<u128, WriteFault>,
     ending: Ending,
     fault: &Fault,
 ) -> Result<u128, WriteFault>
-    ensures written { PutsOutMore (S.stream sink.old) (S.stream sink.new) so_far (ending_text ending fault.now) result }
+    ensures written { IsWrittenBehind (S.stream sink.old) (S.stream sink.new) so_far
+        (ending_text ending fault.now) result }
     ensures short { length (ending_text ending fault.now) < 2 ^ 65 }
 {
     match ending {
@@ -142,7 +147,8 @@ fn put_count<S: Sink>(
     so_far: Result<u128, WriteFault>,
     count: usize,
 ) -> Result<u128, WriteFault>
-    ensures written { PutsOutMore (S.stream sink.old) (S.stream sink.new) so_far (decimal count) result }
+    ensures written { IsWrittenBehind (S.stream sink.old) (S.stream sink.new) so_far (decimal count)
+        result }
     ensures short { length (decimal count) < 2 ^ 64 }
 {
     let mut digits = Buffer::new();
@@ -155,7 +161,8 @@ fn put_bracketed<S: Sink>(
     so_far: Result<u128, WriteFault>,
     name: &[u8],
 ) -> Result<u128, WriteFault>
-    ensures { PutsOutMore (S.stream sink.old) (S.stream sink.new) so_far (bracketed name.now) result }
+    ensures { IsWrittenBehind (S.stream sink.old) (S.stream sink.new) so_far (bracketed name.now)
+        result }
 {
     let opened = put(sink, so_far, b"<");
     let named = put(sink, opened, name);

@@ -1,17 +1,18 @@
 //! Places and faults.
 ghost use Rattle.std.specs.Prelude.{◌≡◌, [], ◌∷◌, ◌++◌, IfOk, OnOk};
 ghost use Rattle.std.specs.Option.{option_copied};
-ghost use Rattle.tangle_lines.specs.Faults.{fault_at, fault_about, fault_counting, fault_unplaced, is_error, is_error_kind};
+ghost use Rattle.tangle_lines.specs.Faults.{fault_at, fault_about, fault_counting, fault_unplaced};
+ghost use Rattle.tangle_lines.specs.Faults.{is_error, is_error_kind};
 
 use std::alloc::Global;
 use std::marker::Model;
 use tangle_streams::NoMemory;
 
-/// What a fault is. The first ten are of change files and reading, those from `CodeInC` on of scanning, and those from
-/// `NoFullName` on of names and outputs.
+/// What a fault is. The first ten are of change files and reading, those from `CodeInC` on of
+/// scanning, and those from `NoFullName` on of names and outputs.
 #[derive(Clone, Copy, Debug, PartialEq, Eq)]
 pub enum FaultKind {
-    /// A `@y` or `@z` where none may stand.
+    /// A `@y` or `@z` where none may be.
     StrayMark,
     /// A change that ends without its `@y`.
     MissingY,
@@ -21,17 +22,17 @@ pub enum FaultKind {
     EmptyOld,
     /// An inclusion without the name of a file.
     IncludeNoName,
-    /// An inclusion of a file that is not in the table. It tells the name.
+    /// An inclusion of a file that is not in the table. It has the name.
     IncludeMissing,
     /// An inclusion in the tenth file that is open.
     IncludeTooDeep,
-    /// Old lines of a change that the lines there do not match. It tells how many.
+    /// Old lines of a change that the lines there do not match. It says how many.
     ChangeMismatch,
     /// A line behind the 2,000,000 that are read.
     SourceTooLong,
     /// A change that was never used: the first of them.
     ChangeUnused,
-    /// A code that begins a definition, in C text.
+    /// A control code that begins a definition, in C text.
     CodeInC,
     /// A `@h` in a macro.
     MisplacedH,
@@ -53,21 +54,21 @@ pub enum FaultKind {
     NameEnd,
     /// What looks like a definition, without a section start before it.
     NameEquals,
-    /// An abbreviation that begins no full name. It tells the abbreviation.
+    /// An abbreviation that begins no full name. It has the abbreviation.
     NoFullName,
-    /// An abbreviation that begins several full names. It tells the abbreviation.
+    /// An abbreviation that begins several full names. It has the abbreviation.
     Ambiguous,
-    /// A full name that begins another one. This is a warning, and tells the name.
+    /// A full name that begins another one. This is a warning, and has the name.
     PrefixName,
-    /// A section that is used and never defined. It tells the name.
+    /// A section that is used and never defined. It has the name.
     Undefined,
-    /// A section that is never used. This is a warning, and tells the name.
+    /// A section that is never used. This is a warning, and has the name.
     Unused,
-    /// A section that contains itself. It tells the name.
+    /// A section that contains itself. It has the name.
     SelfContaining,
     /// A section whose text is too large, or without a place the unnamed program.
     TooLarge,
-    /// A file to be written that has the main file's name. It tells the name.
+    /// A file to be written that has the main file's name. It has the name.
     FileClash,
     /// A web without program text. This is a warning.
     NoProgram,
@@ -85,7 +86,8 @@ impl FaultKind {
     }
 }
 
-/// Where a line stands: the number of its file in the table of files, from 0, and its own number there, from 1.
+/// Where a line is: the number of its file in the table of files, from 0, and its own number there,
+/// from 1.
 #[derive(Clone, Copy, Debug, PartialEq, Eq)]
 pub struct Origin {
     pub file: u16,
@@ -100,9 +102,9 @@ pub struct Place {
 }
 
 impl Model for Place {
-    ghost use Rattle.tangle_lines.specs.Faults.{Spot};
+    ghost use Rattle.tangle_lines.specs.Faults.{PlaceRead};
 
-    ghost Value = { Spot };
+    ghost Value = { PlaceRead };
 
     ghost view = { λ p. record { file = p.file.items; line = p.line } };
 }
@@ -131,7 +133,7 @@ impl Place {
     }
 }
 
-/// A fault of the sources: what it is, its place, and the name or the number that its text tells.
+/// A fault of the sources: what it is, its place, and the name or the number that its text has.
 #[derive(Drop)]
 pub struct Fault {
     kind: FaultKind,
@@ -141,11 +143,17 @@ pub struct Fault {
 }
 
 impl Model for Fault {
-    ghost use Rattle.tangle_lines.specs.Faults.{Finding};
+    ghost use Rattle.tangle_lines.specs.Faults.{FaultRead};
 
-    ghost Value = { Finding };
+    ghost Value = { FaultRead };
 
-    ghost view = { λ f. record { kind = f.kind; place = f.place; subject = f.subject.items; count = f.count } };
+    ghost view = { λ f. record {
+      kind = f.kind;
+      place = f.place;
+      subject = f.subject.items;
+      count =
+          f.count;
+    } };
 }
 
 impl Fault {
@@ -176,7 +184,8 @@ impl Fault {
         line: u32,
         subject: &[u8],
     ) -> Result<Self, NoMemory>
-        ensures { IfOk result (λ f. f ≡ fault_about kind (record { file = file.now; line = line }) subject.now) }
+        ensures { IfOk result (λ f. f ≡ fault_about kind (record { file = file.now; line = line })
+            subject.now) }
     {
         let subject = Vec::from_slice(alloc, subject)?;
         Ok(Fault {
@@ -197,7 +206,8 @@ impl Fault {
         line: u32,
         count: usize,
     ) -> Result<Self, NoMemory>
-        ensures { IfOk result (λ f. f ≡ fault_counting kind (record { file = file.now; line = line }) count) }
+        ensures { IfOk result (λ f. f ≡ fault_counting kind
+            (record { file = file.now; line = line }) count) }
     {
         Ok(Fault {
             count,
@@ -231,14 +241,14 @@ impl Fault {
         self.place.as_ref()
     }
 
-    /// The file or the name that it is about: no bytes where its text tells none.
+    /// The file or the name that it is about: no bytes where its text has none.
     pub fn subject(&self) -> &[u8]
         ensures { result.now ≡ self.now.subject }
     {
         self.subject.as_slice()
     }
 
-    /// The number that its text tells, or 0.
+    /// The number that its text has, or 0.
     pub fn count(&self) -> usize
         ensures { result ≡ self.now.count }
     {
@@ -261,7 +271,8 @@ pub(crate) fn note(
     line: u32,
     faults: &mut Vec<Fault>,
 ) -> Result<(), NoMemory>
-    ensures { OnOk result (faults.new.items ≡ faults.old.items ++ fault_at kind (record { file = file.now; line = line }) ∷ []) }
+    ensures { OnOk result (faults.new.items ≡ faults.old.items
+        ++ fault_at kind (record { file = file.now; line = line }) ∷ []) }
 {
     faults.push(Fault::at(alloc, kind, file, line)?)?;
     Ok(())

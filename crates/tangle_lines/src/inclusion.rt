@@ -3,7 +3,8 @@ ghost use Rattle.std.specs.Prelude.{◌≡◌, ◌==◌, ◌||◌, position};
 ghost use Rattle.std.specs.List.{before_first};
 ghost use Rattle.std.specs.Option.{option_copied};
 ghost use Rattle.tangle_lines.specs.Bytes.{double_quote, is_white};
-ghost use Rattle.tangle_lines.specs.Inclusion.{name_in, after_white, included_name as name_of_inclusion};
+ghost use Rattle.tangle_lines.specs.Inclusion.{name_in, after_white};
+ghost use Rattle.tangle_lines.specs.Inclusion.{included_name as name_of_inclusion};
 
 /// Whether the byte is white space: the space, tab, carriage return, vertical tab or form feed.
 pub(crate) fn is_white_byte(byte: u8) -> bool
@@ -12,19 +13,20 @@ pub(crate) fn is_white_byte(byte: u8) -> bool
     byte == b' ' || byte == b'\t' || byte == b'\r' || byte == b'\x0b' || byte == b'\x0c'
 }
 
-/// The name that a line includes, which may be empty: a line that begins with `@i` or `@I` is an inclusion. A name in
-/// quotes may have white space in it; what follows the name is ignored. Other lines include nothing.
+/// The name that a line includes, which may be empty: a line that begins with `@i` or `@I` is an
+/// inclusion. A name in quotes may have white space in it; what follows the name is ignored. Other
+/// lines include nothing.
 pub fn included_name(line: &[u8]) -> Option<&[u8]>
     ensures { option_copied result ≡ name_of_inclusion line.now }
 {
     match line {
-        [b'@', b'i' | b'I', rest @ ..] => Some(name_after_mark(skip_white(rest))),
+        [b'@', b'i' | b'I', rest @ ..] => Some(inclusion_name(skip_white(rest))),
         _ => None,
     }
 }
 
-/// The name in what follows the mark of an inclusion and its white space.
-fn name_after_mark(bytes: &[u8]) -> &[u8]
+/// The name in what follows the `@i` of an inclusion and its white space.
+fn inclusion_name(bytes: &[u8]) -> &[u8]
     ensures { result.now ≡ name_in bytes.now }
 {
     match bytes {

@@ -1,10 +1,14 @@
 //! Reading of a web over open files.
-ghost use Rattle.std.specs.Prelude.{◌≡◌, ℕ, ◌+◌, ◌^◌, ◌<◌, ◌≤◌, [], ◌∷◌, ◌++◌, length, min, drop, map, true, false, None, IfOk, OnOk};
+ghost use Rattle.std.specs.Prelude.{◌≡◌, ℕ, ◌+◌, ◌^◌, ◌<◌, ◌≤◌, [], ◌∷◌, ◌++◌, length, min, drop};
+ghost use Rattle.std.specs.Prelude.{map, true, false, None, IfOk, OnOk};
 ghost use Rattle.std.specs.Option.{option_copied};
 ghost use Rattle.tangle_files.specs.Lines.{FileTable, number_of};
 ghost use Rattle.tangle_files.specs.Roles.{fits};
 ghost use Rattle.tangle_lines.specs.ReadingLaw.{ReadsByStep};
-ghost use Rattle.tangle_lines.specs.Reading.{State, line_limit, inclusion, reads_from, before_reads, change_number, changes_in, source_of, begins, change_here, unequal_front, unequal_lines, mismatch_faults, unused_faults};
+ghost use Rattle.tangle_lines.specs.Reading.{State, line_limit, inclusion, reads_from};
+ghost use Rattle.tangle_lines.specs.Reading.{before_reads, change_number, changes_in, source_of};
+ghost use Rattle.tangle_lines.specs.Reading.{begins, change_here, unequal_front, unequal_lines};
+ghost use Rattle.tangle_lines.specs.Reading.{mismatch_faults, unused_faults};
 ghost use Rattle.tangle_lines.specs.Waiting.{IsPlain, IsUsed, awaited, is_awaited};
 ghost use Rattle.tangle_lines.specs.Inclusion.{included_name};
 
@@ -33,10 +37,10 @@ fn number_of(files: &Files, name: &[u8]) -> u16
     }
 }
 
-/// Reads the web of these roles with its change file: each inclusion is replaced by the lines of its file, and the
-/// lines that a change takes by its new lines. A change is used where a line equals its first old line, in the order of
-/// the change file, and before that line is looked at as an inclusion. CWEB's rules of `@i` and of change files: see
-/// docs/reading.md.
+/// Reads the web of these roles with its change file: each inclusion is replaced by the lines of
+/// its file, and the lines that a change takes by its new lines. A change is used where a line
+/// equals its first old line, in the order of the change file, and before that line is looked at as
+/// an inclusion. CWEB's rules of `@i` and of change files: see docs/reading.md.
 ///
 /// # Errors
 ///
@@ -69,10 +73,11 @@ pub fn read_source<'a>(
     })
 }
 
-/// Reading is its first step, and then the reading of what that step leaves. So the bound on the count of steps in its
-/// definition is no part of its meaning: it is never used up.
+/// Reading is its first step, and then the reading of what that step leaves. So the bound on the
+/// count of steps in its definition is no part of its meaning: it is never used up.
 pub fn reading_goes_step_by_step()
-    ensures { (files : FileTable) (change_file : ℕ) (state : State) → ReadsByStep files change_file state }
+    ensures { (files : FileTable) (change_file : ℕ) (state : State)
+        → ReadsByStep files change_file state }
 {}
 
 /// Opens the file that an inclusion names, or notes why not.
@@ -84,8 +89,10 @@ fn include<'a, 'c>(
     line: &RawLine<'a>,
     name: &[u8],
 ) -> Result<(), NoMemory>
-    ensures opened { OnOk result (waiting.new ≡ (inclusion files.entry.now line.now name.now).0 ++ waiting.old) }
-    ensures noted { OnOk result (faults.new.items ≡ faults.old.items ++ (inclusion files.entry.now line.now name.now).1) }
+    ensures opened { OnOk result
+        (waiting.new ≡ (inclusion files.entry.now line.now name.now).0 ++ waiting.old) }
+    ensures noted { OnOk result
+        (faults.new.items ≡ faults.old.items ++ (inclusion files.entry.now line.now name.now).1) }
 {
     let place = line.place;
     let file = files.name_at(place.file);
@@ -118,7 +125,9 @@ fn read_plain<'a, 'c>(
     lines: &mut Vec<SourceLine<'a>>,
     faults: &mut Vec<Fault>,
 ) -> Result<(), NoMemory>
-    ensures read { OnOk result (IsPlain files.entry.now line.now waiting.old waiting.new lines.old.items lines.new.items faults.old.items faults.new.items) }
+    ensures read { OnOk result
+        (IsPlain files.entry.now line.now waiting.old waiting.new lines.old.items lines.new.items
+        faults.old.items faults.new.items) }
     ensures one { OnOk result (length lines.new.items ≤ length lines.old.items + 1) }
 {
     match included_name(line.text.bytes()) {
@@ -170,11 +179,12 @@ pub(crate) fn awaited_line<'c>(changes: &'c [Change<'_>], is_changed: bool) -> O
     }
 }
 
-/// Whether a line is a source line as it stands: it is not the one at which the next change is
+/// Whether a line is a source line as it is: it is not the one at which the next change is
 /// used, and it is no inclusion.
 pub(crate) fn is_source_line(awaited: Option<&[u8]>, line: &[u8]) -> bool
     ensures { result ≡ true →
-        (is_awaited (option_copied awaited.entry) line.now ≡ false) × (None ≡ included_name line.now) }
+        (is_awaited (option_copied awaited.entry) line.now ≡ false)
+        × (None ≡ included_name line.now) }
 {
     match awaited {
         Some(old) if line == old => false,
@@ -191,7 +201,7 @@ struct Taken {
     unequal: usize,
 }
 
-/// Takes the line that stands for an old line.
+/// Takes the line that represents an old line.
 fn take_one<'a, 'c>(old: &Line, waiting: &mut Waiting<'a, 'c>) -> Taken
     ensures lines { result.lines ≡ min 1 (length waiting.old) }
     ensures unequal { result.unequal ≡ unequal_front old.now waiting.old }
@@ -213,7 +223,7 @@ fn take_one<'a, 'c>(old: &Line, waiting: &mut Waiting<'a, 'c>) -> Taken
     }
 }
 
-/// Takes the lines that stand for old lines.
+/// Takes the lines that represent old lines.
 fn take_old<'a, 'c>(old_lines: &[&'a Line], waiting: &mut Waiting<'a, 'c>) -> Taken
     ensures lines { result.lines ≡ min (length old_lines.now) (length waiting.old) }
     ensures unequal { result.unequal ≡ unequal_lines (map (λ l. l.now) old_lines.now) waiting.old }
@@ -249,7 +259,8 @@ fn note_mismatch(
     unequal: usize,
     faults: &mut Vec<Fault>,
 ) -> Result<(), NoMemory>
-    ensures { OnOk result (faults.new.items ≡ faults.old.items ++ mismatch_faults (record { file = file.now; line = at }) unequal) }
+    ensures { OnOk result (faults.new.items ≡ faults.old.items
+        ++ mismatch_faults (record { file = file.now; line = at }) unequal) }
 {
     if unequal != 0 {
         faults.push(Fault::counting(alloc, FaultKind::ChangeMismatch, file, at, unequal)?)?;
@@ -257,7 +268,8 @@ fn note_mismatch(
     Ok(())
 }
 
-/// Puts the new lines of a change in place of the lines that it takes, from this one on: how many it took.
+/// Puts the new lines of a change in place of the lines that it takes, from this one on: how many
+/// it took.
 fn use_change<'a, 'c>(
     alloc: Global,
     files: &'a Files,
@@ -268,8 +280,11 @@ fn use_change<'a, 'c>(
     faults: &mut Vec<Fault>,
 ) -> Result<usize, NoMemory>
     requires { 0 < length change.now.old_lines }
-    ensures used { OnOk result (IsUsed files.entry.now change_file change.entry.now line.now waiting.old waiting.new faults.old.items faults.new.items) }
-    ensures taken { IfOk result (λ n. n ≡ min (length change.entry.now.old_lines) (length (line.now ∷ waiting.old))) }
+    ensures used { OnOk result
+        (IsUsed files.entry.now change_file change.entry.now line.now waiting.old waiting.new
+        faults.old.items faults.new.items) }
+    ensures taken { IfOk result
+        (λ n. n ≡ min (length change.entry.now.old_lines) (length (line.now ∷ waiting.old))) }
     ensures small { IfOk result (λ n. n < 2 ^ 63) }
 {
     let taken = take_old(after_first(change.old_lines()), waiting);
@@ -287,7 +302,8 @@ fn note_unused(
     changes: &[Change<'_>],
     faults: &mut Vec<Fault>,
 ) -> Result<(), NoMemory>
-    ensures { OnOk result (faults.new.items ≡ faults.old.items ++ unused_faults files.now change_file changes.now) }
+    ensures { OnOk result (faults.new.items ≡ faults.old.items
+        ++ unused_faults files.now change_file changes.now) }
 {
     match changes {
         [] => Ok(()),
@@ -307,8 +323,10 @@ fn read_on<'a, 'c>(
     waiting: &mut Waiting<'a, 'c>,
     faults: &mut Vec<Fault>,
 ) -> Result<Vec<SourceLine<'a>>, NoMemory>
-    ensures read { IfOk result (λ lines. before_reads (record { lines = []; faults = faults.old.items })
-        (reads_from files.entry.now change_file (record { waiting = waiting.old; changes = changes.entry.now; taken = 0 }))
+    ensures read { IfOk result
+        (λ lines. before_reads (record { lines = []; faults = faults.old.items })
+        (reads_from files.entry.now change_file
+        (record { waiting = waiting.old; changes = changes.entry.now; taken = 0 }))
         ≡ record { lines = lines.items; faults = faults.new.items }) }
     ensures limit { IfOk result (λ lines. length lines.items ≤ line_limit) }
 {
@@ -345,9 +363,13 @@ fn changes_of_file<'a>(
     name: Option<&[u8]>,
     faults: &mut Vec<Fault>,
 ) -> Result<(u16, Vec<Change<'a>>), NoMemory>
-    ensures number { IfOk result (λ r. r.0 ≡ change_number files.entry.now (option_copied name.entry)) }
-    ensures changes { IfOk result (λ r. r.1.items ≡ (changes_in files.entry.now (option_copied name.entry)).changes) }
-    ensures faults { OnOk result (faults.new.items ≡ faults.old.items ++ (changes_in files.entry.now (option_copied name.entry)).faults) }
+    ensures number { IfOk result
+        (λ r. r.0 ≡ change_number files.entry.now (option_copied name.entry)) }
+    ensures changes { IfOk result
+        (λ r. r.1.items ≡ (changes_in files.entry.now (option_copied name.entry)).changes) }
+    ensures faults { OnOk result
+        (faults.new.items ≡ faults.old.items
+        ++ (changes_in files.entry.now (option_copied name.entry)).faults) }
 {
     match name {
         None => Ok((0, Vec::new(alloc))),

@@ -10,8 +10,8 @@ use std::marker::Model;
 use tangle_files::{Files, Line};
 use tangle_streams::NoMemory;
 
-/// A source line, with its place, and whether it is from the change file. The place stands as its two numbers, so
-/// that a line takes 16 bytes.
+/// A source line, with its place, and whether it is from the change file. The place is as its two
+/// numbers, so that a line takes 16 bytes.
 #[derive(Drop)]
 pub(crate) struct SourceLine<'a> {
     text: &'a Line,
@@ -25,7 +25,12 @@ impl<'a> Model for SourceLine<'a> {
 
     ghost Value = { LineRead };
 
-    ghost view = { λ l. record { bytes = l.text.now; place = record { file = l.file; line = l.number }; changed = l.is_changed } };
+    ghost view = { λ l. record {
+      bytes = l.text.now;
+      place =
+          record { file = l.file; line = l.number };
+      changed = l.is_changed;
+    } };
 }
 
 impl<'a> SourceLine<'a> {
@@ -52,8 +57,8 @@ impl<'a> SourceLine<'a> {
     }
 }
 
-/// The source lines of a web, and the faults of its change file and of reading. It borrows its lines from the table
-/// of files, and has at most 2,000,000.
+/// The source lines of a web, and the faults of its change file and of reading. It borrows its
+/// lines from the table of files, and has at most 2,000,000.
 #[derive(Drop)]
 pub struct Source<'a> {
     pub(crate) files: &'a Files,
@@ -67,7 +72,12 @@ impl<'a> Model for Source<'a> {
 
     ghost Value = { SourceRead };
 
-    ghost view = { λ s. record { files = s.files.now; lines = s.lines.items; faults = s.faults.items } };
+    ghost view = { λ s. record {
+      files = s.files.now;
+      lines = s.lines.items;
+      faults =
+          s.faults.items;
+    } };
 
     ghost invariant = { λ s. length s.lines.items ≤ line_limit };
 }
@@ -92,7 +102,8 @@ impl<'a> Source<'a> {
         }
     }
 
-    /// The first byte of the line of this number, from 0: `None` of an empty line, and behind the last one.
+    /// The first byte of the line of this number, from 0: `None` of an empty line, and behind the
+    /// last one.
     pub fn first_byte(&self, number: usize) -> Option<u8>
         ensures { result ≡ slice_get (line_at self.now.lines number).bytes 0 }
     {
@@ -114,7 +125,8 @@ impl<'a> Source<'a> {
         Fault::at(alloc, kind, self.file_name(origin), origin.line)
     }
 
-    /// Where the line of this number, from 0, stands in the files: behind the last line, line 0 of file 0.
+    /// Where the line of this number, from 0, is in the files: behind the last line, line 0 of file
+    /// 0.
     pub fn origin(&self, number: usize) -> Origin
         ensures { result ≡ place_at self.now.lines number }
     {
@@ -124,8 +136,8 @@ impl<'a> Source<'a> {
         }
     }
 
-    /// Whether the line of this number, from 0, is from the change file, or from a file that such a line includes.
-    /// Behind the last line none is.
+    /// Whether the line of this number, from 0, is from the change file, or from a file that such a
+    /// line includes. Behind the last line none is.
     pub fn is_changed(&self, number: usize) -> bool
         ensures { result ≡ (line_at self.now.lines number).changed }
     {

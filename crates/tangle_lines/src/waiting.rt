@@ -1,5 +1,6 @@
 //! The open files, seen as the one list of the lines that wait to be read.
-ghost use Rattle.std.specs.Prelude.{◌≡◌, ◌+◌, ◌≤◌, List, [], ◌∷◌, ◌++◌, length, drop, map, true, IfSome, IfNone, IfOk, OnOk};
+ghost use Rattle.std.specs.Prelude.{◌≡◌, ◌+◌, ◌≤◌, List, [], ◌∷◌, ◌++◌, length, drop, map, true};
+ghost use Rattle.std.specs.Prelude.{IfSome, IfNone, IfOk, OnOk};
 ghost use Rattle.tangle_files.specs.Adding.{most_lines};
 ghost use Rattle.tangle_lines.specs.Reading.{WaitingLine, waiting_lines, change_lines};
 ghost use Rattle.tangle_lines.specs.Waiting.{PassesOn};
@@ -13,8 +14,9 @@ use std::marker::Model;
 use tangle_files::Line;
 use tangle_streams::NoMemory;
 
-/// A line that waits to be read. It is changed if it is from the change file, or from a file that such a line includes;
-/// the web's lines have depth 1, and those of an included file one more than the line that includes it.
+/// A line that waits to be read. It is changed if it is from the change file, or from a file that
+/// such a line includes; the web's lines have depth 1, and those of an included file one more than
+/// the line that includes it.
 #[derive(Drop)]
 pub(crate) struct RawLine<'a> {
     pub(crate) text: &'a Line,
@@ -140,7 +142,8 @@ impl<'a, 'c> OpenFile<'a, 'c> {
         lines: &mut Vec<SourceLine<'a>>,
     ) -> Result<usize, NoMemory>
         ensures passed { IfOk result (λ n. (rest : List WaitingLine) →
-            PassesOn changes.now lines.old.items (self.old ++ rest) n lines.new.items (self.new ++ rest)) }
+            PassesOn changes.now lines.old.items (self.old ++ rest) n lines.new.items
+            (self.new ++ rest)) }
         ensures count { IfOk result (λ n. length lines.new.items ≡ length lines.old.items + n) }
         ensures room { IfOk result (λ n. n ≤ room) }
     {
@@ -168,7 +171,9 @@ impl<'a, 'c> OpenFile<'a, 'c> {
 /// The line after so many lines, with its number.
 fn line_after<'a>(lines: &'a [Line], read: u32) -> Option<(&'a Line, u32)>
     requires { length lines.now ≤ most_lines }
-    ensures line { IfSome result (λ r. (r.1 ≡ read + 1) × (drop read lines.entry.now ≡ r.0.now ∷ drop (read + 1) lines.entry.now)) }
+    ensures line { IfSome result
+        (λ r. (r.1 ≡ read + 1)
+        × (drop read lines.entry.now ≡ r.0.now ∷ drop (read + 1) lines.entry.now)) }
     ensures none { IfNone result (drop read lines.entry.now ≡ []) }
 {
     if read as usize >= lines.len() {

@@ -4,7 +4,7 @@ use Rattle.std.specs.Prelude.{nat_lt}
 use Rattle.std.specs.List.{position_or_len}
 use Rattle.std.proofs.lemmas.List.{get_or-map, length-map, map_push, take_more}
 use Rattle.tangle_lines.specs.declared.faults.Origin.{Origin}
-use Rattle.tangle_lines.specs.Faults.{Finding}
+use Rattle.tangle_lines.specs.Faults.{FaultRead}
 use Rattle.tangle_lexer.specs.declared.occurrences.OccurrenceRole.TheVariants.{Mention}
 use Rattle.tangle_lexer.specs.Occurrences.{OccurrenceRead}
 use Rattle.tangle_names.specs.Names.{Text, Meaning, full_names, meaning, means}
@@ -69,7 +69,7 @@ module _ (os : List OccurrenceRead) where
       (λ i. position (λ (o : OccurrenceRead). o.is_file && means name (meaning (full-bare os i) o)) (map bare os))
       ∙ position-map (λ (o : OccurrenceRead). o.is_file && means name (meaning (full_names os) o)) bare os
 
-  table-bare : (faults : List Finding) → table_over (map bare os) faults ≡ table_over os faults
+  table-bare : (faults : List FaultRead) → table_over (map bare os) faults ≡ table_over os faults
   table-bare faults = λ i. record {
     names = names-bare i;
     resolved = resolved-bare i;
@@ -82,7 +82,7 @@ bare-alike : (old new : List OccurrenceRead) → AreWrittenAlike old new → map
 unfolding bare
 bare-alike old new alike = sym (map-map plain written_name old) ∙ (ap (map plain) alike ∙ map-map plain written_name new)
 
-pub table-alike : (old new : List OccurrenceRead) (faults : List Finding) → AreWrittenAlike old new → table_over old faults ≡ table_over new faults
+pub table-alike : (old new : List OccurrenceRead) (faults : List FaultRead) → AreWrittenAlike old new → table_over old faults ≡ table_over new faults
 table-alike old new faults alike =
     sym (table-bare old faults) ∙ (ap (λ os. table_over os faults) (bare-alike old new alike) ∙ table-bare new faults)
 
@@ -93,7 +93,7 @@ alike-at old new i o n alike h g at by =
     ∙ (get_or-map written_name new i n (written_name o) g ∙ ap written_name (sym by))))
 
 -- what is kept of occurrences that are written alike
-pub kept-alike : (old new : List OccurrenceRead) (r s : Resolution) (faults others : List Finding) → table_read r faults ≡ table_over old others → IsWellKept r → s ≡ r
+pub kept-alike : (old new : List OccurrenceRead) (r s : Resolution) (faults others : List FaultRead) → table_read r faults ≡ table_over old others → IsWellKept r → s ≡ r
     → AreWrittenAlike old new → IsResolutionOf new s
 kept-alike old new r s faults others table kept same alike =
     subst (IsResolutionOf new) (sym same) (record {

@@ -6,12 +6,12 @@ use Rattle.std.specs.Str.{bytes_eq}
 use Rattle.std.proofs.lemmas.List.{get_or-map, length-map, take_more}
 use Rattle.std.proofs.lemmas.List.Folds.{find_at}
 use Rattle.tangle_lines.specs.declared.faults.FaultKind.TheVariants as kind
-use Rattle.tangle_lines.specs.Faults.{Finding, fault_about}
+use Rattle.tangle_lines.specs.Faults.{FaultRead, fault_about}
 use Rattle.tangle_lexer.specs.Occurrences.{OccurrenceRead}
 use Rattle.tangle_scan.specs.Web.{WebRead}
 use Rattle.tangle_names.specs.declared.Resolved.{Resolved}
 use Rattle.tangle_names.specs.declared.Resolved.TheVariants.{Name, NoFullName, Ambiguous}
-use Rattle.tangle_names.specs.Faults.{begins_another, prefix_fault, resolution_fault, resolution_faults, spot_of}
+use Rattle.tangle_names.specs.Faults.{begins_another, prefix_fault, resolution_fault, resolution_faults, named_place_of}
 use Rattle.tangle_names.specs.Names.{Text, begins_with, full_names}
 use Rattle.tangle_names.specs.Numbers.{begins_another_by_number, fault_of_number, is_unresolved, numbers_from, warning, warning_of_number}
 use Rattle.tangle_names.specs.Resolving.{first_number, first_occurrence, names_in_order, resolve, resolves_to}
@@ -97,7 +97,7 @@ pub numbers_inside : {X : Type 0} (q : X → Bool) (xs : List X) → All (λ n. 
 numbers_inside q xs n d h = omega (arith, numbers_inside-at q 0 xs n d h)
 
 -- what is found by the numbers is found by the items
-by_number : {X : Type 0} (g : ℕ → List Finding) (f : X → List Finding) (q : X → Bool) (k : ℕ) (xs : List X)
+by_number : {X : Type 0} (g : ℕ → List FaultRead) (f : X → List FaultRead) (q : X → Bool) (k : ℕ) (xs : List X)
     → ((i : ℕ) (x : X) → slice_get xs i ≡ Some x → cond (q x) (g (k + i)) [] ≡ f x) → flat_map g (numbers_from q k xs) ≡ flat_map f xs
 by_number g f q k [] at = refl
 by_number g f q k (x ∷ xs) at =
@@ -167,9 +167,9 @@ beginnings_are os texts names flags numbers same named long known are =
 
 warning-is : (web : WebRead) (name : Text)
     → warning web (first_number web.occurrences name) name
-    ≡ map (λ (o : OccurrenceRead). fault_about kind.PrefixName (spot_of web.file_names o.place) name) (option_to_list (first_occurrence web.occurrences name))
+    ≡ map (λ (o : OccurrenceRead). fault_about kind.PrefixName (named_place_of web.file_names o.place) name) (option_to_list (first_occurrence web.occurrences name))
 warning-is web name =
-    ap (λ found. map (λ (o : OccurrenceRead). fault_about kind.PrefixName (spot_of web.file_names o.place) name) (option_to_list found)) (sym (find_at (resolves_to web.occurrences name) web.occurrences))
+    ap (λ found. map (λ (o : OccurrenceRead). fault_about kind.PrefixName (named_place_of web.file_names o.place) name) (option_to_list found)) (sym (find_at (resolves_to web.occurrences name) web.occurrences))
 
 pub warnings_of_numbers : (web : WebRead) (names : List Text) (firsts : List ℕ) → names ≡ names_in_order web.occurrences
     → firsts ≡ map (first_number web.occurrences) (names_in_order web.occurrences)

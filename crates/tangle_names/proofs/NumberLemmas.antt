@@ -7,13 +7,13 @@ use Rattle.std.proofs.lemmas.List.Folds.{list_any_more}
 use Rattle.tangle_names.specs.declared.Resolved.{Resolved}
 use Rattle.tangle_names.specs.declared.Resolved.TheVariants.{NoFullName}
 use Rattle.tangle_lines.specs.declared.faults.FaultKind.TheVariants as kind
-use Rattle.tangle_lines.specs.Faults.{Finding, fault_about}
+use Rattle.tangle_lines.specs.Faults.{FaultRead, fault_about}
 use Rattle.tangle_scan.specs.Web.{WebRead}
 use Rattle.tangle_lexer.specs.Occurrences.{OccurrenceRead}
 use Rattle.std.specs.List.{list_any, position_or_len}
 use Rattle.tangle_names.specs.Names.{Text, One}
 use Rattle.tangle_names.specs.Resolving.{resolution}
-use Rattle.tangle_names.specs.Faults.{begins_another, resolution_fault, spot_of}
+use Rattle.tangle_names.specs.Faults.{begins_another, resolution_fault, named_place_of}
 use Rattle.tangle_names.specs.Numbers.{key_texts, is_number, first_by_number, NotesNumber, Flags, fault_of_number, warning}
 
 resolved_at : (f : OccurrenceRead → Resolved) (os : List OccurrenceRead) (rs : List Resolved) (i : ℕ) (o : OccurrenceRead) (r : Resolved) → i < length os → o ≡ get_or os i o
@@ -31,11 +31,11 @@ first_at q os i o h read =
     by true = omega arith
     by false = omega arith
 
-pub number_step : (f : OccurrenceRead → Resolved) (only_files : Bool) (os : List OccurrenceRead) (rs : List Resolved) (i id : ℕ) (o : OccurrenceRead) (r : Resolved) (wanted : Bool) (old new : List ℕ)
-    → i < length os → o ≡ get_or os i o → rs ≡ map f os → r ≡ get_or rs i r → wanted ≡ (not only_files || o.is_file) → id < length old
-    → get_or old id 0 ≡ i + 1 + first_by_number f only_files (drop (i + 1) os) id → NotesNumber old new wanted i r
+pub number_step : (f : OccurrenceRead → Resolved) (only_files : Bool) (os : List OccurrenceRead) (rs : List Resolved) (i id : ℕ) (o : OccurrenceRead) (r : Resolved) (needed : Bool) (old new : List ℕ)
+    → i < length os → o ≡ get_or os i o → rs ≡ map f os → r ≡ get_or rs i r → needed ≡ (not only_files || o.is_file) → id < length old
+    → get_or old id 0 ≡ i + 1 + first_by_number f only_files (drop (i + 1) os) id → NotesNumber old new needed i r
     → get_or new id 0 ≡ i + first_by_number f only_files (drop i os) id
-number_step f only_files os rs i id o r wanted old new h read all at is within sofar notes =
+number_step f only_files os rs i id o r needed old new h read all at is within sofar notes =
     let resolved = resolved_at f os rs i o r h read all at in
     notes.numbers id within ∙ ((λ j. cond (is j && is_number id (resolved j)) i (sofar j)) ∙ sym (first_at (λ (o : OccurrenceRead). (not only_files || o.is_file) && is_number id (f o)) os i o h read))
 
@@ -67,7 +67,7 @@ beginning_step texts names i id old new inside h sofar flags =
 -- no occurrence, no warning and no fault
 pub no_warning : (web : WebRead) (first : ℕ) (name : Text) → length web.occurrences ≤ first → warning web first name ≡ []
 no_warning web first name past =
-    ap (λ found. map (λ (o : OccurrenceRead). fault_about kind.PrefixName (spot_of web.file_names o.place) name) (option_to_list found)) (slice_get_past web.occurrences first past)
+    ap (λ found. map (λ (o : OccurrenceRead). fault_about kind.PrefixName (named_place_of web.file_names o.place) name) (option_to_list found)) (slice_get_past web.occurrences first past)
 
 pub no_fault : (web : WebRead) (resolved : List Resolved) (number : ℕ) → length web.occurrences ≤ number → fault_of_number web resolved number ≡ []
 no_fault web resolved number past =

@@ -1,4 +1,4 @@
--- Prefixes in the order of bytes: what begins with a prefix isn't below it, and stands together.
+-- Prefixes in the order of bytes: what begins with a prefix isn't below it, and is together.
 use Rattle.std.proofs.Common.{◌≡◌, ℕ, Bool, true, false, ◌&&◌, [], ◌∷◌, refl, arith, nat_eq}
 use Rattle.std.specs.Ordering.{nat_cmp, ordering_then, is_lt, is_gt}
 use Rattle.std.specs.declared.cmp.Ordering.{Ordering}

@@ -4,7 +4,7 @@ use Rattle.std.specs.Prelude.{codes}
 use Rattle.tangle_lines.specs.declared.faults.FaultKind.TheVariants as kind
 use Rattle.tangle_lines.specs.Faults.{fault_about}
 use Rattle.tangle_lines.specs.Reading.{Line}
-use Rattle.tangle_lexer.specs.Steps.{lexeme, names_from}
+use Rattle.tangle_lexer.specs.Steps.{lexeme, occurrences_from}
 use Rattle.tangle_scan.specs.Web.{web_of}
 use Rattle.tangle_names.specs.declared.Resolved.TheVariants.{Name, NoFullName, Ambiguous}
 use Rattle.tangle_names.specs.NameTable.{TableRead, table_of}
@@ -21,7 +21,7 @@ table texts = table_of (web_of (record { files = (codes "a.w", texts) ∷ []; li
 -- a name that is used in front of its definition
 used_and_defined : table (codes "@ A." ∷ codes "@c" ∷ codes "int x=@<v@>;" ∷ codes "@ @<v@>=" ∷ codes "1" ∷ [])
     ≡ record { names = codes "v" ∷ []; resolved = Name 0 ∷ Name 0 ∷ []; first_occurrences = 0 ∷ []; first_file_occurrences = None ∷ []; faults = [] }
-unfolding lexeme names_from
+unfolding lexeme occurrences_from
 used_and_defined = refl
 
 abbrev with_abbreviation : List (List ℕ)
@@ -29,7 +29,7 @@ with_abbreviation = codes "@ A." ∷ codes "@c" ∷ codes "@<Ini...@>" ∷ codes
 
 -- an abbreviation in front of its full name
 abbreviated : table with_abbreviation ≡ record { names = codes "Initialize" ∷ []; resolved = Name 0 ∷ Name 0 ∷ []; first_occurrences = 0 ∷ []; first_file_occurrences = None ∷ []; faults = [] }
-unfolding lexeme names_from
+unfolding lexeme occurrences_from
 abbreviated = refl
 
 -- the same, with a second full name behind
@@ -40,13 +40,13 @@ ambiguous : table (with_abbreviation ++ codes "@ @<Init table@>=" ∷ []) ≡ re
   first_file_occurrences = None ∷ None ∷ [];
   faults = fault_about kind.Ambiguous (record { file = codes "a.w"; line = 3 }) (codes "Ini...") ∷ [];
 }
-unfolding lexeme names_from
+unfolding lexeme occurrences_from
 ambiguous = refl
 
 -- a name that is used twice
 used_twice : table (codes "@ A." ∷ codes "@c" ∷ codes "@<u@>@<u@>" ∷ [])
     ≡ record { names = codes "u" ∷ []; resolved = Name 0 ∷ Name 0 ∷ []; first_occurrences = 0 ∷ []; first_file_occurrences = None ∷ []; faults = [] }
-unfolding lexeme names_from
+unfolding lexeme occurrences_from
 used_twice = refl
 
 -- a mention, a name that begins another, an abbreviation of no name, and names that a definition and the next section end
@@ -58,7 +58,7 @@ begun : table (codes "@ A @<In it@>." ∷ codes "@c" ∷ codes "@<  In   @>@<Zz.
   faults = fault_about kind.NoFullName (record { file = codes "a.w"; line = 3 }) (codes "Zz...")
       ∷ fault_about kind.PrefixName (record { file = codes "a.w"; line = 3 }) (codes "In") ∷ [];
 }
-unfolding lexeme names_from
+unfolding lexeme occurrences_from
 begun = refl
 
 -- a file's name, first used without `@(` and abbreviated
@@ -69,5 +69,5 @@ file_used_first : table (codes "@ A." ∷ codes "@c" ∷ codes "@<a...@>@<u@>" �
   first_file_occurrences = Some 2 ∷ None ∷ [];
   faults = [];
 }
-unfolding lexeme names_from
+unfolding lexeme occurrences_from
 file_used_first = refl

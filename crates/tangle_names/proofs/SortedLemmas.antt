@@ -1,4 +1,4 @@
--- The sorted full names: how they come from a sort, and where those stand that begin with a prefix.
+-- The sorted full names: how they come from a sort, and where those are that begin with a prefix.
 use Rattle.std.proofs.Common.{◌≡◌, ◌≢◌, ◌≤◌, ◌<◌, ◌+◌, ◌∙◌, ℕ, zero, suc, Bool, true, false, cond, not, ◌&&◌, List, [], ◌∷◌, length, get_or, filter, refl, ap, sym, subst, inl, inr, arith, Contains}
 use Rattle.std.specs.Borrow.{Bor}
 use Rattle.std.specs.BTreeMap.Comparable.{le_lt_trans}
@@ -30,7 +30,7 @@ size sorted = length-map sorted (λ (b : Bor Text). b.now)
 pub at_text : (sorted : List (Bor Text)) (k : ℕ) (d : Bor Text) → k < length sorted → get_or (texts_of sorted) k [] ≡ (get_or sorted k d).now
 at_text sorted k d h = get_or-map (λ (b : Bor Text). b.now) sorted k d [] h
 
--- of two names the one that stands first is below the other
+-- of two names the one that is first is below the other
 pub rising : (texts : List Text) → IsInOrder texts → (i j : ℕ) → i < j → j < length texts → slice_cmp nat_cmp (get_or texts i []) (get_or texts j []) ≡ Less
 rising [] up i j low high = absurd (omega arith)
 rising (t ∷ ts) up zero zero low high = absurd (omega arith)
@@ -59,7 +59,7 @@ no_higher texts up i j low high = elim (cases_lt i j) [
       ap (λ k. is_gt (slice_cmp nat_cmp (get_or texts i []) (get_or texts k []))) (sym same) ∙ ap is_gt (alike (get_or texts i [])))
 ]
 
--- the names that begin with a prefix stand together, from one place on
+-- the names that begin with a prefix are together, from one place on
 pub record Gathers (texts : List Text) (p : Text) (first : ℕ) : Type 0 where
   pub below : (k : ℕ) → k < first → k < length texts → begins_with p (get_or texts k []) ≡ false
   pub together : (j k : ℕ) → first ≤ j → j ≤ k → k < length texts → begins_with p (get_or texts k []) ≡ true → begins_with p (get_or texts j []) ≡ true
@@ -79,7 +79,7 @@ gathers texts p first up lower upper = record {
       begins-between p (get_or texts j []) (get_or texts k []) (upper j low within) (no_higher texts up j k high inside) begun;
 }
 
--- a name of the table that begins with the prefix stands at this place or behind it
+-- a name of the table that begins with the prefix is at this place or behind it
 found_at : (texts : List Text) (p : Text) (first : ℕ) → Gathers texts p first → (t : Text) → Contains texts t → begins_with p t ≡ true
     → (k : ℕ) × (first ≤ k) × (k < length texts) × (get_or texts k [] ≡ t)
 found_at texts p first g t c begun =

@@ -10,10 +10,10 @@ use Rattle.std.proofs.lemmas.List.Elements.{Contains-append_cases, Contains-get_
 use Rattle.std.proofs.lemmas.Slice.Eq.{bytes_eq-Decides}
 use Rattle.tangle_names.specs.declared.Resolved.{Resolved}
 use Rattle.tangle_lines.specs.declared.faults.FaultKind.TheVariants as kind
-use Rattle.tangle_lines.specs.Faults.{fault_about, Finding}
+use Rattle.tangle_lines.specs.Faults.{fault_about, FaultRead}
 use Rattle.tangle_scan.specs.Web.{WebRead}
 use Rattle.tangle_lexer.specs.Occurrences.{OccurrenceRead}
-use Rattle.tangle_names.specs.Faults.{spot_of}
+use Rattle.tangle_names.specs.Faults.{named_place_of}
 use Rattle.tangle_names.specs.Names.{Text, Meaning, Nothing, One, Several, full_names, meaning, means, only_with, prefix, begins_with}
 use Rattle.tangle_names.specs.Resolving.{meanings, names_of, names_in_order, resolution, resolve, resolves_to, with_name, first_file_number, first_number, first_occurrence}
 use Rattle.tangle_names.specs.Faults.{begins_another, faults, prefix_fault}
@@ -40,7 +40,7 @@ out_of_map f (x ∷ xs) y c = elim (cons_cases (f x) (map f xs) y c) [
   | inr d ↦ (let found = out_of_map f xs y d in (found.0, there x xs found.0 found.1, found.2))
 ]
 
--- no text of the list stands in it twice
+-- no text of the list is in it twice
 abbrev pub Distinct : List Text → Type 0
 Distinct [] = Unit {0}
 Distinct (t ∷ ts) = (list_any (bytes_eq t) ts ≡ false) × Distinct ts
@@ -223,7 +223,7 @@ names_are os ms texts came named = named ∙ ap names_of came
 pub resolved_are : (os : List OccurrenceRead) (ms : List Meaning) (texts : List Text) (rs : List Resolved) → ms ≡ meanings os → texts ≡ names_in_order os → rs ≡ map (resolution texts) ms → rs ≡ map (resolve os) os
 resolved_are os ms texts rs came named is = is ∙ ((λ i. map (resolution (named i)) (came i)) ∙ map-map (resolution (names_in_order os)) (meaning (full_names os)) os)
 
-pub table_is : (os : List OccurrenceRead) (names : List Text) (rs : List Resolved) (firsts : List ℕ) (first_files : List (Option ℕ)) (faults : List Finding) → names ≡ names_in_order os
+pub table_is : (os : List OccurrenceRead) (names : List Text) (rs : List Resolved) (firsts : List ℕ) (first_files : List (Option ℕ)) (faults : List FaultRead) → names ≡ names_in_order os
     → rs ≡ map (resolve os) os → firsts ≡ map (first_number os) (names_in_order os) → first_files ≡ map (first_file_number os) (names_in_order os)
     → record { names = names; resolved = rs; first_occurrences = firsts; first_file_occurrences = first_files; faults = faults } ≡ table_over os faults
 table_is os names rs firsts first_files faults a b c d =

@@ -1,7 +1,7 @@
 -- The table of a web's names.
 use Rattle.std.specs.Prelude.{◌≡◌, ℕ, Bool, List, Option, map}
 use Rattle.tangle_names.specs.declared.Resolved.{Resolved}
-use Rattle.tangle_lines.specs.Faults.{Finding}
+use Rattle.tangle_lines.specs.Faults.{FaultRead}
 use Rattle.tangle_lexer.specs.Occurrences.{OccurrenceRead}
 use Rattle.tangle_scan.specs.Web.{WebRead}
 use Rattle.tangle_names.specs.Names.{Text}
@@ -15,7 +15,7 @@ pub record TableRead : Type 0 where
   pub resolved : List Resolved
   pub first_occurrences : List ℕ
   pub first_file_occurrences : List (Option ℕ)
-  pub faults : List Finding
+  pub faults : List FaultRead
 
 -- the table of a web
 abbrev pub table_of : WebRead → TableRead
@@ -28,7 +28,7 @@ table_of web = record {
 }
 
 -- the table over these occurrences, with these faults
-abbrev pub table_over : List OccurrenceRead → List Finding → TableRead
+abbrev pub table_over : List OccurrenceRead → List FaultRead → TableRead
 table_over os faults = record {
   names = names_in_order os;
   resolved = map (resolve os) os;

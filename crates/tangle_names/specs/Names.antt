@@ -1,4 +1,4 @@
--- The names of a web: which of them are full, and which full name an abbreviation stands for.
+-- The names of a web: which of them are full, and which full name an abbreviation represents.
 use Rattle.std.specs.Prelude.{ℕ, ◌-◌, Bool, false, not, List, [], ◌∷◌, length, map, filter, take, nat_eq, if◌then◌else◌}
 use Rattle.std.specs.List.{starts_with, list_all}
 use Rattle.std.specs.Str.{bytes_eq}
@@ -12,7 +12,7 @@ Text = List ℕ
 abbrev pub full_names : List OccurrenceRead → List Text
 full_names os = map (λ o. o.text) (filter (λ o. not o.is_abbreviation) os)
 
--- the prefix of an abbreviation: what stands before its three dots
+-- the prefix of an abbreviation: what is before its three dots
 abbrev pub prefix : Text → Text
 prefix abbreviation = take (length abbreviation - 3) abbreviation
 
@@ -20,7 +20,7 @@ prefix abbreviation = take (length abbreviation - 3) abbreviation
 abbrev pub begins_with : Text → Text → Bool
 begins_with p name = starts_with nat_eq name p
 
--- the full names that a name may stand for
+-- the full names that a name may represent
 pub data Meaning : Type 0 where
   Nothing : Meaning
   One : Text → Meaning
@@ -35,7 +35,7 @@ only (t ∷ ts) = if list_all (bytes_eq t) ts then One t else Several
 abbrev pub only_with : List Text → Text → Meaning
 only_with full p = only (filter (begins_with p) full)
 
--- a full name stands for itself, and an abbreviation for the one full name that begins with its prefix
+-- a full name represents itself, and an abbreviation for the one full name that begins with its prefix
 abbrev pub meaning : List Text → OccurrenceRead → Meaning
 meaning full o = if o.is_abbreviation then only_with full (prefix o.text) else One o.text
 

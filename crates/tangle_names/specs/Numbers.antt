@@ -5,10 +5,10 @@ use Rattle.std.specs.Global.{Global}
 use Rattle.tangle_names.specs.declared.Resolved.{Resolved}
 use Rattle.tangle_names.specs.declared.Resolved.TheVariants.{Name, NoFullName, Ambiguous}
 use Rattle.tangle_lines.specs.declared.faults.FaultKind.TheVariants as kind
-use Rattle.tangle_lines.specs.Faults.{fault_about, Finding}
+use Rattle.tangle_lines.specs.Faults.{fault_about, FaultRead}
 use Rattle.tangle_scan.specs.Web.{WebRead}
 use Rattle.tangle_lexer.specs.Occurrences.{OccurrenceRead}
-use Rattle.tangle_names.specs.Faults.{resolution_fault, spot_of}
+use Rattle.tangle_names.specs.Faults.{resolution_fault, named_place_of}
 use Rattle.tangle_names.specs.Names.{Text, One}
 use Rattle.tangle_names.specs.Resolving.{resolution}
 use Rattle.tangle_names.specs.Faults.{begins_another}
@@ -24,15 +24,15 @@ is_number id NoFullName = false
 is_number id Ambiguous = false
 
 -- the number of the first occurrence that resolves to the name with this number, of those of files alone if only these
--- are wanted; the count of occurrences, where there is none
+-- are needed; the count of occurrences, where there is none
 abbrev pub first_by_number : (OccurrenceRead → Resolved) → Bool → List OccurrenceRead → ℕ → ℕ
 first_by_number f only_files os id = position_or_len (λ o. (not only_files || o.is_file) && is_number id (f o)) os
 
--- the name that is resolved to has this number in place of its own, if the occurrence is wanted
-pub record NotesNumber (old new : List ℕ) (is_wanted : Bool) (number : ℕ) (resolved : Resolved) : Type 0 where
+-- the name that is resolved to has this number in place of its own, if the occurrence is needed
+pub record NotesNumber (old new : List ℕ) (is_needed : Bool) (number : ℕ) (resolved : Resolved) : Type 0 where
   pub size : length new ≡ length old
   pub numbers : (id : ℕ) → id < length old → slice_index_or new id 0
-      ≡ (if is_wanted && is_number id resolved then number else slice_index_or old id 0)
+      ≡ (if is_needed && is_number id resolved then number else slice_index_or old id 0)
 
 -- a number below the count
 abbrev pub number_below : ℕ → ℕ → Option ℕ
@@ -55,19 +55,19 @@ is_unresolved NoFullName = true
 is_unresolved Ambiguous = true
 
 -- the fault of the occurrence with this number, by what it resolves to
-abbrev pub fault_of_number : WebRead → List Resolved → ℕ → List Finding
+abbrev pub fault_of_number : WebRead → List Resolved → ℕ → List FaultRead
 fault_of_number web resolved n =
     flat_map (resolution_fault web.file_names (slice_index_or resolved n NoFullName))
     (option_to_list (slice_get web.occurrences n))
 
 -- the warning for a name that begins another and whose first occurrence has this number
-abbrev pub warning : WebRead → ℕ → Text → List Finding
+abbrev pub warning : WebRead → ℕ → Text → List FaultRead
 warning web first name =
-    map (λ o. fault_about kind.PrefixName (spot_of web.file_names o.place) name)
+    map (λ o. fault_about kind.PrefixName (named_place_of web.file_names o.place) name)
     (option_to_list (slice_get web.occurrences first))
 
 -- the warning for the name with this number
-abbrev pub warning_of_number : WebRead → List Text → List ℕ → ℕ → List Finding
+abbrev pub warning_of_number : WebRead → List Text → List ℕ → ℕ → List FaultRead
 warning_of_number web names firsts id =
     warning web (slice_index_or firsts id 0) (slice_index_or names id [])
 

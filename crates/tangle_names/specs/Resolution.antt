@@ -1,7 +1,7 @@
 -- What is kept of a web's names that depends on no place. These words are cited by private contracts
 -- alone.
 use Rattle.std.specs.Prelude.{◌≡◌, List, [], length, map}
-use Rattle.tangle_lines.specs.Faults.{Finding}
+use Rattle.tangle_lines.specs.Faults.{FaultRead}
 use Rattle.tangle_lexer.specs.Occurrences.{OccurrenceRead}
 use Rattle.tangle_names.specs.declared.resolution.Resolution.{Resolution}
 use Rattle.tangle_names.specs.Faults.{begins_another}
@@ -9,7 +9,7 @@ use Rattle.tangle_names.specs.NameTable.{TableRead, table_over}
 use Rattle.tangle_names.specs.Numbers.{is_unresolved, key_texts, number_below, numbers_from}
 
 -- what is kept, with these faults, as a table
-abbrev pub table_read : Resolution → List Finding → TableRead
+abbrev pub table_read : Resolution → List FaultRead → TableRead
 table_read r faults = record {
   names = key_texts r.names.keys;
   resolved = r.resolved.items;

@@ -27,6 +27,6 @@ pub record SameTexts (xs ys : List Text) : Type 0 where
   pub over : (t : Text) → Contains xs t → Contains ys t
   pub back : (t : Text) → Contains ys t → Contains xs t
 
--- at this place stands a text that begins with the prefix
+-- at this place is a text that begins with the prefix
 abbrev pub BeginsAt : List Text → Text → ℕ → Type 0
 BeginsAt texts p place = (place < length texts) × (begins_with p (slice_index_or texts place []) ≡ true)

@@ -1,7 +1,7 @@
 //! The faults of names.
 ghost use Rattle.std.specs.Prelude.{◌≡◌, ◌<◌, ◌++◌, ◌∷◌, [], All, IfOk, OnOk, flat_map, length};
 ghost use Rattle.tangle_lines.specs.Faults.{fault_about};
-ghost use Rattle.tangle_names.specs.Faults.{faults, resolution_fault, spot_of};
+ghost use Rattle.tangle_names.specs.Faults.{faults, resolution_fault, named_place_of};
 ghost use Rattle.tangle_names.specs.Numbers.{fault_of_number, key_texts};
 ghost use Rattle.tangle_names.specs.Numbers.{warning, warning_of_number};
 ghost use Rattle.tangle_names.specs.Resolution.{IsResolutionOf};
@@ -22,7 +22,8 @@ fn add(
     name: &[u8],
 ) -> Result<(), NoMemory>
     ensures { OnOk result (faults.new.items
-        ≡ faults.old.items ++ fault_about kind (spot_of web.now.file_names place) name.now ∷ []) }
+        ≡ faults.old.items ++ fault_about kind (named_place_of web.now.file_names place) name.now
+        ∷ []) }
 {
     faults.push(Fault::about(alloc, kind, web.file_name(place), place.line, name)?)?;
     Ok(())

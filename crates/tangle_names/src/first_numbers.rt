@@ -8,8 +8,8 @@ use crate::Resolved;
 use std::alloc::{AllocError, Global};
 use tangle_scan::Occurrence;
 
-/// Of each name the number of the first occurrence that resolves to it, of those with `@(` alone where only files are
-/// wanted. It is the count of occurrences where there is none.
+/// Of each name the number of the first occurrence that resolves to it, of those with `@(` alone
+/// where only files are needed. It is the count of occurrences where there is none.
 // From the last occurrence to the first, so that an earlier number takes the place of a later one.
 pub(crate) fn first_numbers(
     alloc: Global,
@@ -28,25 +28,25 @@ pub(crate) fn first_numbers(
     let mut i = occurrences.len();
     while i > 0 {
         i -= 1;
-        let wanted = is_wanted(&occurrences[i], only_files);
-        note(&mut numbers, wanted, i, resolved[i]);
+        let needed = is_needed(&occurrences[i], only_files);
+        note(&mut numbers, needed, i, resolved[i]);
     }
     Ok(numbers)
 }
 
-/// Whether the occurrence is one of those that are wanted.
-fn is_wanted(occurrence: &Occurrence, only_files: bool) -> bool
+/// Whether the occurrence is one of those that are needed.
+fn is_needed(occurrence: &Occurrence, only_files: bool) -> bool
     ensures { result ≡ (not only_files || occurrence.now.is_file) }
 {
     !only_files || occurrence.is_file()
 }
 
-/// Gives the name that is resolved to this number, if the occurrence is wanted.
-fn note(numbers: &mut Vec<usize>, is_wanted: bool, number: usize, resolved: Resolved)
-    ensures { NotesNumber numbers.old.items numbers.new.items is_wanted number resolved }
+/// Gives the name that is resolved to this number, if the occurrence is needed.
+fn note(numbers: &mut Vec<usize>, is_needed: bool, number: usize, resolved: Resolved)
+    ensures { NotesNumber numbers.old.items numbers.new.items is_needed number resolved }
 {
     if let Resolved::Name(id) = resolved {
-        if is_wanted && id < numbers.len() {
+        if is_needed && id < numbers.len() {
             numbers[id] = number;
         }
     }

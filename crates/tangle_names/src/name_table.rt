@@ -1,5 +1,6 @@
 //! The table of a web's names.
-ghost use Rattle.std.specs.Prelude.{◌≡◌, ◌<◌, IfOk, length, slice_index_or, position, is_some, None, []};
+ghost use Rattle.std.specs.Prelude.{◌≡◌, ◌<◌, IfOk, length, slice_index_or, position, is_some};
+ghost use Rattle.std.specs.Prelude.{None, []};
 ghost use Rattle.std.specs.Str.{bytes_eq};
 ghost use Rattle.tangle_names.specs.declared.Resolved.TheVariants.{NoFullName};
 
@@ -36,14 +37,14 @@ impl NameTable {
     ghost use Rattle.tangle_names.specs.NameTable.{table_of, table_over};
     ghost use Rattle.tangle_names.specs.Resolution.{IsResolutionOf};
 
-    /// The table of the names of a web. A name that ends in three dots is an abbreviation, and the others are full
-    /// names, mentions included. An abbreviation resolves to the one full name of the whole web that begins with what
-    /// stands before its dots. Full names have numbers from 0 on, in the order of the first occurrences that resolve
-    /// to them.
+    /// The table of the names of a web. A name that ends in three dots is an abbreviation, and the
+    /// others are full names, mentions included. An abbreviation resolves to the one full name of
+    /// the whole web that begins with what is before its dots. Full names have numbers from 0 on,
+    /// in the order of the first occurrences that resolve to them.
     ///
     /// # Errors
     ///
-    /// `NoMemory`, where a growth was refused.
+    /// `NoMemory`, where an allocation failed.
     pub fn build(alloc: Global, web: &Web) -> Result<NameTable, NoMemory>
         ensures { IfOk result (λ table. table ≡ table_of web.now) }
     {
@@ -52,8 +53,8 @@ impl NameTable {
     }
 
     /// The same table, built beside that of a web that was read before: where each occurrence is
-    /// written as the old one of its number, what the names resolve to is shared with the old table,
-    /// and nothing is sorted or looked up. Faults are placed anew in each case.
+    /// written as the old one of its number, what the names resolve to is shared with the old
+    /// table, and nothing is sorted or looked up. Faults are placed anew in each case.
     ///
     /// # Errors
     ///
@@ -114,7 +115,8 @@ impl NameTable {
         text.as_slice()
     }
 
-    /// The number of the first occurrence that resolves to the full name of this number, abbreviations included.
+    /// The number of the first occurrence that resolves to the full name of this number,
+    /// abbreviations included.
     pub fn first_occurrence(&self, id: usize) -> usize
         requires { id < length self.now.names }
         ensures { result ≡ slice_index_or self.now.first_occurrences id 0 }
@@ -122,7 +124,8 @@ impl NameTable {
         self.resolution.firsts[id]
     }
 
-    /// The number of the first occurrence with `@(` that resolves to the full name of this number, if there is one.
+    /// The number of the first occurrence with `@(` that resolves to the full name of this number,
+    /// if there is one.
     pub fn first_file_occurrence(&self, id: usize) -> Option<usize>
         requires { id < length self.now.names }
         ensures { result ≡ slice_index_or self.now.first_file_occurrences id None }
@@ -143,8 +146,9 @@ impl NameTable {
         self.first_file_occurrence(id).is_some()
     }
 
-    /// The faults of names: those of occurrences that resolve to no full name or to several, in their order, and then
-    /// the warnings for full names that begin others, in theirs, each at its name's first occurrence.
+    /// The faults of names: those of occurrences that resolve to no full name or to several, in
+    /// their order, and then the warnings for full names that begin others, in theirs, each at its
+    /// name's first occurrence.
     pub fn faults(&self) -> &[Fault]
         ensures { result.now ≡ self.now.faults }
     {

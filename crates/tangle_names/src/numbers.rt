@@ -4,7 +4,8 @@ ghost use Rattle.std.specs.List.{position_or_len};
 ghost use Rattle.std.specs.Str.{bytes_eq};
 ghost use Rattle.tangle_names.specs.Names.{One, full_names};
 ghost use Rattle.tangle_names.specs.Numbers.{is_unresolved, key_texts, numbers_from};
-ghost use Rattle.tangle_names.specs.Resolving.{names_in_order, names_of, resolution, resolve, with_name};
+ghost use Rattle.tangle_names.specs.Resolving.{names_in_order, names_of, resolution, resolve};
+ghost use Rattle.tangle_names.specs.Resolving.{with_name};
 ghost use Rattle.tangle_names.specs.Sorted.{IsInOrder, SameTexts, meaning_of, texts_of};
 
 use crate::Resolved;
@@ -46,15 +47,16 @@ fn resolve(
     }
 }
 
-/// What the occurrences resolve to, by what each means. The full names go into `names`, in the order of the first
-/// occurrences that resolve to them.
+/// What the occurrences resolve to, by what each means. The full names go into `names`, in the
+/// order of the first occurrences that resolve to them.
 fn resolve_all(
     alloc: Global,
     names: &mut IndexSet<Vec<u8>>,
     meanings: &[Meaning],
 ) -> Result<Vec<Resolved>, AllocError>
     requires { names.old.keys ≡ [] }
-    ensures names { OnOk result (key_texts names.new.keys ≡ names_of (map meaning_of meanings.now)) }
+    ensures names { OnOk result
+        (key_texts names.new.keys ≡ names_of (map meaning_of meanings.now)) }
     ensures resolved { let meant = map meaning_of meanings.now in
         IfOk result (λ resolved. resolved.items ≡ map (resolution (names_of meant)) meant) }
 {

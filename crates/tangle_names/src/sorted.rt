@@ -1,5 +1,6 @@
 //! The full names of a web in the order of their bytes, and what a name means among them.
-ghost use Rattle.std.specs.Prelude.{◌≡◌, ◌<◌, ◌+◌, ◌↔◌, List, ℕ, [], IfOk, IsTrue, true, length, map, slice_index_or};
+ghost use Rattle.std.specs.Prelude.{◌≡◌, ◌<◌, ◌+◌, ◌↔◌, List, ℕ, [], IfOk, IsTrue, true, length};
+ghost use Rattle.std.specs.Prelude.{map, slice_index_or};
 ghost use Rattle.std.specs.Ordering.{nat_cmp, is_lt};
 ghost use Rattle.std.specs.Cmp.Lexicographic.{slice_cmp};
 ghost use Rattle.tangle_names.specs.Names.{full_names, meaning, only_with, prefix};
@@ -8,7 +9,7 @@ ghost use Rattle.tangle_names.specs.Sorted.{BeginsAt, IsInOrder, SameTexts, mean
 use std::alloc::{AllocError, Global};
 use tangle_scan::Occurrence;
 
-/// The full names that a name may stand for.
+/// The full names that a name may represent.
 #[derive(Clone, Copy)]
 pub(crate) enum Meaning<'a> {
     Nothing,
@@ -22,7 +23,8 @@ pub(crate) fn sorted_names(
     occurrences: &[Occurrence],
 ) -> Result<Vec<&[u8]>, AllocError>
     ensures order { IfOk result (λ names. IsInOrder (texts_of names.items)) }
-    ensures same { IfOk result (λ names. SameTexts (full_names occurrences.now) (texts_of names.items)) }
+    ensures same { IfOk result
+        (λ names. SameTexts (full_names occurrences.now) (texts_of names.items)) }
 {
     let mut names = full_names(alloc, occurrences)?;
     names.sort_unstable();
@@ -58,7 +60,7 @@ pub(crate) fn begins_at(sorted: &[&[u8]], place: usize, prefix: &[u8]) -> bool
 }
 
 /// The one full name that begins with the prefix.
-// Such names aren't below the prefix, and stand together: two at most are looked at.
+// Such names aren't below the prefix, and are together: two at most are looked at.
 fn only_with<'a>(sorted: &[&'a [u8]], prefix: &[u8]) -> Meaning<'a>
     requires { IsInOrder (texts_of sorted.now) }
     ensures { (full : List (List ℕ)) → SameTexts full (texts_of sorted.now)
@@ -74,7 +76,7 @@ fn only_with<'a>(sorted: &[&'a [u8]], prefix: &[u8]) -> Meaning<'a>
     }
 }
 
-/// The prefix of an abbreviation: what stands before its three dots.
+/// The prefix of an abbreviation: what is before its three dots.
 fn prefix(abbreviation: &[u8]) -> &[u8]
     ensures { result.now ≡ prefix abbreviation.now }
 {

@@ -1,10 +1,11 @@
-//! Edits of a table of files: that they can be made, their limits from both sides, and each growth refused in turn.
+//! Edits of a table of files: that they can be made, their limits from both sides, and each
+//! allocation failing in turn.
 use crate::files::many_files;
 use std::alloc::Global;
 use std::process::Abort;
 use std::test::Fail;
 use tangle_lines::{Edit, Files, Refusal};
-use tangle_test_support::{Kind, edit, end_refusals, files_with, refuse_growth, repeated};
+use tangle_test_support::{Kind, edit, end_refusals, fail_allocation, files_with, repeated};
 
 /// What is asked of a table: a kind of edit, the file, the line, and the text.
 type Request<'a> = (Kind, &'a [u8], usize, &'a [u8]);
@@ -42,21 +43,21 @@ fn assert_file(
     files: &Files,
     number: usize,
     name: &[u8],
-    wanted: &[&[u8]],
+    expected: &[&[u8]],
 ) -> Result<(), Fail> {
     assert!(rt; files.name(number).ok_or("the name")? == name);
     let lines = files.lines(name).ok_or("the file")?;
-    assert_eq!(rt; lines.len(), wanted.len());
-    for (line, bytes) in lines.iter().zip(wanted) {
+    assert_eq!(rt; lines.len(), expected.len());
+    for (line, bytes) in lines.iter().zip(expected) {
         assert!(rt; line.bytes() == *bytes);
     }
     Ok(())
 }
 
 // These are the files of the table.
-fn assert_files(rt: &impl Abort, files: &Files, wanted: &[Content]) -> Result<(), Fail> {
-    assert_eq!(rt; files.count(), wanted.len());
-    for (number, (name, lines)) in wanted.iter().enumerate() {
+fn assert_files(rt: &impl Abort, files: &Files, expected: &[Content]) -> Result<(), Fail> {
+    assert_eq!(rt; files.count(), expected.len());
+    for (number, (name, lines)) in expected.iter().enumerate() {
         assert_file(rt, files, number, name, lines)?;
     }
     Ok(())
@@ -88,7 +89,8 @@ fn check_refused(
     assert_files(rt, &files, &TWO_FILES)
 }
 
-// Edits that the two files refuse: lines that are not there, line feeds, files that are not there or are, and what is no file name.
+// Edits that the two files refuse: lines that are not there, line feeds, files that are not there
+// or are, and what is no file name.
 const REFUSED: [(Request<'static>, Refusal); 13] = [
     ((Kind::Insert, b"a.w", 7, b"x"), Refusal::NoSuchLine),
     ((Kind::Insert, b"a.w", 0, b"x"), Refusal::NoSuchLine),
@@ -122,9 +124,9 @@ fn a_long_text_with_a_line_feed(rt: HostRuntime) -> Result<(), Fail> {
     check_refused(&rt, rt.alloc(), request, Refusal::BadLine)
 }
 
-// Edits that are made of the two files in turn, and all files behind each: insertions behind the last line and before the first, a
-// replacement, a removal, a new file, one that is discarded, a line that comes and goes, and how
-// line marks are written, which changes no file.
+// Edits that are made of the two files in turn, and all files behind each: insertions behind the
+// last line and before the first, a replacement, a removal, a new file, one that is discarded, a
+// line that comes and goes, and how line marks are written, which changes no file.
 const MADE: [(Request<'static>, &[Content]); 10] = [
     (
         (Kind::Insert, b"b.w", 3, b"% end  "),
@@ -171,9 +173,9 @@ const MADE: [(Request<'static>, &[Content]); 10] = [
 #[test]
 fn edits_that_are_made(rt: HostRuntime) -> Result<(), Fail> {
     let mut files = two_files(rt.alloc())?;
-    for (request, wanted) in &MADE {
+    for (request, expected) in &MADE {
         make(rt.alloc(), &mut files, *request)?;
-        assert_files(&rt, &files, wanted)?;
+        assert_files(&rt, &files, expected)?;
     }
     Ok(())
 }
@@ -261,10 +263,10 @@ fn most_files(rt: HostRuntime) -> Result<(), Fail> {
     Ok(())
 }
 
-// Makes the edit with this growth refused, and says whether none was.
+// Makes the edit with this allocation failing, and says whether none did.
 fn edit_is_spared(rt: &impl Abort, alloc: Global, edit: &Edit, nth: u32) -> Result<bool, Fail> {
     let mut files = two_files(alloc)?;
-    let is_harnessed = refuse_growth(alloc, nth);
+    let is_harnessed = fail_allocation(alloc, nth);
     let refusal = files.edit(edit).err();
     let was_spared = end_refusals(alloc, is_harnessed);
     if was_spared {
@@ -276,7 +278,7 @@ fn edit_is_spared(rt: &impl Abort, alloc: Global, edit: &Edit, nth: u32) -> Resu
     Ok(was_spared)
 }
 
-fn refuse_each_growth(rt: &impl Abort, alloc: Global, request: Request) -> Result<(), Fail> {
+fn fail_each_allocation(rt: &impl Abort, alloc: Global, request: Request) -> Result<(), Fail> {
     let edit = edit_of(alloc, request)?;
     for nth in 1..100 {
         if edit_is_spared(rt, alloc, &edit, nth)? {
@@ -298,9 +300,9 @@ const EACH_KIND: [Request<'static>; 7] = [
 ];
 
 #[test]
-fn each_growth_of_edits_refused(rt: HostRuntime) -> Result<(), Fail> {
+fn each_allocation_of_edits_failing(rt: HostRuntime) -> Result<(), Fail> {
     for request in &EACH_KIND {
-        refuse_each_growth(&rt, rt.alloc(), *request)?;
+        fail_each_allocation(&rt, rt.alloc(), *request)?;
     }
     Ok(())
 }

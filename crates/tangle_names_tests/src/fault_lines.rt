@@ -1,4 +1,4 @@
-//! What a fault's line reads like, and what of it stands where the stream takes no more.
+//! What a fault's line reads like, and what of it is where the stream takes no more.
 use std::alloc::Global;
 use std::io::{self, ErrorKind, Write};
 use std::process::Abort;
@@ -7,7 +7,7 @@ use tangle_folders::MemorySink;
 use tangle_lines::{Fault, FaultKind, IoSink, Sink, WriteFault, put, write_fault};
 use tangle_test_support::lines_of;
 
-// The lines of faults of every kind, as a user reads them. A fault in a file stands at line 7 of `a.w`.
+// The lines of faults of every kind, as a user reads them. A fault in a file is at line 7 of `a.w`.
 const PLAIN_FAULTS: [(FaultKind, &[u8]); 19] = [
     (
         FaultKind::StrayMark,
@@ -170,7 +170,7 @@ fn assert_counting(rt: &impl Abort, fault: &Fault) {
     assert!(rt; fault.subject().is_empty());
 }
 
-// It stands at line 1 of the change file.
+// It is at line 1 of the change file.
 fn assert_place(rt: &impl Abort, fault: &Fault) -> Result<(), Fail> {
     let place = fault.place().ok_or("a place")?;
     assert!(rt; place.file() == b"a.ch".as_slice());

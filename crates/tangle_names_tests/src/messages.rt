@@ -3,7 +3,7 @@ use std::test::Fail;
 use tangle_lines::{NoMemory, Refusal, WriteFault};
 
 #[test]
-fn want_of_memory_in_words(rt: HostRuntime) -> Result<(), Fail> {
+fn out_of_memory_in_words(rt: HostRuntime) -> Result<(), Fail> {
     let text = format!(in rt.alloc(); "{}", NoMemory)?;
     assert!(rt; text.as_str() == "no memory");
     Ok(())

@@ -11,7 +11,7 @@ use std::test::Fail;
 use tangle_lines::NoMemory;
 use tangle_names::NameTable;
 use tangle_scan::{Web, scan};
-use tangle_test_support::{end_refusals, files_with, read, refuse_growth};
+use tangle_test_support::{end_refusals, fail_allocation, files_with, read};
 
 // Four names and three faults.
 const OLD: &[u8] = b"@ A.\n@c\n@<a...@>@<a@>@<ab@>@<c...@>@<b@>@(d@>\n";
@@ -40,7 +40,7 @@ fn rebuilding_is_spared(
 ) -> bool
     requires { table.now ≡ table_of old.now }
 {
-    let is_harnessed = refuse_growth(alloc, nth);
+    let is_harnessed = fail_allocation(alloc, nth);
     let counts = rebuilt(alloc, old, table, new).map(|made| (made.count(), made.faults().len()));
     let was_spared = end_refusals(alloc, is_harnessed);
     assert_eq!(rt; matches!(counts, Ok((4, 3))), was_spared);

@@ -7,8 +7,8 @@ use std::test::Fail;
 use tangle_scan::{Item, Occurrence, OccurrenceRole, Web, scan};
 use tangle_test_support::{files_with, lines_of, read};
 
-// Webs, and what they are: sections, macros, pieces, names and faults. An item is its kind with its text: `w` a word, `s` a sign, `q` quoted, `v` verbatim,
-// `_` a blank, `/` a line end.
+// Webs, and what they are: sections, macros, pieces, names and faults. An item is its kind with its
+// text: `w` a word, `s` a sign, `q` quoted, `v` verbatim, `_` a blank, `/` a line end.
 const WEBS: [(&[u8], &[u8]); 6] = [
     // Definitions, and their use.
     (
@@ -136,7 +136,7 @@ fn show_pieces(alloc: Global, shown: &mut Vec<u8>, web: &Web) -> Result<(), Fail
     for piece in web.pieces() {
         let line = piece.place().line;
         shown.extend_from_slice(format!(in alloc; "{} at {line} ", piece.section())?.as_bytes())?;
-        if let Some(name) = piece.name() {
+        if let Some(name) = piece.occurrence() {
             shown.extend_from_slice(format!(in alloc; "named {name} ")?.as_bytes())?;
         }
         show_items(alloc, shown, web, piece.items())?;
@@ -175,12 +175,12 @@ fn show_web(alloc: Global, web: &Web) -> Result<Vec<u8>, Fail> {
 #[test]
 fn items_places_and_faults(rt: HostRuntime) -> Result<(), Fail> {
     let alloc = rt.alloc();
-    for (web, wanted) in WEBS {
+    for (web, expected) in WEBS {
         let files = files_with(alloc, &[(b"a.w", web)])?;
         let source = read(alloc, &files, None)?;
         let web = scan(alloc, &source)?;
         let shown = show_web(alloc, &web)?;
-        assert_eq!(rt; shown.as_slice(), wanted);
+        assert_eq!(rt; shown.as_slice(), expected);
     }
     Ok(())
 }

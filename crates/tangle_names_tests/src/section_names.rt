@@ -19,11 +19,11 @@ pub(crate) fn assert_names(rt: &impl Abort, table: &NameTable, names: &[&[u8]]) 
     }
 }
 
-fn assert_resolved(rt: &impl Abort, web: &Web, table: &NameTable, wanted: &[Resolved])
+fn assert_resolved(rt: &impl Abort, web: &Web, table: &NameTable, expected: &[Resolved])
     requires { table.now ≡ table_of web.now }
 {
-    assert_eq!(rt; web.occurrences().len(), wanted.len());
-    for (occurrence, resolved) in wanted.iter().enumerate() {
+    assert_eq!(rt; web.occurrences().len(), expected.len());
+    for (occurrence, resolved) in expected.iter().enumerate() {
         assert_eq!(rt; table.resolve(occurrence), *resolved);
     }
 }
@@ -40,7 +40,8 @@ fn table_for(alloc: Global, text: &[u8]) -> Result<NameTable, Fail> {
     table_of_source(alloc, &source)
 }
 
-// The web with this text has these names, its occurrences resolve so, and the lines of its faults are these.
+// The web with this text has these names, its occurrences resolve so, and the lines of its faults
+// are these.
 fn check_names(
     rt: &impl Abort,
     alloc: Global,

@@ -1,13 +1,13 @@
 -- What is gathered of a web, part by part.
 use Rattle.std.specs.Prelude.{ℕ, Bool, false, ◌||◌, List, [], ◌∷◌, ◌++◌, flat_map, map}
 use Rattle.std.specs.List.{list_any}
-use Rattle.tangle_lines.specs.Faults.{Finding}
+use Rattle.tangle_lines.specs.Faults.{FaultRead}
 use Rattle.tangle_files.specs.Lines.{FileTable}
 use Rattle.tangle_lines.specs.Reading.{Line, SourceRead}
 use Rattle.tangle_scan.specs.declared.items.Item.{Item}
 use Rattle.tangle_lexer.specs.declared.tokens.Token.{Token}
 use Rattle.tangle_lexer.specs.declared.tokens.Token.TheVariants as token
-use Rattle.tangle_scan.specs.Web.{PieceRead, WebRead, texts_of, blocks, block_at, section_behind, section_count, piece_of, macro_of, has_defs, scan_faults, faults_at, fault_on}
+use Rattle.tangle_scan.specs.Web.{PieceRead, WebRead, texts_of, blocks, block_at, section_behind, section_count, piece_of, macro_of, has_all_macros, scan_faults, faults_at, fault_on}
 use Rattle.tangle_lexer.specs.Occurrences.{OccurrenceRead}
 
 -- what was gathered so far
@@ -16,7 +16,7 @@ pub record GatheringRead : Type 0 where
   pub pieces : List PieceRead
   pub macros : List (List Item)
   pub has_defs_code : Bool
-  pub faults : List Finding
+  pub faults : List FaultRead
 
 abbrev pub nothing : GatheringRead
 nothing = record { sections = 0; pieces = []; macros = []; has_defs_code = false; faults = [] }
@@ -27,12 +27,12 @@ gathering_with source before tokens = record {
   sections = section_count before.sections tokens;
   pieces = before.pieces ++ flat_map (piece_of source.lines) (blocks before.sections tokens);
   macros = before.macros ++ flat_map (macro_of source.lines) (blocks before.sections tokens);
-  has_defs_code = before.has_defs_code || list_any has_defs (blocks before.sections tokens);
+  has_defs_code = before.has_defs_code || list_any has_all_macros (blocks before.sections tokens);
   faults = before.faults ++ scan_faults source.files source.lines tokens;
 }
 
 -- the fault that a token is by itself
-abbrev pub own_fault : FileTable → List Line → Token → List Finding
+abbrev pub own_fault : FileTable → List Line → Token → List FaultRead
 own_fault files lines (token.Fault kind line) = fault_on files lines kind line ∷ []
 own_fault files lines _ = []
 
@@ -42,7 +42,7 @@ with_head source before head tokens = record {
   sections = section_behind before.sections head;
   pieces = before.pieces ++ flat_map (piece_of source.lines) (block_at before.sections head tokens);
   macros = before.macros ++ flat_map (macro_of source.lines) (block_at before.sections head tokens);
-  has_defs_code = before.has_defs_code || list_any has_defs (block_at before.sections head tokens);
+  has_defs_code = before.has_defs_code || list_any has_all_macros (block_at before.sections head tokens);
   faults = before.faults ++ faults_at source.files source.lines head tokens;
 }
 

@@ -1,4 +1,4 @@
--- The compiler's place in a piece, and that the piece's texts stand there on their own lines.
+-- The compiler's place in a piece, and that the piece's texts are there on their own lines.
 use Rattle.std.specs.Prelude.{◌≡◌, ◌<◌, ℕ, length, Bool, true, false, List, [], ◌∷◌, flat_map, if◌then◌else◌, Option, Some, None}
 use Rattle.std.specs.List.{AllZip}
 use Rattle.tangle_lines.specs.declared.faults.Origin.{Origin}
@@ -12,7 +12,7 @@ use Rattle.tangle_scan.specs.Web.{WebRead, BlockKind, blocks}
 use Rattle.tangle_scan.specs.Web.BlockKind.{OfMacro, OfPiece}
 use Rattle.tangle_scan.specs.Rules.{text_item, next_line, without_faults}
 
--- Items with a text of their own are words, signs, quoted and verbatim texts, and ASCII codes.
+-- Items with a text of their own are words, signs, quoted and verbatim texts, and ASCII constants.
 
 -- an item with a text, and the compiler's place there, where it is known
 pub record Placed : Type 0 where
@@ -39,9 +39,9 @@ placed_items place (item.UseOf name ∷ items) = placed_items None items
 placed_items place (item.Defs ∷ items) = placed_items None items
 placed_items place (item.Blank ∷ items) = placed_items place items
 
--- An item with a text, the source line that the text stands on, and whether it is in a stretch, where the compiler's place is another.
--- The item of an ASCII code doesn't tell its line, and a run that was removed has no item: so these come from the tokens of the part.
-pub record Standing : Type 0 where
+-- An item with a text, the source line that the text is on, and whether it is in a stretch, where the compiler's place is another.
+-- The item of an ASCII constant doesn't report its line, and a run that was removed has no item: so these come from the tokens of the part.
+pub record Location : Type 0 where
   pub item : Item
   pub line : ℕ
   pub in_stretch : Bool
@@ -51,47 +51,47 @@ pub record Standing : Type 0 where
 abbrev pub is_on : Bool → Bool → Bool → Bool
 is_on stretch join broken = if broken then join else stretch
 
--- What the tokens with a text are as items, and where they stand. A stretch begins at a line end that a quoted text takes with it, and
+-- What the tokens with a text are as items, and where they are. A stretch begins at a line end that a quoted text takes with it, and
 -- where a run with a line end is removed; it ends at a line end that stays and at a mark. The flags say whether a stretch is on before
--- the run that stands directly before, and whether this run has a join and a line end.
-abbrev pub standings : Bool → Bool → Bool → List Token → List Standing
-standings stretch join broken [] = []
-standings stretch join broken (token.Join ∷ es) = standings stretch true broken es
-standings stretch join broken (token.White ∷ es) = standings stretch join broken es
-standings stretch join broken (token.LineEnd line ∷ es) = standings stretch join true es
-standings stretch join broken (token.QuoteBreak ∷ es) = standings true false false es
-standings stretch join broken (token.UseOf name line ∷ es) = standings false false false es
-standings stretch join broken (token.Defs line ∷ es) = standings false false false es
-standings stretch join broken (token.Text kind s ∷ es) =
-    record { item = text_item kind s; line = s.line; in_stretch = is_on stretch join broken } ∷ standings (is_on stretch join broken) false false es
-standings stretch join broken (token.Constant b line ∷ es) =
-    record { item = item.Code b; line = line; in_stretch = is_on stretch join broken } ∷ standings (is_on stretch join broken) false false es
-standings stretch join broken (_ ∷ es) = standings (is_on stretch join broken) false false es
+-- the run that is directly before, and whether this run has a join and a line end.
+abbrev pub locations : Bool → Bool → Bool → List Token → List Location
+locations stretch join broken [] = []
+locations stretch join broken (token.Join ∷ es) = locations stretch true broken es
+locations stretch join broken (token.White ∷ es) = locations stretch join broken es
+locations stretch join broken (token.LineEnd line ∷ es) = locations stretch join true es
+locations stretch join broken (token.QuoteBreak ∷ es) = locations true false false es
+locations stretch join broken (token.UseOf name line ∷ es) = locations false false false es
+locations stretch join broken (token.AllMacros line ∷ es) = locations false false false es
+locations stretch join broken (token.Text kind s ∷ es) =
+    record { item = text_item kind s; line = s.line; in_stretch = is_on stretch join broken } ∷ locations (is_on stretch join broken) false false es
+locations stretch join broken (token.AsciiConstant b line ∷ es) =
+    record { item = item.Code b; line = line; in_stretch = is_on stretch join broken } ∷ locations (is_on stretch join broken) false false es
+locations stretch join broken (_ ∷ es) = locations (is_on stretch join broken) false false es
 
--- Both are the same item, which stands on a line of the source; outside a stretch the compiler's place is that of this line.
-pub record IsOwn (lines : List Line) (p : Placed) (s : Standing) : Type 0 where
+-- Both are the same item, which is on a line of the source; outside a stretch the compiler's place is that of this line.
+pub record IsOwn (lines : List Line) (p : Placed) (s : Location) : Type 0 where
   pub item : p.item ≡ s.item
   pub line : s.line < length lines
   pub place : s.in_stretch ≡ false → p.place ≡ Some (place_at lines s.line)
 
--- The items with a text of a piece whose opening mark has this place, and where they stand: outside stretches each stands at the
+-- The items with a text of a piece whose opening mark has this place, and where they are: outside stretches each is at the
 -- compiler's place that is its own.
-abbrev pub StandsAtItsLine : List Line → Origin → List Item → List Standing → Type 0
-StandsAtItsLine lines mark items stands = AllZip (IsOwn lines) (placed_items (Some mark) items) stands
+abbrev pub IsAtItsLine : List Line → Origin → List Item → List Location → Type 0
+IsAtItsLine lines mark items text_lines = AllZip (IsOwn lines) (placed_items (Some mark) items) text_lines
 
--- where the texts of a C part stand
-abbrev pub part_standings : List Token → List Standing
-part_standings tokens = standings false false false (without_faults tokens)
+-- where the texts of a C part are
+abbrev pub part_locations : List Token → List Location
+part_locations tokens = locations false false false (without_faults tokens)
 
-abbrev pub kind_standings : BlockKind → List Token → List (List Standing)
-kind_standings (OfMacro line) tokens = []
-kind_standings (OfPiece name line) tokens = part_standings tokens ∷ []
+abbrev pub kind_locations : BlockKind → List Token → List (List Location)
+kind_locations (OfMacro line) tokens = []
+kind_locations (OfPiece occurrence line) tokens = part_locations tokens ∷ []
 
--- where the texts of each piece of the source stand, in the order of the pieces
-abbrev pub piece_standings : List Line → List (List Standing)
-piece_standings lines = flat_map (λ b. kind_standings b.kind b.tokens) (blocks 0 (all_tokens lines))
+-- where the texts of each piece of the source are, in the order of the pieces
+abbrev pub piece_locations : List Line → List (List Location)
+piece_locations lines = flat_map (λ b. kind_locations b.kind b.tokens) (blocks 0 (all_tokens lines))
 
--- the texts of each piece stand at their lines
-abbrev pub PiecesStandAtTheirLines : SourceRead → WebRead → Type 0
-PiecesStandAtTheirLines source web =
-    AllZip (λ p stands. StandsAtItsLine source.lines p.place p.items stands) web.pieces (piece_standings source.lines)
+-- the texts of each piece are at their lines
+abbrev pub PiecesAreAtTheirLines : SourceRead → WebRead → Type 0
+PiecesAreAtTheirLines source web =
+    AllZip (λ p text_lines. IsAtItsLine source.lines p.place p.items text_lines) web.pieces (piece_locations source.lines)

@@ -1,4 +1,4 @@
--- What is still to come of the rules for items, where a pass over the tokens stands.
+-- What is still to come of the rules for items, where a pass over the tokens is.
 use Rattle.std.specs.Prelude.{◌≡◌, ◌≤◌, ℕ, max, Bool, true, false, ◌||◌, not, if◌then◌else◌}
 use Rattle.std.specs.Prelude.{List, [], ◌∷◌, ◌++◌, length, take, drop}
 use Rattle.std.specs.Prelude.{Option, Some, None, option_to_list}
@@ -29,7 +29,7 @@ pub record IsRun (out : List Token) (run : Run) : Type 0 where
   pub start : run.start ≤ length out
   pub has : run.has_join ≡ has_join (drop run.start out)
 
--- rule 2 where its run begins at a place of what was put out
+-- rule 2 where its run begins at a place of what was added
 unfoldable pub without_joins_from : List Token → ℕ → List Token → List Token
 without_joins_from out start es = take start out ++ without_joins (drop start out) es
 
@@ -67,8 +67,8 @@ is_skipped at e = false
 abbrev pub is_rare : Token → Bool
 is_rare (token.Fault kind line) = true
 is_rare token.Join = true
-is_rare (token.Constant value line) = true
-is_rare (token.Defs line) = true
+is_rare (token.AsciiConstant value line) = true
+is_rare (token.AllMacros line) = true
 is_rare e = false
 
 abbrev pub is_front_gap : Token → Bool
@@ -76,18 +76,18 @@ is_front_gap token.White = true
 is_front_gap (token.LineEnd line) = true
 is_front_gap e = false
 
--- what stands behind the white space and the line ends at the front
+-- what is behind the white space and the line ends at the front
 abbrev pub behind_front : List Token → List Token
 behind_front [] = []
 behind_front (e ∷ es) = if is_front_gap e then behind_front es else e ∷ es
 
--- the second token may stand behind the first, the name of a macro
+-- the second token may be behind the first, the name of a macro
 abbrev pub is_name_spaced : List (List ℕ) → List Token → Bool
 is_name_spaced texts [] = true
 is_name_spaced texts (e ∷ []) = true
 is_name_spaced texts (e ∷ f ∷ es) = may_follow_name texts f
 
--- rules 3 to 5, where an item, or white space, stands before on the line, and the count of lines stands so far
+-- rules 3 to 5, where an item, or white space, is before on the line, and the count of lines is so far
 
 abbrev pub counts : Count → Origin
 counts count = record { file = count.file; line = count.line }
@@ -99,19 +99,19 @@ items_ahead lines at es = items_by_place lines (counts at.count) (blanks at.befo
 abbrev pub item_of : Token → Option Item
 item_of (token.Text kind s) = Some (text_item kind s)
 item_of token.QuoteBreak = Some item.QuoteBreak
-item_of (token.Constant b line) = Some (item.Code b)
+item_of (token.AsciiConstant b line) = Some (item.Code b)
 item_of _ = None
 
 -- the items that rules 4 and 5 give for a token that is no white space and no line end
 abbrev pub items_at : List Line → Token → List Item
 items_at lines (token.UseOf name line) = item.UseOf name ∷ item.LineMark (place_at lines line) ∷ []
-items_at lines (token.Defs line) = item.Defs ∷ item.LineMark (place_at lines line) ∷ []
+items_at lines (token.AllMacros line) = item.Defs ∷ item.LineMark (place_at lines line) ∷ []
 items_at lines e = option_to_list (item_of e)
 
 -- the count behind it
 abbrev pub count_after : List Line → Origin → Token → Origin
 count_after lines count (token.UseOf name line) = place_at lines line
-count_after lines count (token.Defs line) = place_at lines line
+count_after lines count (token.AllMacros line) = place_at lines line
 count_after lines count token.QuoteBreak = next_line count
 count_after lines count e = count
 
@@ -126,18 +126,18 @@ joins_ahead (token.LineEnd line ∷ es) = joins_ahead es
 joins_ahead (token.Fault kind line ∷ es) = joins_ahead es
 joins_ahead (e ∷ es) = false
 
--- rule 1 for a token, by what stands last before it
+-- rule 1 for a token, by what is last before it
 abbrev pub touches : Last → Token → Bool
 touches last.Word e = is_constant e
-touches last.Constant e = is_constant e || is_word_token e
+touches last.AsciiConstant e = is_constant e || is_word_token e
 touches _ e = false
 
--- a blank stands before the item of this token
-abbrev pub wants_blank : Last → Token → Bool
-wants_blank last.White e = true
-wants_blank at e = touches at e
+-- a blank is before the item of this token
+abbrev pub needs_blank : Last → Token → Bool
+needs_blank last.White e = true
+needs_blank at e = touches at e
 
--- what stands last behind white space, and behind a token that is an item
+-- what is last behind white space, and behind a token that is an item
 
 abbrev pub behind_white : Last → Last
 behind_white last.Front = last.Front
@@ -146,14 +146,14 @@ behind_white _ = last.White
 
 abbrev pub last_of : Token → Last
 last_of (token.Text text_kind.Word s) = last.Word
-last_of (token.Constant value line) = last.Constant
+last_of (token.AsciiConstant value line) = last.AsciiConstant
 last_of _ = last.Other
 
 abbrev pub is_joined : Last → Bool
 is_joined last.Joined = true
 is_joined _ = false
 
--- the items that all rules give for the tokens to come, by what stands last before them and by the
+-- the items that all rules give for the tokens to come, by what is last before them and by the
 -- count of lines
 abbrev pub laid : List Line → Last → Origin → List Token → List Item
 laid lines at count [] = []
@@ -164,7 +164,7 @@ laid lines at count (token.LineEnd line ∷ es) =
     if is_joined at || joins_ahead es then laid lines last.Joined count es
     else line_item lines count line ∷ laid lines last.Front (count_behind lines count line) es
 laid lines at count (e ∷ es) =
-    (if wants_blank at e then item.Blank ∷ [] else [])
+    (if needs_blank at e then item.Blank ∷ [] else [])
     ++ (items_at lines e ++ laid lines (last_of e) (count_after lines count e) es)
 
 -- line ends were laid that a join takes back

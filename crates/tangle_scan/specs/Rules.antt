@@ -17,7 +17,7 @@ use Rattle.tangle_lexer.specs.Bytes.{left_parenthesis, is_digit}
 abbrev pub span_text : List (List ℕ) → Span → List ℕ
 span_text texts s = take (s.end - s.start) (drop s.start (get_or texts s.line []))
 
--- what stands behind it in its line
+-- what is behind it in its line
 abbrev pub text_behind : List (List ℕ) → Span → List ℕ
 text_behind texts s = drop s.end (get_or texts s.line [])
 
@@ -34,7 +34,7 @@ without_faults (e ∷ es) = e ∷ without_faults es
 -- Rule 1: white space is put between a word and an ASCII constant that touch, in either order, and between two constants.
 
 abbrev pub is_constant : Token → Bool
-is_constant (token.Constant value line) = true
+is_constant (token.AsciiConstant value line) = true
 is_constant _ = false
 
 abbrev pub is_word_token : Token → Bool
@@ -59,8 +59,8 @@ may_follow_name texts (token.Text text_kind.Sign s) = first_byte texts s == left
 may_follow_name texts _ = false
 
 abbrev pub with_space_behind : List (List ℕ) → Token → List Token → List Token
-with_space_behind texts name [] = name ∷ []
-with_space_behind texts name (e ∷ es) = name ∷ (if may_follow_name texts e then [] else token.White ∷ []) ++ e ∷ es
+with_space_behind texts first [] = first ∷ []
+with_space_behind texts first (e ∷ es) = first ∷ (if may_follow_name texts e then [] else token.White ∷ []) ++ e ∷ es
 
 abbrev pub with_name_space : List (List ℕ) → List Token → List Token
 with_name_space texts [] = []
@@ -89,7 +89,7 @@ has_join (e ∷ es) = has_join es
 abbrev pub left_of_run : List Token → List Token
 left_of_run run = if has_join run then [] else run
 
--- the first list is the run that stands before the second
+-- the first list is the run that is before the second
 abbrev pub without_joins : List Token → List Token → List Token
 without_joins run [] = left_of_run run
 without_joins run (token.Join ∷ es) = without_joins (run ++ token.Join ∷ []) es
@@ -98,7 +98,7 @@ without_joins run (token.LineEnd line ∷ es) = without_joins (run ++ token.Line
 without_joins run (e ∷ es) = left_of_run run ++ e ∷ without_joins [] es
 
 -- Rule 3: of a run of white space between two items with no line end in it one White is left, which is a blank; other white space is
--- dropped. The flags say whether an item stands before with no line end behind it, and whether white space stands directly before.
+-- dropped. The flags say whether an item is before with no line end behind it, and whether white space is directly before.
 
 abbrev pub blanks : Bool → Bool → List Token → List Token
 blanks item white [] = []
@@ -107,7 +107,7 @@ blanks item white (token.LineEnd line ∷ es) = token.LineEnd line ∷ blanks fa
 blanks item white (e ∷ es) = (if item && white then token.White ∷ [] else []) ++ e ∷ blanks true false es
 
 -- Rules 4 and 5: the place that the compiler counts. A line end goes on by one line; it is a mark instead where the next source line has
--- another place. A mark stands behind each use and each @h too, for the line on which it ends.
+-- another place. A mark is behind each use and each @h too, for the line on which it ends.
 
 abbrev pub next_line : Origin → Origin
 next_line p = record { file = p.file; line = p.line + 1 }
@@ -115,7 +115,7 @@ next_line p = record { file = p.file; line = p.line + 1 }
 abbrev pub same_place : Origin → Origin → Bool
 same_place p q = p.file == q.file && p.line == q.line
 
--- behind this line, with this count, no mark is wanted: it is the last one, or the next one has the place that is counted
+-- behind this line, with this count, no mark is needed: it is the last one, or the next one has the place that is counted
 abbrev pub goes_on : List Line → Origin → ℕ → Bool
 goes_on lines count line =
     nat_le (length lines) (line + 1) || same_place (place_at lines (line + 1)) (next_line count)
@@ -142,11 +142,11 @@ items_by_place lines count (token.LineEnd line ∷ es) =
     line_item lines count line ∷ items_by_place lines (count_behind lines count line) es
 items_by_place lines count (token.QuoteBreak ∷ es) = item.QuoteBreak ∷ items_by_place lines (next_line count) es
 items_by_place lines count (token.Text kind s ∷ es) = text_item kind s ∷ items_by_place lines count es
-items_by_place lines count (token.Constant value line ∷ es) = item.Code value ∷ items_by_place lines count es
+items_by_place lines count (token.AsciiConstant value line ∷ es) = item.Code value ∷ items_by_place lines count es
 items_by_place lines count (token.White ∷ es) = item.Blank ∷ items_by_place lines count es
 items_by_place lines count (token.UseOf name line ∷ es) =
     item.UseOf name ∷ item.LineMark (place_at lines line) ∷ items_by_place lines (place_at lines line) es
-items_by_place lines count (token.Defs line ∷ es) =
+items_by_place lines count (token.AllMacros line ∷ es) =
     item.Defs ∷ item.LineMark (place_at lines line) ∷ items_by_place lines (place_at lines line) es
 -- heads, joins and faults are no items
 items_by_place lines count (_ ∷ es) = items_by_place lines count es
@@ -169,9 +169,9 @@ unmarked_items [] = []
 unmarked_items (token.LineEnd line ∷ es) = item.LineEnd ∷ unmarked_items es
 unmarked_items (token.QuoteBreak ∷ es) = item.QuoteBreak ∷ unmarked_items es
 unmarked_items (token.Text kind s ∷ es) = text_item kind s ∷ unmarked_items es
-unmarked_items (token.Constant value line ∷ es) = item.Code value ∷ unmarked_items es
+unmarked_items (token.AsciiConstant value line ∷ es) = item.Code value ∷ unmarked_items es
 unmarked_items (token.White ∷ es) = item.Blank ∷ unmarked_items es
--- uses and @h do not stand in macros; heads, joins and faults are no items
+-- uses and @h are not in macros; heads, joins and faults are no items
 unmarked_items (_ ∷ es) = unmarked_items es
 
 abbrev pub macro_items : List (List ℕ) → List Token → List Item

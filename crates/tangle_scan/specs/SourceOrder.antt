@@ -1,4 +1,4 @@
--- Where the texts of items stand: in lines of the source, and in its order.
+-- Where the texts of items are: in lines of the source, and in its order.
 use Rattle.std.specs.Prelude.{◌≡◌, ◌≤◌, ◌<◌, ℕ, List, [], ◌∷◌, length, get_or, flat_map}
 use Rattle.std.specs.List.{All, AllPairs}
 use Rattle.tangle_lexer.specs.declared.spans.Span.{Span}
@@ -34,11 +34,11 @@ item_spans (item.Quoted s ∷ items) = s ∷ item_spans items
 item_spans (item.Verbatim s ∷ items) = s ∷ item_spans items
 item_spans (_ ∷ items) = item_spans items
 
--- one span ends before the other begins: it stands on an earlier line, or further left on the same line
+-- one span ends before the other begins: it is on an earlier line, or further left on the same line
 abbrev pub IsBefore : Span → Span → Type 0
 IsBefore s t = (s.line ≤ t.line) × (s.line ≡ t.line → s.end ≤ t.start)
 
--- Of the spans of all pieces, one piece after another, each stands before all later ones; so do those of all macros.
+-- Of the spans of all pieces, one piece after another, each is before all later ones; so do those of all macros.
 pub record SpansAreInOrder (web : WebRead) : Type 0 where
   pub pieces : AllPairs IsBefore (flat_map (λ p. item_spans p.items) web.pieces)
   pub macros : AllPairs IsBefore (flat_map item_spans web.macros)

@@ -4,17 +4,17 @@ use Rattle.std.specs.List.{list_any}
 use Rattle.tangle_lines.specs.declared.faults.Origin.{Origin}
 use Rattle.tangle_lines.specs.declared.faults.FaultKind.{FaultKind}
 use Rattle.tangle_lines.specs.declared.faults.FaultKind.TheVariants as fault
-use Rattle.tangle_lines.specs.Faults.{Finding, fault_at}
+use Rattle.tangle_lines.specs.Faults.{FaultRead, fault_at}
 use Rattle.tangle_lines.specs.Reading.{Line, SourceRead, named, place_at}
 use Rattle.tangle_files.specs.Lines.{FileTable}
 use Rattle.tangle_scan.specs.declared.items.Item.{Item}
 use Rattle.tangle_scan.specs.declared.items.Item.TheVariants as item
 use Rattle.tangle_lexer.specs.declared.tokens.Token.{Token}
 use Rattle.tangle_lexer.specs.declared.tokens.Token.TheVariants as token
-use Rattle.tangle_lexer.specs.Lexemes.{NameRead}
+use Rattle.tangle_lexer.specs.Lexemes.{ReadOccurrence}
 use Rattle.tangle_lexer.specs.Heads.{is_head}
 use Rattle.tangle_lexer.specs.Occurrences.{OccurrenceRead, occurrence_of}
-use Rattle.tangle_lexer.specs.Steps.{all_tokens, all_names}
+use Rattle.tangle_lexer.specs.Steps.{all_tokens, all_occurrences}
 use Rattle.tangle_scan.specs.Rules.{part_items, macro_items, is_macro}
 
 -- a piece: a C part, with the number of its section, the place of its opening mark, the number of its name's occurrence if it has a name,
@@ -22,7 +22,7 @@ use Rattle.tangle_scan.specs.Rules.{part_items, macro_items, is_macro}
 pub record PieceRead : Type 0 where
   pub section : ℕ
   pub place : Origin
-  pub name : Option ℕ
+  pub occurrence : Option ℕ
   pub items : List Item
 
 -- a line mark
@@ -39,7 +39,7 @@ pub record WebRead : Type 0 where
   pub macros : List (List Item)
   pub occurrences : List OccurrenceRead
   pub has_defs_code : Bool
-  pub faults : List Finding
+  pub faults : List FaultRead
 
 -- the C parts and macros
 
@@ -53,7 +53,7 @@ pub data BlockKind : Type 0 where
   OfMacro : ℕ → BlockKind
   OfPiece : Option ℕ → ℕ → BlockKind
 
--- what stands behind a head, up to the next one, with the number of its section
+-- what is behind a head, up to the next one, with the number of its section
 pub record Block : Type 0 where
   pub section : ℕ
   pub kind : BlockKind
@@ -63,7 +63,7 @@ pub record Block : Type 0 where
 abbrev pub block_at : ℕ → Token → List Token → List Block
 block_at section (token.MacroStart line) es = record { section = section; kind = OfMacro line; tokens = body es } ∷ []
 block_at section (token.UnnamedPart line) es = record { section = section; kind = OfPiece None line; tokens = body es } ∷ []
-block_at section (token.NamedPart name line) es = record { section = section; kind = OfPiece (Some name) line; tokens = body es } ∷ []
+block_at section (token.NamedPart occurrence line) es = record { section = section; kind = OfPiece (Some occurrence) line; tokens = body es } ∷ []
 block_at section _ es = []
 
 -- the number of the section behind a token
@@ -80,17 +80,17 @@ abbrev pub section_count : ℕ → List Token → ℕ
 section_count section [] = section
 section_count section (e ∷ es) = section_count (section_behind section e) es
 
-abbrev pub is_defs : Token → Bool
-is_defs (token.Defs line) = true
-is_defs _ = false
+abbrev pub is_all_macros : Token → Bool
+is_all_macros (token.AllMacros line) = true
+is_all_macros _ = false
 
 -- a C part with @h
-abbrev pub kind_has_defs : BlockKind → List Token → Bool
-kind_has_defs (OfMacro line) tokens = false
-kind_has_defs (OfPiece name line) tokens = list_any is_defs tokens
+abbrev pub kind_has_macros : BlockKind → List Token → Bool
+kind_has_macros (OfMacro line) tokens = false
+kind_has_macros (OfPiece occurrence line) tokens = list_any is_all_macros tokens
 
-abbrev pub has_defs : Block → Bool
-has_defs p = kind_has_defs p.kind p.tokens
+abbrev pub has_all_macros : Block → Bool
+has_all_macros p = kind_has_macros p.kind p.tokens
 
 -- from blocks to pieces and macros
 
@@ -100,8 +100,8 @@ module _ (lines : List Line) where
 
   abbrev pub kind_piece : BlockKind → Block → List PieceRead
   kind_piece (OfMacro line) p = []
-  kind_piece (OfPiece name line) p =
-      record { section = p.section; place = place_at lines line; name = name; items = part_items lines line p.tokens } ∷ []
+  kind_piece (OfPiece occurrence line) p =
+      record { section = p.section; place = place_at lines line; occurrence = occurrence; items = part_items lines line p.tokens } ∷ []
 
   -- the piece that a block is
   abbrev pub piece_of : Block → List PieceRead
@@ -112,34 +112,34 @@ module _ (lines : List Line) where
 
   abbrev pub kind_macro : BlockKind → Block → List (List Item)
   kind_macro (OfMacro line) p = kept_macro (macro_items texts_of p.tokens)
-  kind_macro (OfPiece name line) p = []
+  kind_macro (OfPiece occurrence line) p = []
 
   -- the macro that a block is, unless it is dropped
   abbrev pub macro_of : Block → List (List Item)
   macro_of p = kind_macro p.kind p
 
 module _ (files : FileTable) (lines : List Line) where
-  abbrev pub fault_on : FaultKind → ℕ → Finding
+  abbrev pub fault_on : FaultKind → ℕ → FaultRead
   fault_on kind line = fault_at kind (named files (place_at lines line))
 
   -- the fault of a macro that is dropped
-  abbrev pub macro_fault : ℕ → List Token → List Finding
+  abbrev pub macro_fault : ℕ → List Token → List FaultRead
   macro_fault line es =
       if is_macro (texts_of lines) (macro_items (texts_of lines) (body es)) then [] else fault_on fault.MacroName line ∷ []
 
-  -- the fault that a token is; that of a macro stands at its @d
-  abbrev pub faults_at : Token → List Token → List Finding
+  -- the fault that a token is; that of a macro is at its @d
+  abbrev pub faults_at : Token → List Token → List FaultRead
   faults_at (token.Fault kind line) es = fault_on kind line ∷ []
   faults_at (token.MacroStart line) es = macro_fault line es
   faults_at _ es = []
 
   -- the faults in the order of the text
-  abbrev pub scan_faults : List Token → List Finding
+  abbrev pub scan_faults : List Token → List FaultRead
   scan_faults [] = []
   scan_faults (e ∷ es) = faults_at e es ++ scan_faults es
 
 -- the web of a source with these tokens and names
-abbrev pub web_with : SourceRead → List Token → List NameRead → WebRead
+abbrev pub web_with : SourceRead → List Token → List ReadOccurrence → WebRead
 web_with source tokens names = record {
   texts = texts_of source.lines;
   file_names = map (λ f. f.0) source.files;
@@ -147,10 +147,10 @@ web_with source tokens names = record {
   pieces = flat_map (piece_of source.lines) (blocks 0 tokens);
   macros = flat_map (macro_of source.lines) (blocks 0 tokens);
   occurrences = map (occurrence_of source.lines) names;
-  has_defs_code = list_any has_defs (blocks 0 tokens);
+  has_defs_code = list_any has_all_macros (blocks 0 tokens);
   faults = scan_faults source.files source.lines tokens;
 }
 
 -- the web of a source
 abbrev pub web_of : SourceRead → WebRead
-web_of source = web_with source (all_tokens source.lines) (all_names source.lines)
+web_of source = web_with source (all_tokens source.lines) (all_occurrences source.lines)

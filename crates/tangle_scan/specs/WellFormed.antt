@@ -15,7 +15,7 @@ IsUseBelow count _ = Unit {0}
 -- the uses in pieces and the names of pieces are occurrences; macros have no uses
 pub record NamesAreInRange (web : WebRead) : Type 0 where
   pub uses : All (λ p. All (IsUseBelow (length web.occurrences)) p.items) web.pieces
-  pub names : All (λ p. IfSome p.name (λ name. name < length web.occurrences)) web.pieces
+  pub names : All (λ p. IfSome p.occurrence (λ occurrence. occurrence < length web.occurrences)) web.pieces
   pub macros : All (All (IsUseBelow 0)) web.macros
 
 pub record IsWellFormed (web : WebRead) : Type 0 where

@@ -1,5 +1,7 @@
 //! From the tokens of C parts and macros to the pieces, macros and faults of a web.
-ghost use Rattle.std.specs.Prelude.{◌≡◌, ◌≤◌, ◌<◌, ◌+◌, ◌^◌, ◌++◌, ◌∷◌, ◌||◌, [], ℕ, List, length, flat_map, if◌then◌else◌, true, false, Option, Some, None, IfOk, OnOk};
+ghost use Rattle.std.specs.Prelude.{◌≡◌, ◌≤◌, ◌<◌, ◌+◌, ◌^◌, ◌++◌, ◌∷◌, ◌||◌, [], ℕ, List, length};
+ghost use Rattle.std.specs.Prelude.{flat_map, if◌then◌else◌, true, false, Option, Some, None, IfOk};
+ghost use Rattle.std.specs.Prelude.{OnOk};
 ghost use Rattle.std.specs.List.{list_any};
 ghost use Rattle.tangle_lines.specs.declared.faults.FaultKind.TheVariants as fault;
 ghost use Rattle.tangle_scan.specs.Passes as passes;
@@ -21,11 +23,14 @@ use tangle_lexer::Token;
 use tangle_lines::{Fault, FaultKind, NoMemory, Source};
 
 /// Whether some token is `@h`.
-fn has_defs(tokens: &[Token], has_rare: bool) -> bool
+fn has_all_macros(tokens: &[Token], has_rare: bool) -> bool
     requires { has_rare ≡ list_any passes.is_rare tokens.now }
-    ensures { result ≡ list_any web.is_defs tokens.now }
+    ensures { result ≡ list_any web.is_all_macros tokens.now }
 {
-    has_rare && tokens.iter().any(|token| matches!(token, Token::Defs(_)))
+    has_rare
+        && tokens
+            .iter()
+            .any(|token| matches!(token, Token::AllMacros(_)))
 }
 
 /// Notes a fault on a source line.
@@ -52,7 +57,8 @@ fn note_own(
     faults: &mut Vec<Fault>,
     token: Token,
 ) -> Result<(), NoMemory>
-    ensures { OnOk result (faults.new.items ≡ faults.old.items ++ own_fault source.now.files source.now.lines token) }
+    ensures { OnOk result (faults.new.items ≡ faults.old.items
+        ++ own_fault source.now.files source.now.lines token) }
 {
     if let Token::Fault(kind, line) = token {
         note(alloc, source, faults, kind, line)?;
@@ -150,7 +156,8 @@ impl Workspace {
         has_rare: bool,
     ) -> Result<Vec<Item>, NoMemory>
         requires { has_rare ≡ list_any passes.is_rare tokens.now }
-        ensures { IfOk result (λ items. items.items ≡ rules.macro_items (texts_of source.now.lines) tokens.now) }
+        ensures { IfOk result (λ items. items.items
+            ≡ rules.macro_items (texts_of source.now.lines) tokens.now) }
     {
         let left = macro_tokens(source, &mut self.tokens, tokens, has_rare)?;
         let mut items = Vec::with_capacity(alloc, left.len())?;
@@ -223,12 +230,13 @@ impl Gathering {
         Ok(())
     }
 
-    /// Adds the piece of a C part whose head ends on a line, and answers whether some of its tokens are rare.
+    /// Adds the piece of a C part whose head ends on a line, and answers whether some of its tokens
+    /// are rare.
     fn add_piece(
         &mut self,
         alloc: Global,
         source: &Source,
-        name: Option<usize>,
+        occurrence: Option<usize>,
         line: u32,
         tokens: &[Token],
     ) -> Result<bool, NoMemory>
@@ -236,23 +244,23 @@ impl Gathering {
           pieces = self.old.pieces ++ record {
             section = self.old.sections;
             place = place_at source.now.lines line;
-            name = name;
+            occurrence = occurrence;
             items = rules.part_items source.now.lines line tokens.now;
           } ∷ [];
-          has_defs_code = self.old.has_defs_code || list_any web.is_defs tokens.now;
+          has_defs_code = self.old.has_defs_code || list_any web.is_all_macros tokens.now;
         }) }
         ensures rare { IfOk result (λ rare. rare ≡ list_any passes.is_rare tokens.now) }
     {
         let (items, laid) = part_items(alloc, source, line, tokens)?;
         let place = source.origin(line as usize);
-        let piece = Piece::new(self.sections, place, name, items, laid.may_have_mark);
+        let piece = Piece::new(self.sections, place, occurrence, items, laid.may_have_mark);
         self.pieces.push(piece)?;
-        self.has_defs_code = self.has_defs_code || has_defs(tokens, laid.has_rare);
+        self.has_defs_code = self.has_defs_code || has_all_macros(tokens, laid.has_rare);
         Ok(laid.has_rare)
     }
 
-    /// Adds a macro, or notes that it does not begin with an identifier, at the line of its `@d`. It answers whether some of its tokens
-    /// are rare.
+    /// Adds a macro, or notes that it does not begin with an identifier, at the line of its `@d`.
+    /// It answers whether some of its tokens are rare.
     fn add_macro(
         &mut self,
         alloc: Global,
@@ -261,11 +269,13 @@ impl Gathering {
         line: u32,
         tokens: &[Token],
     ) -> Result<bool, NoMemory>
-        ensures added { OnOk result (let items = rules.macro_items (texts_of source.now.lines) tokens.now in
+        ensures added { OnOk result
+            (let items = rules.macro_items (texts_of source.now.lines) tokens.now in
             let is_macro = rules.is_macro (texts_of source.now.lines) items in
             self.new ≡ record self.old {
               macros = self.old.macros ++ (if is_macro then items ∷ [] else []);
-              faults = self.old.faults ++ (if is_macro then [] else web.fault_on source.now.files source.now.lines fault.MacroName line ∷ []);
+              faults = self.old.faults ++ (if is_macro then []
+                  else web.fault_on source.now.files source.now.lines fault.MacroName line ∷ []);
             }) }
         ensures rare { IfOk result (λ rare. rare ≡ list_any passes.is_rare tokens.now) }
     {
@@ -279,8 +289,8 @@ impl Gathering {
         Ok(rare)
     }
 
-    /// Adds what a head and the tokens up to the next head are, but for the faults among these. It answers whether
-    /// some of these tokens are rare.
+    /// Adds what a head and the tokens up to the next head are, but for the faults among these. It
+    /// answers whether some of these tokens are rare.
     fn add_head(
         &mut self,
         alloc: Global,
@@ -321,7 +331,8 @@ impl Gathering {
         requires room { self.old.sections + 1 < 2 ^ 64 }
         requires head { is_head head ≡ true }
         requires no_head { list_any is_head tokens.now ≡ false }
-        ensures gathering { OnOk result (self.new ≡ gathering_with source.now self.old (head ∷ tokens.now)) }
+        ensures gathering { OnOk result
+            (self.new ≡ gathering_with source.now self.old (head ∷ tokens.now)) }
         ensures sections { OnOk result (self.new.sections ≤ self.old.sections + 1) }
     {
         let rare = self.add_head(alloc, source, workspace, head, tokens)?;

@@ -5,10 +5,11 @@ use std::marker::Model;
 use tangle_lexer::Span;
 use tangle_lines::Origin;
 
-/// How many numbers the low half of an occurrence's number tells apart.
+/// How many numbers the low half of an occurrence's number distinguishes.
 const LOW_NUMBERS: usize = 4_294_967_296;
 
-/// The number of an occurrence, from 0. It stands as two halves, so that an item takes 12 bytes and not 16.
+/// The number of an occurrence, from 0. It is as two halves, so that an item takes 12 bytes and not
+/// 16.
 #[derive(Clone, Copy, Debug, PartialEq, Eq)]
 pub struct OccurrenceNumber {
     low: u32,
@@ -55,11 +56,12 @@ impl OccurrenceNumber {
 /// What a piece or a macro is made of. The text of an item with a span is that range of the source.
 #[derive(Clone, Copy, Debug, PartialEq, Eq)]
 pub enum Item {
-    /// Letters, digits, `_`, `$` and bytes past 127, as many as stand together.
+    /// Letters, digits, `_`, `$` and bytes past 127, as many as are together.
     Word(Span),
     /// One byte of another kind; `@@` is the sign `@`.
     Sign(Span),
-    /// A quoted text, or one of the ranges that it is cut into: behind the first `@` of each `@@`, and at a line end inside it.
+    /// A quoted text, or one of the ranges that it is cut into: behind the first `@` of each `@@`,
+    /// and at a line end inside it.
     Quoted(Span),
     /// The line end at which a quoted text is cut.
     QuoteBreak,
@@ -71,7 +73,7 @@ pub enum Item {
     Blank,
     /// A line end.
     LineEnd,
-    /// Here the compiler is told this place.
+    /// Here the compiler gets this place.
     LineMark(Origin),
     /// A use of a section name, by the number of its occurrence.
     UseOf(OccurrenceNumber),

@@ -1,8 +1,10 @@
 //! From tokens to items: those of a C part without rare tokens, and those that spacing leaves of a
 //! macro. White space between two items of a line is a blank, and other white space is dropped. A
-//! line mark stands behind each use and each `@h`, and in place of a line end where the next source
+//! line mark is behind each use and each `@h`, and in place of a line end where the next source
 //! line has another place than the compiler would count.
-ghost use Rattle.std.specs.Prelude.{◌≡◌, ◌≤◌, ◌<◌, ◌-◌, ◌+◌, ◌^◌, ◌++◌, ◌∷◌, ◌&&◌, ◌||◌, [], ℕ, List, length, max, if◌then◌else◌, true, false, Option, None, Some, option_to_list, IfOk, OnOk};
+ghost use Rattle.std.specs.Prelude.{◌≡◌, ◌≤◌, ◌<◌, ◌-◌, ◌+◌, ◌^◌, ◌++◌, ◌∷◌, ◌&&◌, ◌||◌, [], ℕ};
+ghost use Rattle.std.specs.Prelude.{List, length, max, if◌then◌else◌, true, false, Option, None};
+ghost use Rattle.std.specs.Prelude.{Some, option_to_list, IfOk, OnOk};
 ghost use Rattle.std.specs.List.{list_any};
 ghost use Rattle.tangle_scan.specs.Rules as rules;
 ghost use Rattle.tangle_lines.specs.Reading.{place_at};
@@ -17,7 +19,7 @@ use crate::spacing::is_rare;
 use tangle_lexer::{Span, TextKind, Token};
 use tangle_lines::{NoMemory, Origin, Source};
 
-/// What stands before a place on its line: an item, and white space behind it.
+/// What is before a place on its line: an item, and white space behind it.
 #[derive(Clone, Copy)]
 struct Before {
     item: bool,
@@ -66,7 +68,8 @@ fn next_line(count: Count) -> Count
     }
 }
 
-/// The place of the next source line, where it is not the one that is counted: then a mark stands in place of the line end.
+/// The place of the next source line, where it is not the one that is counted: then a mark replaces
+/// the line end.
 fn mark_behind(source: &Source, count: Count, line: u32) -> Option<Origin>
     requires { count.line < 2 ^ 63 }
     ensures { result ≡ (if rules.goes_on source.now.lines (counts count) line then None
@@ -98,7 +101,7 @@ fn put_mark(items: &mut Vec<Item>, place: Origin) -> Result<Count, NoMemory>
     })
 }
 
-/// Puts a line end, or the mark that stands for it.
+/// Puts a line end, or the mark that represents it.
 // It is inlined into both loops over the tokens of C parts, so that the count stays in registers.
 #[inline(always)]
 pub fn put_line_end(
@@ -110,7 +113,8 @@ pub fn put_line_end(
     requires { count.line < 2 ^ 63 }
     ensures items { OnOk result (items.new.items ≡ items.old.items
         ++ rules.line_item source.now.lines (counts count) line ∷ []) }
-    ensures count { IfOk result (λ next. counts next ≡ rules.count_behind source.now.lines (counts count) line) }
+    ensures count { IfOk result
+        (λ next. counts next ≡ rules.count_behind source.now.lines (counts count) line) }
     ensures room { IfOk result (λ next. next.line ≤ max (2 ^ 32) (count.line + 1)) }
     ensures mark { IfOk result (λ next. next.has_mark
         ≡ (is_line_mark (rules.line_item source.now.lines (counts count) line) || count.has_mark)) }
@@ -124,7 +128,7 @@ pub fn put_line_end(
     }
 }
 
-/// Puts a blank, where white space stands behind an item.
+/// Puts a blank, where white space is behind an item.
 fn put_blank(items: &mut Vec<Item>, before: Before) -> Result<(), NoMemory>
     ensures { OnOk result (items.new.items
         ≡ items.old.items ++ (if before.item && before.white then item.Blank ∷ [] else [])) }
@@ -156,7 +160,7 @@ fn item_of(token: Token) -> Option<Item>
     match token {
         Token::Text(kind, span) => Some(text_item(kind, span)),
         Token::QuoteBreak => Some(Item::QuoteBreak),
-        Token::Constant(byte, _) => Some(Item::Code(byte)),
+        Token::AsciiConstant(byte, _) => Some(Item::Code(byte)),
         _ => None,
     }
 }
@@ -181,8 +185,10 @@ pub fn put_item(
     token: Token,
 ) -> Result<Count, NoMemory>
     requires { count.line < 2 ^ 63 }
-    ensures items { OnOk result (items.new.items ≡ items.old.items ++ passes.items_at source.now.lines token) }
-    ensures count { IfOk result (λ next. counts next ≡ passes.count_after source.now.lines (counts count) token) }
+    ensures items { OnOk result
+        (items.new.items ≡ items.old.items ++ passes.items_at source.now.lines token) }
+    ensures count { IfOk result
+        (λ next. counts next ≡ passes.count_after source.now.lines (counts count) token) }
     ensures room { IfOk result (λ next. next.line ≤ max (2 ^ 32) (count.line + 1)) }
     ensures mark { IfOk result (λ next. next.has_mark
         ≡ (list_any is_line_mark (passes.items_at source.now.lines token) || count.has_mark)) }
@@ -192,7 +198,7 @@ pub fn put_item(
             items.push(Item::UseOf(OccurrenceNumber::new(number)))?;
             put_mark(items, source.origin(line as usize))
         }
-        Token::Defs(line) => {
+        Token::AllMacros(line) => {
             items.push(Item::Defs)?;
             put_mark(items, source.origin(line as usize))
         }
@@ -227,7 +233,8 @@ fn lay_token(
 ) -> Result<Laying, NoMemory>
     requires { at.count.line < 2 ^ 63 }
     ensures laid { IfOk result (λ next. (es : List Token) →
-        items.new.items ++ items_ahead source.now.lines next es ≡ items.old.items ++ items_ahead source.now.lines at (token.now ∷ es)) }
+        items.new.items ++ items_ahead source.now.lines next es ≡ items.old.items
+        ++ items_ahead source.now.lines at (token.now ∷ es)) }
     ensures room { IfOk result (λ next. next.count.line ≤ max (2 ^ 32) (at.count.line + 1)) }
     ensures rare { OnOk result (has_rare.new ≡ (passes.is_rare token.now || has_rare.old)) }
     ensures mark { IfOk result (λ next. list_any is_line_mark items.old.items ≡ at.count.has_mark
@@ -303,7 +310,8 @@ pub fn lay_plain_part(
 /// Lays a token behind the items of a macro.
 fn lay_unmarked(items: &mut Vec<Item>, at: Before, token: Token) -> Result<Before, NoMemory>
     ensures { IfOk result (λ next. (es : List Token) →
-        items.new.items ++ unmarked_from next es ≡ items.old.items ++ unmarked_from at (token ∷ es)) }
+        items.new.items ++ unmarked_from next es ≡ items.old.items
+        ++ unmarked_from at (token ∷ es)) }
 {
     match token {
         Token::White => Ok(Before {
@@ -330,7 +338,8 @@ fn lay_unmarked(items: &mut Vec<Item>, at: Before, token: Token) -> Result<Befor
 
 /// Lays the items of a macro.
 pub fn lay_macro(items: &mut Vec<Item>, tokens: &[Token]) -> Result<(), NoMemory>
-    ensures { OnOk result (items.new.items ≡ rules.unmarked_items (rules.blanks false false tokens.now)) }
+    ensures { OnOk result (items.new.items ≡ rules.unmarked_items
+        (rules.blanks false false tokens.now)) }
 {
     items.clear();
     let mut at = Before {

@@ -14,7 +14,7 @@ mod webs;
 
 pub use items::{Item, OccurrenceNumber};
 pub use kept_bytes::no_byte_is_lost;
-pub use line_truth::pieces_stand_at_their_lines;
+pub use line_truth::pieces_are_at_their_lines;
 pub use pieces::{Macro, Piece};
 pub use scanning::scan;
 pub use tangle_lexer::{Occurrence, OccurrenceRole, Span};

@@ -12,7 +12,7 @@ use tangle_lines::Origin;
 pub struct Piece {
     section: usize,
     place: Origin,
-    name: Option<usize>,
+    occurrence: Option<usize>,
     items: Vec<Item>,
     /// Without it no item is a line mark.
     may_have_mark: bool,
@@ -25,9 +25,16 @@ impl Model for Piece {
 
     ghost Value = { PieceRead };
 
-    ghost view = { λ p. record { section = p.section; place = p.place; name = p.name; items = p.items.items } };
+    ghost view = { λ p. record {
+      section = p.section;
+      place = p.place;
+      occurrence =
+          p.occurrence;
+      items = p.items.items;
+    } };
 
-    ghost invariant = { λ p. p.may_have_mark ≡ false → list_any is_line_mark p.items.items ≡ false };
+    ghost invariant = { λ p. p.may_have_mark ≡ false → list_any is_line_mark p.items.items
+        ≡ false };
 }
 
 impl Piece {
@@ -35,17 +42,23 @@ impl Piece {
     pub(crate) fn new(
         section: usize,
         place: Origin,
-        name: Option<usize>,
+        occurrence: Option<usize>,
         items: Vec<Item>,
         may_have_mark: bool,
     ) -> Self
         requires { may_have_mark ≡ false → list_any is_line_mark items.items ≡ false }
-        ensures { result ≡ record { section = section; place = place; name = name; items = items.items } }
+        ensures { result ≡ record {
+          section = section;
+          place = place;
+          occurrence =
+              occurrence;
+          items = items.items;
+        } }
     {
         Piece {
             section,
             place,
-            name,
+            occurrence,
             items,
             may_have_mark,
         }
@@ -66,10 +79,10 @@ impl Piece {
     }
 
     /// The number of its name's occurrence, or none for a piece of the unnamed program.
-    pub fn name(&self) -> Option<usize>
-        ensures { result ≡ self.now.name }
+    pub fn occurrence(&self) -> Option<usize>
+        ensures { result ≡ self.now.occurrence }
     {
-        self.name
+        self.occurrence
     }
 
     /// Whether some item may be a line mark: where the answer is no, none is.

@@ -1,5 +1,5 @@
 //! The items of a C part that has rare tokens, in one pass. A join takes away the white space and
-//! the line ends around it, and a blank stands between a word and an ASCII constant, or two
+//! the line ends around it, and a blank is between a word and an ASCII constant, or two
 //! constants, that touch. Line ends are laid as they come, and a join takes back those of its run.
 ghost use Rattle.std.specs.Prelude.{◌≡◌, ◌≤◌, ◌<◌, ◌+◌, ◌^◌, max, if◌then◌else◌, IfOk, OnOk};
 ghost use Rattle.std.specs.Prelude.{List, [], ◌∷◌, ◌++◌, length};
@@ -16,7 +16,7 @@ use crate::laying::{Count, count_on, put_item, put_line_end, text_item};
 use tangle_lexer::{TextKind, Token};
 use tangle_lines::{NoMemory, Source};
 
-/// What stands last before a place, faults aside.
+/// What is last before a place, faults aside.
 #[derive(Clone, Copy)]
 enum Last {
     /// Nothing, or a line end.
@@ -26,12 +26,12 @@ enum Last {
     /// An item that is no word and no ASCII constant.
     Other,
     Word,
-    Constant,
+    AsciiConstant,
     /// White space behind an item.
     White,
 }
 
-/// Where a run of joins, white space and line ends begins: how many items stand before it, and the
+/// Where a run of joins, white space and line ends begins: how many items are before it, and the
 /// count there.
 #[derive(Clone, Copy)]
 struct Start {
@@ -39,7 +39,7 @@ struct Start {
     count: Count,
 }
 
-/// How far the items were laid. The start is that of the run which stands last, and it is read only
+/// How far the items were laid. The start is that of the run which is last, and it is read only
 /// at `Last::Front`.
 #[derive(Clone, Copy)]
 struct RareLaying {
@@ -53,7 +53,7 @@ struct RareLaying {
 fn is_constant(token: Token) -> bool
     ensures { result ≡ rules.is_constant token }
 {
-    matches!(token, Token::Constant(..))
+    matches!(token, Token::AsciiConstant(..))
 }
 
 /// A word.
@@ -64,32 +64,32 @@ fn is_word(token: Token) -> bool
     matches!(token, Token::Text(TextKind::Word, _))
 }
 
-/// Whether a blank stands before a token that is an item.
+/// Whether a blank is before a token that is an item.
 #[inline(always)]
-fn wants_blank(last: Last, token: Token) -> bool
-    ensures { result ≡ passes.wants_blank last token }
+fn needs_blank(last: Last, token: Token) -> bool
+    ensures { result ≡ passes.needs_blank last token }
 {
     match last {
         Last::White => true,
-        Last::Constant => is_constant(token) || is_word(token),
+        Last::AsciiConstant => is_constant(token) || is_word(token),
         Last::Word => is_constant(token),
         _ => false,
     }
 }
 
-/// Puts a blank before a token that is an item, where one is wanted.
+/// Puts a blank before a token that is an item, where one is needed.
 #[inline(always)]
-fn put_wanted_blank(items: &mut Vec<Item>, last: Last, token: Token) -> Result<(), NoMemory>
+fn put_needed_blank(items: &mut Vec<Item>, last: Last, token: Token) -> Result<(), NoMemory>
     ensures { OnOk result (items.new.items
-        ≡ items.old.items ++ (if passes.wants_blank last token then item.Blank ∷ [] else [])) }
+        ≡ items.old.items ++ (if passes.needs_blank last token then item.Blank ∷ [] else [])) }
 {
-    if wants_blank(last, token) {
+    if needs_blank(last, token) {
         items.push(Item::Blank)?;
     }
     Ok(())
 }
 
-/// What stands last behind white space.
+/// What is last behind white space.
 #[inline(always)]
 fn behind_white(last: Last) -> Last
     ensures { result ≡ passes.behind_white last }
@@ -101,14 +101,14 @@ fn behind_white(last: Last) -> Last
     }
 }
 
-/// What stands last behind a token that is an item.
+/// What is last behind a token that is an item.
 #[inline(always)]
 fn last_of(token: Token) -> Last
     ensures { result ≡ passes.last_of token }
 {
     match token {
         Token::Text(TextKind::Word, _) => Last::Word,
-        Token::Constant(..) => Last::Constant,
+        Token::AsciiConstant(..) => Last::AsciiConstant,
         _ => Last::Other,
     }
 }
@@ -192,14 +192,14 @@ fn lay_token(
         Token::LineEnd(line) => lay_line_end(source, items, at, line),
         Token::Text(kind, span) => {
             let text = Token::Text(kind, span);
-            put_wanted_blank(items, at.last, text)?;
+            put_needed_blank(items, at.last, text)?;
             items.push(text_item(kind, span))?;
             Ok(laid_to(last_of(text), at.count, at.start))
         }
         Token::Join => Ok(lay_join(items, at)),
         Token::Fault(..) => Ok(laid_to(at.last, at.count, at.start)),
         _ => {
-            put_wanted_blank(items, at.last, *token)?;
+            put_needed_blank(items, at.last, *token)?;
             let count = put_item(source, items, at.count, *token)?;
             Ok(laid_to(last_of(*token), count, at.start))
         }

@@ -1,11 +1,11 @@
 //! The scanner's run over a source.
 ghost use Rattle.std.specs.Prelude.{◌≡◌, ◌<◌, ◌+◌, ◌^◌, length, map, IfOk};
 ghost use Rattle.tangle_lexer.specs.Text.{text_from};
-ghost use Rattle.tangle_lexer.specs.Steps.{all_tokens, all_names};
+ghost use Rattle.tangle_lexer.specs.Steps.{all_tokens, all_occurrences};
 ghost use Rattle.tangle_scan.specs.Web.{web_of};
 ghost use Rattle.tangle_lexer.specs.Occurrences.{occurrence_of};
 ghost use Rattle.tangle_scan.specs.SourceOrder.{SpansAreInOrder};
-ghost use Rattle.tangle_scan.specs.LineTruth.{PiecesStandAtTheirLines};
+ghost use Rattle.tangle_scan.specs.LineTruth.{PiecesAreAtTheirLines};
 ghost use Rattle.tangle_scan.specs.WellFormed.{IsWellFormed};
 ghost use Rattle.tangle_scan.specs.Gathering.{nothing, gathering_with};
 
@@ -18,8 +18,10 @@ use tangle_lines::{NoMemory, Source};
 /// Gathers the pieces, macros and faults of a source, and the occurrences of its names.
 fn gather(alloc: Global, source: &Source) -> Result<(Gathering, Vec<Occurrence>), NoMemory>
     requires { length (text_from 0 source.now.lines) + 1 < 2 ^ 64 }
-    ensures gathering { IfOk result (λ r. r.0 ≡ gathering_with source.now nothing (all_tokens source.now.lines)) }
-    ensures names { IfOk result (λ r. r.1.items ≡ map (occurrence_of source.now.lines) (all_names source.now.lines)) }
+    ensures gathering { IfOk result
+        (λ r. r.0 ≡ gathering_with source.now nothing (all_tokens source.now.lines)) }
+    ensures names { IfOk result
+        (λ r. r.1.items ≡ map (occurrence_of source.now.lines) (all_occurrences source.now.lines)) }
 {
     let mut gathering = Gathering::new(alloc);
     let mut workspace = Workspace::new(alloc);
@@ -49,21 +51,22 @@ fn byte_count(source: &Source) -> usize
     total
 }
 
-/// Scans the lines of a source: finds its sections, C parts, macros and section names, and what these are made of.
+/// Scans the lines of a source: finds its sections, C parts, macros and section names, and what
+/// these are made of.
 ///
 /// The web borrows the source. A text of an item is a range of a source line. The ranges of all
-/// pieces stand in the order of the source, and so do those of all macros. Each text of a piece
-/// stands on the line that a compiler counts by the marks and line ends before it, but for those
+/// pieces are in the order of the source, and so do those of all macros. Each text of a piece
+/// is on the line that a compiler counts by the marks and line ends before it, but for those
 /// behind a line end that a quoted text or a join took, up to the next line end or mark.
 ///
 /// # Errors
 ///
-/// `NoMemory`, where a growth was refused.
+/// `NoMemory`, where an allocation failed.
 pub fn scan<'s, 'a>(alloc: Global, source: &'s Source<'a>) -> Result<Web<'s, 'a>, NoMemory>
     ensures web { IfOk result (λ web. web ≡ web_of source.now) }
     ensures well_formed { IfOk result (λ web. IsWellFormed web) }
     ensures order { IfOk result (λ web. SpansAreInOrder web) }
-    ensures line_truth { IfOk result (λ web. PiecesStandAtTheirLines source.now web) }
+    ensures line_truth { IfOk result (λ web. PiecesAreAtTheirLines source.now web) }
 {
     // No section is counted over the limit, since the text has so few bytes.
     byte_count(source);

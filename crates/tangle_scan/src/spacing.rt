@@ -1,7 +1,8 @@
 //! White space between the tokens of a macro. It is put between a word and an ASCII constant, or
 //! two constants, that touch, and behind the name. Each run of joins, white space and line ends
 //! that has a join is taken out.
-ghost use Rattle.std.specs.Prelude.{◌≡◌, ◌≤◌, ◌<◌, ◌-◌, ◌+◌, ◌++◌, ◌∷◌, [], ℕ, List, length, take, drop, get_or, if◌then◌else◌, IfOk, OnOk};
+ghost use Rattle.std.specs.Prelude.{◌≡◌, ◌≤◌, ◌<◌, ◌-◌, ◌+◌, ◌++◌, ◌∷◌, [], ℕ, List, length, take};
+ghost use Rattle.std.specs.Prelude.{drop, get_or, if◌then◌else◌, IfOk, OnOk};
 ghost use Rattle.std.specs.List.{list_any};
 ghost use Rattle.tangle_scan.specs.Rules as rules;
 ghost use Rattle.tangle_scan.specs.Web.{texts_of};
@@ -27,7 +28,8 @@ fn is_join(token: Token) -> bool
     matches!(token, Token::Join)
 }
 
-/// The run of joins, white space and line ends at the end of a list: where it begins, and whether it has a join.
+/// The run of joins, white space and line ends at the end of a list: where it begins, and whether
+/// it has a join.
 #[derive(Clone, Copy)]
 struct Run {
     start: usize,
@@ -36,7 +38,8 @@ struct Run {
 
 /// Takes a run away that has a join.
 fn close_run(out: &mut Vec<Token>, run: Run)
-    ensures { out.new.items ≡ (if run.has_join then take run.start out.old.items else out.old.items) }
+    ensures { out.new.items ≡ (if run.has_join then take run.start out.old.items
+        else out.old.items) }
 {
     if run.has_join {
         out.truncate(run.start);
@@ -48,7 +51,8 @@ fn add(out: &mut Vec<Token>, run: Run, token: Token) -> Result<Run, NoMemory>
     requires { IsRun out.old.items run }
     ensures run { IfOk result (λ next. IsRun out.new.items next) }
     ensures without_joins { IfOk result (λ next. (es : List Token) →
-        without_joins_from out.new.items next.start es ≡ without_joins_from out.old.items run.start (token ∷ es)) }
+        without_joins_from out.new.items next.start es
+        ≡ without_joins_from out.old.items run.start (token ∷ es)) }
 {
     if is_gap(token) {
         let join = is_join(token);
@@ -66,15 +70,16 @@ fn add(out: &mut Vec<Token>, run: Run, token: Token) -> Result<Run, NoMemory>
     })
 }
 
-/// Adds white space behind a run, where it is wanted.
-fn add_space(out: &mut Vec<Token>, run: Run, wanted: bool) -> Result<Run, NoMemory>
+/// Adds white space behind a run, where it is needed.
+fn add_space(out: &mut Vec<Token>, run: Run, needed: bool) -> Result<Run, NoMemory>
     requires { IsRun out.old.items run }
     ensures run { IfOk result (λ next. IsRun out.new.items next) }
     ensures without_joins { IfOk result (λ next. (es : List Token) →
         without_joins_from out.new.items next.start es
-        ≡ without_joins_from out.old.items run.start ((if wanted then token.White ∷ [] else []) ++ es)) }
+        ≡ without_joins_from out.old.items run.start
+        ((if needed then token.White ∷ [] else []) ++ es)) }
 {
-    if wanted {
+    if needed {
         return add(out, run, Token::White);
     }
     Ok(run)
@@ -120,13 +125,14 @@ fn byte_at(line: &[u8], column: usize) -> u8
     }
 }
 
-/// White space stands between two tokens.
+/// White space is between two tokens.
 fn would_merge(before: Token, token: Token) -> bool
     ensures { result ≡ rules.would_merge before token }
 {
     match (before, token) {
-        (Token::Constant(..), Token::Constant(..) | Token::Text(TextKind::Word, _)) => true,
-        (Token::Text(TextKind::Word, _), Token::Constant(..)) => true,
+        (Token::AsciiConstant(..), Token::AsciiConstant(..) | Token::Text(TextKind::Word, _)) =>
+            true,
+        (Token::Text(TextKind::Word, _), Token::AsciiConstant(..)) => true,
         _ => false,
     }
 }
@@ -184,7 +190,8 @@ fn put_token(
     requires { IsRun out.old.items at.run }
     ensures run { IfOk result (λ next. IsRun out.new.items next.run) }
     ensures spacing { IfOk result (λ next. (es : List Token) →
-        spacing_from (texts_of source.now.lines) out.new.items next es ≡ spacing_from (texts_of source.now.lines) out.old.items at (token ∷ es)) }
+        spacing_from (texts_of source.now.lines) out.new.items next es
+        ≡ spacing_from (texts_of source.now.lines) out.old.items at (token ∷ es)) }
 {
     if is_skipped(at.stage, token) {
         return Ok(at);
@@ -221,14 +228,14 @@ fn space(source: &Source, out: &mut Vec<Token>, tokens: &[Token]) -> Result<(), 
     Ok(())
 }
 
-/// A token that most blocks do not have: a fault, a join, an ASCII constant or `@h`. Without them there is no fault to note, and spacing
-/// changes at most the front of a macro.
+/// A token that most blocks do not have: a fault, a join, an ASCII constant or `@h`. Without them
+/// there is no fault to note, and spacing changes at most the front of a macro.
 pub fn is_rare(token: Token) -> bool
     ensures { result ≡ passes.is_rare token }
 {
     matches!(
         token,
-        Token::Fault(..) | Token::Join | Token::Constant(..) | Token::Defs(_)
+        Token::Fault(..) | Token::Join | Token::AsciiConstant(..) | Token::AllMacros(_)
     )
 }
 
@@ -260,7 +267,7 @@ fn behind_front(tokens: &[Token]) -> &[Token]
     rest
 }
 
-/// Whether no white space is wanted behind the first token, the name of a macro.
+/// Whether no white space is needed behind the first token, the name of a macro.
 fn is_name_spaced(source: &Source, tokens: &[Token]) -> bool
     ensures { result ≡ passes.is_name_spaced (texts_of source.now.lines) tokens.now }
 {
@@ -278,7 +285,8 @@ pub fn macro_tokens<'e>(
     has_rare: bool,
 ) -> Result<&'e [Token], NoMemory>
     requires { has_rare ≡ list_any passes.is_rare tokens.now }
-    ensures { IfOk result (λ left. left.now ≡ rules.without_joins [] (rules.with_name_space (texts_of source.now.lines)
+    ensures { IfOk result (λ left. left.now ≡ rules.without_joins []
+        (rules.with_name_space (texts_of source.now.lines)
         (rules.with_spaces (rules.without_front_gaps (rules.without_faults tokens.entry.now))))) }
 {
     let rest = behind_front(tokens);

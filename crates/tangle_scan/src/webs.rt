@@ -12,8 +12,9 @@ use std::marker::Model;
 use tangle_lexer::{Occurrence, Span};
 use tangle_lines::{Fault, Origin, Source};
 
-/// A scanned web. It borrows the source, and so has its lines and the names of its files. Every web is well formed: the texts of its
-/// items are ranges of its lines, and its uses and pieces name occurrences that it has.
+/// A scanned web. It borrows the source, and so has its lines and the names of its files. Every web
+/// is well formed: the texts of its items are ranges of its lines, and its uses and pieces name
+/// occurrences that it has.
 #[derive(Drop)]
 pub struct Web<'s, 'a> {
     source: &'s Source<'a>,
@@ -65,7 +66,8 @@ impl<'s, 'a> Web<'s, 'a> {
         self.gathering.pieces.as_slice()
     }
 
-    /// The macros, in the order of the source; one that does not begin with an identifier is dropped. They have no uses.
+    /// The macros, in the order of the source; one that does not begin with an identifier is
+    /// dropped. They have no uses.
     pub fn macros(&self) -> &[Macro]
         ensures macros { result.now ≡ self.now.macros }
         ensures well_formed { IsWellFormed self.now }
@@ -120,7 +122,7 @@ impl<'s, 'a> Web<'s, 'a> {
         self.source.line(number as usize)
     }
 
-    /// What stands behind a range, up to the end of its line.
+    /// What is behind a range, up to the end of its line.
     pub fn text_behind(&self, span: Span) -> &[u8]
         requires { IsSpan self.now.texts span }
         ensures { result.now ≡ text_behind self.now.texts span }

@@ -1,7 +1,7 @@
 pub mod TableLemmas
 pub mod CommandLemmas
-pub mod TalkLemmas
+pub mod ConversationLemmas
 pub mod BufferLemmas
 pub mod RunLemmas
-pub mod QuietTalk
+pub mod QuietConversation
 pub mod ShortLemmas

@@ -8,12 +8,12 @@ use Rattle.tangle_script.specs.Requests.{Request}
 use Rattle.tangle_script.specs.Commands.{OnlyWaits, all_commands, ended_commands, kept}
 use Rattle.tangle_script.specs.declared.answering.End.{End}
 use Rattle.tangle_script.specs.declared.answering.End.TheVariants.{Done, Failed as IsFailed}
-use Rattle.tangle_script.specs.Script.{IsCut, IsQuit, IsAnswered, Talk, Telling, has_quit}
-use Rattle.tangle_script.specs.Endings.{TalkEnds, command_room, script_limit}
-use Rattle.tangle_script.specs.Endings.TalkEnds.{IsAtQuit, IsAtInputEnd, IsUnread, IsTooLong, IsUnwritten, IsOutOfMemory}
-use Rattle.tangle_script.specs.Turns.{Breaks, EndsAnswered, EndsBy, Holds, Probes}
+use Rattle.tangle_script.specs.Script.{IsCut, IsQuit, IsAnswered, Conversation, Exchange, has_quit}
+use Rattle.tangle_script.specs.Endings.{ConversationEnds, command_room, script_limit}
+use Rattle.tangle_script.specs.Endings.ConversationEnds.{IsAtQuit, IsAtInputEnd, IsUnread, IsTooLong, IsUnwritten, IsOutOfMemory}
+use Rattle.tangle_script.specs.Turns.{Breaks, EndsAnswered, EndsBy, IsMidway, Probes}
 use Rattle.tangle_script.proofs.CommandLemmas.{all_commands-kept, commands-append, kept-append, kept_waits}
-use Rattle.tangle_script.proofs.TalkLemmas.{answered_none, answered_then_cut, answered_then_quit, answered_then_answered, unquit-append}
+use Rattle.tangle_script.proofs.ConversationLemmas.{answered_none, answered_then_cut, answered_then_quit, answered_then_answered, unquit-append}
 
 pub Consumes-trans : (a b c : Option (List ℕ)) (xs ys : List ℕ) → Consumes a b xs → Consumes b c ys
     → Consumes a c (xs ++ ys)
@@ -34,12 +34,12 @@ Consumes-none : (a : Option (List ℕ)) → Consumes a a []
 Consumes-none None = tt
 Consumes-none (Some x) = refl
 
-abbrev at : {State : Type 0} → Telling State → Option (List ℕ) → ℕ → Talk State
+abbrev at : {State : Type 0} → Exchange State → Option (List ℕ) → ℕ → Conversation State
 at answered coming failures = record
-    { telling = answered; coming = coming; reader_failures = failures }
+    { exchange = answered; coming = coming; reader_failures = failures }
 
 pub holds_at_first : {State : Type 0} (answers : State → Request → List ℕ → State → Type 0)
-    (old : Talk State) (p : List ℕ) → p ≡ [] → Holds answers old old p 0
+    (old : Conversation State) (p : List ℕ) → p ≡ [] → IsMidway answers old old p 0
 holds_at_first answers old p e =
     record {
       read = [];
@@ -47,15 +47,15 @@ holds_at_first answers old p e =
       counted = refl;
       reader_failures = refl;
       unquit = refl;
-      is_answered = answered_none answers old.telling;
+      is_answered = answered_none answers old.exchange;
       pending_is = e;
     }
 
 -- one more chunk
 module _ {State : Type 0} (answers : State → Request → List ℕ → State → Type 0)
-    (has_error : State → Bool → Type 0) (old : Talk State) (a b : Telling State)
+    (has_error : State → Bool → Type 0) (old : Conversation State) (a b : Exchange State)
     (coming coming' : Option (List ℕ)) (failures : ℕ) (p chunk : List ℕ) (n : ℕ)
-    (h : Holds answers old (at a coming failures) p n) (given : Consumes coming coming' chunk)
+    (h : IsMidway answers old (at a coming failures) p n) (given : Consumes coming coming' chunk)
     (failures' : ℕ) (same : failures' ≡ failures) where
   more_given : Consumes old.coming coming' (h.read ++ chunk)
   more_given = Consumes-trans old.coming coming coming' h.read chunk h.given given
@@ -69,9 +69,9 @@ module _ {State : Type 0} (answers : State → Request → List ℕ → State �
   more_kept = kept-append h.read chunk ∙ ap (λ q. kept (q ++ chunk)) (sym h.pending_is)
 
   more_answered : IsAnswered answers a b (ended_commands (p ++ chunk))
-      → IsAnswered answers old.telling b (ended_commands (h.read ++ chunk))
-  more_answered answered = subst (IsAnswered answers old.telling b) (sym more_commands)
-      (answered_then_answered answers old.telling a b (ended_commands h.read)
+      → IsAnswered answers old.exchange b (ended_commands (h.read ++ chunk))
+  more_answered answered = subst (IsAnswered answers old.exchange b) (sym more_commands)
+      (answered_then_answered answers old.exchange a b (ended_commands h.read)
       (ended_commands (p ++ chunk)) h.is_answered answered)
 
   more_unquit : has_quit (ended_commands (p ++ chunk)) ≡ false
@@ -82,7 +82,7 @@ module _ {State : Type 0} (answers : State → Request → List ℕ → State �
   pub holds_more : (p' : List ℕ) (k : ℕ) → length chunk ≡ k
       → IsAnswered answers a b (ended_commands (p ++ chunk))
       → has_quit (ended_commands (p ++ chunk)) ≡ false → p' ≡ kept (p ++ chunk)
-      → Holds answers old (at b coming' failures') p' (n + k)
+      → IsMidway answers old (at b coming' failures') p' (n + k)
   holds_more p' k size answered on is = record {
     read = h.read ++ chunk;
     given = more_given;
@@ -99,26 +99,26 @@ module _ {State : Type 0} (answers : State → Request → List ℕ → State �
   breaks_more Done short quit = λ status is.
       IsAtQuit (h.read ++ chunk) more_given
       (omega (arith, length-append h.read chunk, h.counted)) (same ∙ h.reader_failures)
-      (subst (IsQuit answers old.telling b) (sym more_commands)
-      (answered_then_quit answers old.telling a b (ended_commands h.read)
+      (subst (IsQuit answers old.exchange b) (sym more_commands)
+      (answered_then_quit answers old.exchange a b (ended_commands h.read)
       (ended_commands (p ++ chunk))
       h.is_answered h.unquit quit)) is
   breaks_more IsFailed short cut =
       IsUnwritten (h.read ++ chunk) more_given
       (omega (arith, length-append h.read chunk, h.counted)) (same ∙ h.reader_failures)
-      (inl (subst (IsCut answers old.telling b) (sym more_commands)
-      (answered_then_cut answers old.telling a b (ended_commands h.read)
+      (inl (subst (IsCut answers old.exchange b) (sym more_commands)
+      (answered_then_cut answers old.exchange a b (ended_commands h.read)
       (ended_commands (p ++ chunk))
       h.is_answered h.unquit cut))) refl
 
 module _ {State : Type 0} (answers : State → Request → List ℕ → State → Type 0)
-    (has_error : State → Bool → Type 0) (old : Talk State) (a : Telling State)
+    (has_error : State → Bool → Type 0) (old : Conversation State) (a : Exchange State)
     (coming : Option (List ℕ)) (failures : ℕ) (p : List ℕ) (n : ℕ)
-    (h : Holds answers old (at a coming failures) p n) where
+    (h : IsMidway answers old (at a coming failures) p n) where
   -- the reader failed
   pub ends_unread : (coming' : Option (List ℕ)) (failures' : ℕ) → n ≤ script_limit
       → Keeps coming coming' → failures' ≡ one_more_failure failures
-      → TalkEnds answers has_error old (at a coming' failures') 3
+      → ConversationEnds answers has_error old (at a coming' failures') 3
   ends_unread coming' failures' short keeps counted =
       IsUnread h.read (Consumes-kept old.coming coming coming' h.read h.given keeps)
       (omega (arith, h.counted))
@@ -129,7 +129,7 @@ module _ {State : Type 0} (answers : State → Request → List ℕ → State �
   -- more came than is allowed
   pub ends_too_long : (coming' : Option (List ℕ)) (more : ℕ) → n ≡ script_limit
       → Consumes coming coming' (more ∷ [])
-      → TalkEnds answers has_error old (at a coming' failures) 3
+      → ConversationEnds answers has_error old (at a coming' failures) 3
   ends_too_long coming' more full given =
       IsTooLong h.read more (Consumes-trans old.coming coming coming' h.read
       (more ∷ []) h.given given)
@@ -137,7 +137,7 @@ module _ {State : Type 0} (answers : State → Request → List ℕ → State �
 
   -- the input is at its end, which a reading of no byte showed
   pub holds_at_end : (coming' : Option (List ℕ)) → Consumes coming coming' []
-      → Holds answers old (at a coming' failures) p n
+      → IsMidway answers old (at a coming' failures) p n
   holds_at_end coming' none = record {
     read = h.read;
     given = subst (Consumes old.coming coming') (append-nil h.read)
@@ -153,37 +153,37 @@ module _ {State : Type 0} (answers : State → Request → List ℕ → State �
   all_read = all_commands-kept h.read
       ∙ ap (λ q. ended_commands h.read ++ all_commands q) (sym h.pending_is)
 
-  pub ends_answered : (b : Telling State) → n ≤ script_limit → IsAtEnd coming
+  pub ends_answered : (b : Exchange State) → n ≤ script_limit → IsAtEnd coming
       → IsAnswered answers a b (all_commands p)
       → EndsAnswered answers has_error old (at b coming failures)
   ends_answered b short none answered = λ status is.
       IsAtInputEnd h.read h.given (omega (arith, h.counted)) h.reader_failures none h.unquit
-      (subst (IsAnswered answers old.telling b) (sym all_read)
-      (answered_then_answered answers old.telling a b (ended_commands h.read)
+      (subst (IsAnswered answers old.exchange b) (sym all_read)
+      (answered_then_answered answers old.exchange a b (ended_commands h.read)
       (all_commands p) h.is_answered answered)) is
 
-  pub ends_cut : (b : Telling State) → n ≤ script_limit → IsAtEnd coming
-      → IsCut answers a b (all_commands p) → TalkEnds answers has_error old (at b coming failures) 3
+  pub ends_cut : (b : Exchange State) → n ≤ script_limit → IsAtEnd coming
+      → IsCut answers a b (all_commands p) → ConversationEnds answers has_error old (at b coming failures) 3
   ends_cut b short none cut =
       IsUnwritten h.read h.given (omega (arith, h.counted)) h.reader_failures
       (inr (
         none,
         h.unquit,
-        subst (IsCut answers old.telling b) (sym all_read)
-            (answered_then_cut answers old.telling a b (ended_commands h.read) (all_commands p)
+        subst (IsCut answers old.exchange b) (sym all_read)
+            (answered_then_cut answers old.exchange a b (ended_commands h.read) (all_commands p)
             h.is_answered h.unquit cut),
       )) refl
 
   -- no memory was left for more of one command than a run has room for
   pub ends_out_of_memory : n ≤ script_limit → command_room < length p
-      → TalkEnds answers has_error old (at a coming failures) 3
+      → ConversationEnds answers has_error old (at a coming failures) 3
   ends_out_of_memory short long =
       IsOutOfMemory h.read h.given (omega (arith, h.counted)) h.reader_failures
       (subst (λ (l : List ℕ). command_room < length l) h.pending_is long) h.unquit h.is_answered
       refl
 
   -- the command at the end was answered, or the writer failed in it
-  pub ends_last : (b : Telling State) → n ≤ script_limit → IsAtEnd coming
+  pub ends_last : (b : Exchange State) → n ≤ script_limit → IsAtEnd coming
       → (r : Result (Unit {0}) End) → IfOk r (λ _. IsAnswered answers a b (all_commands p))
       → IfErr r (λ end. (end ≡ IsFailed) × IsCut answers a b (all_commands p))
       → MatchResult r (λ _. EndsAnswered answers has_error old (at b coming failures))
@@ -198,17 +198,17 @@ module _ {State : Type 0} (answers : State → Request → List ℕ → State �
 
 -- the same by what a probe gave
 module _ {State : Type 0} (answers : State → Request → List ℕ → State → Type 0)
-    (has_error : State → Bool → Type 0) (old : Talk State) (a : Telling State)
+    (has_error : State → Bool → Type 0) (old : Conversation State) (a : Exchange State)
     (coming : Option (List ℕ)) (failures : ℕ) (p : List ℕ) (n : ℕ)
-    (h : Holds answers old (at a coming failures) p n) where
+    (h : IsMidway answers old (at a coming failures) p n) where
   pub ends_too_long_at : (coming' : Option (List ℕ)) (failures' : ℕ) → n ≡ script_limit
       → Probes coming coming' (Some false) → failures' ≡ failures
-      → TalkEnds answers has_error old (at a coming' failures') 3
+      → ConversationEnds answers has_error old (at a coming' failures') 3
   ends_too_long_at coming' failures' full probe same =
-      subst (λ f. TalkEnds answers has_error old (at a coming' f) 3) (sym same)
+      subst (λ f. ConversationEnds answers has_error old (at a coming' f) 3) (sym same)
       (ends_too_long answers has_error old a coming failures p n h coming' probe.0 full probe.1)
 
-  pub ends_last_at : (b : Telling State) (coming' : Option (List ℕ)) (failures' : ℕ)
+  pub ends_last_at : (b : Exchange State) (coming' : Option (List ℕ)) (failures' : ℕ)
       → n ≤ script_limit → Probes coming coming' (Some true) → failures' ≡ failures
       → (r : Result (Unit {0}) End) → IfOk r (λ _. IsAnswered answers a b (all_commands p))
       → IfErr r (λ end. (end ≡ IsFailed) × IsCut answers a b (all_commands p))

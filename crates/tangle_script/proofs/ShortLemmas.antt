@@ -4,12 +4,12 @@ use Rattle.std.specs.Prelude.{All, slice_index_or}
 use Rattle.std.specs.Io.KnownBytes.{Consumes}
 use Rattle.tangle_script.specs.Requests.{Command, Request, takes_text}
 use Rattle.tangle_script.specs.Commands.{all_commands, alone, commands_at_end, ended, ended_commands, kept, last_line, settled, textless, unended, waiting, with_head}
-use Rattle.tangle_script.specs.Script.{Talk}
-use Rattle.tangle_script.specs.Endings.{TalkEnds, command_room}
-use Rattle.tangle_script.specs.Endings.TalkEnds.{IsAtQuit, IsAtInputEnd, IsUnread, IsTooLong, IsUnwritten, IsOutOfMemory}
+use Rattle.tangle_script.specs.Script.{Conversation}
+use Rattle.tangle_script.specs.Endings.{ConversationEnds, command_room}
+use Rattle.tangle_script.specs.Endings.ConversationEnds.{IsAtQuit, IsAtInputEnd, IsUnread, IsTooLong, IsUnwritten, IsOutOfMemory}
 use Rattle.tangle_script.specs.Short.{HasFailed, HasShortCommands, command_size}
 use Rattle.tangle_script.proofs.CommandLemmas.{Waits, again_lines, again_rest, all_commands-kept, commands-append, ended_after, kept-append, read_waits, settled_head, unended_after, unended_unfed, waiting_head}
-use Rattle.tangle_script.proofs.QuietTalk.{small}
+use Rattle.tangle_script.proofs.QuietConversation.{small}
 
 -- the lines of some bytes behind an unended line, where the script ends after them
 
@@ -136,14 +136,14 @@ is_front script read None given = absurd given
 is_front script read (Some rest) given = (rest, given)
 
 module _ {State : Type 0} (answers : State → Request → List ℕ → State → Type 0)
-    (has_error : State → Bool → Type 0) (old new : Talk State) (script : List ℕ)
+    (has_error : State → Bool → Type 0) (old new : Conversation State) (script : List ℕ)
     (coming : old.coming ≡ Some script) where
   read_front : (read : List ℕ) → Consumes old.coming new.coming read
       → (rest : List ℕ) × (script ≡ read ++ rest)
   read_front read given = is_front script read new.coming
       (subst (λ (a : Option (List ℕ)). Consumes a new.coming read) coming given)
 
-  pub short_needs_no_memory : HasShortCommands script → TalkEnds answers has_error old new 3
+  pub short_needs_no_memory : HasShortCommands script → ConversationEnds answers has_error old new 3
       → HasFailed old new script
   short_needs_no_memory short (IsAtQuit read given within same answered status) = let h =
       small status.0 in absurd (omega (arith, status.2))

@@ -7,7 +7,7 @@ use Rattle.std.proofs.lemmas.Slice.Eq.{bytes_eq-Decides}
 use borrow.Author.Tests.{ltb-true}
 use Rattle.tangle_script.specs.Requests.{Command, Request, after_word, file_request, number_and_file, numbered, request_of, request_with, row, text_request}
 use Rattle.tangle_script.specs.Requests.Request.{Insert, Replace, Remove, Create, Discard, Show, MarksFull, MarksNone, Begin, Commit, Cancel, Faults, Work, Quit, BadCommand}
-use Rattle.tangle_script.specs.Table.{Asks, AsksForItsRow, IsNumbered, IsRow, is_digit, value_after}
+use Rattle.tangle_script.specs.Table.{CommandAsks, AsksForItsRow, IsNumbered, IsRow, is_digit, value_after}
 
 -- digits, one space and a file are read as the number and the file
 
@@ -210,7 +210,7 @@ module _ (c : Command) where
   no_row bad r h = subst (IsRow c) (sym (row_asked c r h) ∙ bad) h
 
   -- a row is no bad command
-  row_asks : (r : Request) → IsRow c r → Asks c r
+  row_asks : (r : Request) → IsRow c r → CommandAsks c r
   row_asks (Insert at file text) h = h
   row_asks (Replace at file text) h = h
   row_asks (Remove at file) h = h
@@ -227,13 +227,13 @@ module _ (c : Command) where
   row_asks Quit h = h
   row_asks BadCommand h = absurd h
 
-  request_asks : Asks c (request_of c)
+  request_asks : CommandAsks c (request_of c)
   request_asks = elim row_or_bad [
     | inl h ↦ row_asks (request_of c) h
-    | inr bad ↦ subst (Asks c) (sym bad) (no_row bad)
+    | inr bad ↦ subst (CommandAsks c) (sym bad) (no_row bad)
   ]
 
-  asks_row : (r : Request) → Asks c r → IsRow c r ⊎ (r ≡ BadCommand)
+  asks_row : (r : Request) → CommandAsks c r → IsRow c r ⊎ (r ≡ BadCommand)
   asks_row (Insert at file text) h = inl h
   asks_row (Replace at file text) h = inl h
   asks_row (Remove at file) h = inl h
@@ -256,10 +256,10 @@ module _ (c : Command) where
     | inr bad ↦ sym bad
   ]
 
-  asks_once : (r : Request) → Asks c r → r ≡ request_of c
+  asks_once : (r : Request) → CommandAsks c r → r ≡ request_of c
   asks_once r h = elim (asks_row r h) [
     | inl k ↦ sym (row_asked c r k)
-    | inr bad ↦ bad ∙ bad_once (subst (Asks c) bad h)
+    | inr bad ↦ bad ∙ bad_once (subst (CommandAsks c) bad h)
   ]
 
   pub asks_for_its_row : AsksForItsRow c

@@ -21,7 +21,7 @@ abbrev pub alone : List ℕ → List Command
 alone [] = []
 alone (b ∷ bs) = record { line = b ∷ bs; text = None } ∷ []
 
--- the commands of these lines, where a line may stand before them that waits for its text
+-- the commands of these lines, where a line may be before them that waits for its text
 abbrev pub settled : Option (List ℕ) → List (List ℕ) → List Command
 settled head [] = []
 settled None (line ∷ lines) =

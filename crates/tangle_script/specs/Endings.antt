@@ -4,7 +4,7 @@ use Rattle.std.specs.Io.KnownBytes.{Consumes, IsAtEnd}
 use Rattle.tangle_streams.specs.Streams.{Failed}
 use Rattle.tangle_script.specs.Requests.{Request}
 use Rattle.tangle_script.specs.Commands.{all_commands, ended_commands, kept}
-use Rattle.tangle_script.specs.Script.{IsCut, IsQuit, IsAnswered, Talk, has_quit}
+use Rattle.tangle_script.specs.Script.{IsCut, IsQuit, IsAnswered, Conversation, has_quit}
 
 -- the most bytes of a script
 abbrev pub script_limit : ℕ
@@ -15,57 +15,57 @@ abbrev pub command_room : ℕ
 command_room = 4096
 
 -- the status of a run that came to its end: whether an error is among the faults
-abbrev pub status_of : Bool → ℕ
-status_of has_error = if has_error then 1 else 0
+abbrev pub status_by : Bool → ℕ
+status_by has_error = if has_error then 1 else 0
 
 -- so the status is in this state, of a project that says whether an error is among its faults
 abbrev pub IsStatus : {State : Type 0} → (State → Bool → Type 0) → State → ℕ → Type 0
 IsStatus has_error state status =
-    (error : Bool) × has_error state error × (status ≡ status_of error)
+    (error : Bool) × has_error state error × (status ≡ status_by error)
 
 -- the writer failed in the answer to a command that had ended in these bytes, or to the last one
 -- where no more come
 abbrev pub IsCutIn : {State : Type 0} → (State → Request → List ℕ → State → Type 0)
-    → Talk State → Talk State → List ℕ → Type 0
+    → Conversation State → Conversation State → List ℕ → Type 0
 IsCutIn answers old new read =
-    IsCut answers old.telling new.telling (ended_commands read)
+    IsCut answers old.exchange new.exchange (ended_commands read)
     ⊎ (IsAtEnd new.coming × (has_quit (ended_commands read) ≡ false)
-    × IsCut answers old.telling new.telling (all_commands read))
+    × IsCut answers old.exchange new.exchange (all_commands read))
 
 -- How a run ends, by what was read of the script.
-pub data TalkEnds {State : Type 0} (answers : State → Request → List ℕ → State → Type 0)
-    (has_error : State → Bool → Type 0) (old new : Talk State) (status : ℕ) : Type 0 where
+pub data ConversationEnds {State : Type 0} (answers : State → Request → List ℕ → State → Type 0)
+    (has_error : State → Bool → Type 0) (old new : Conversation State) (status : ℕ) : Type 0 where
   -- 0 or 1: a `quit` was read, and all commands up to it are answered
   IsAtQuit : (read : List ℕ) → Consumes old.coming new.coming read → length read ≤ script_limit
       → new.reader_failures ≡ old.reader_failures
-      → IsQuit answers old.telling new.telling (ended_commands read)
-      → IsStatus has_error new.telling.state status → TalkEnds answers has_error old new status
+      → IsQuit answers old.exchange new.exchange (ended_commands read)
+      → IsStatus has_error new.exchange.state status → ConversationEnds answers has_error old new status
   -- 0 or 1: the script came to its end, and all its commands are answered
   IsAtInputEnd : (read : List ℕ) → Consumes old.coming new.coming read → length read ≤ script_limit
       → new.reader_failures ≡ old.reader_failures
       → IsAtEnd new.coming → has_quit (ended_commands read) ≡ false
-      → IsAnswered answers old.telling new.telling (all_commands read)
-      → IsStatus has_error new.telling.state status → TalkEnds answers has_error old new status
+      → IsAnswered answers old.exchange new.exchange (all_commands read)
+      → IsStatus has_error new.exchange.state status → ConversationEnds answers has_error old new status
   -- 3: the reader failed, and the commands that had ended are answered
   IsUnread : (read : List ℕ) → Consumes old.coming new.coming read → length read ≤ script_limit
       → Failed old.reader_failures new.reader_failures → has_quit (ended_commands read) ≡ false
-      → IsAnswered answers old.telling new.telling (ended_commands read)
-      → status ≡ 3 → TalkEnds answers has_error old new status
+      → IsAnswered answers old.exchange new.exchange (ended_commands read)
+      → status ≡ 3 → ConversationEnds answers has_error old new status
   -- 3: a byte came past the most of a script, and the commands that had ended are answered
   IsTooLong : (read : List ℕ) (more : ℕ) → Consumes old.coming new.coming (read ++ more ∷ [])
       → length read ≡ script_limit → new.reader_failures ≡ old.reader_failures
       → has_quit (ended_commands read) ≡ false
-      → IsAnswered answers old.telling new.telling (ended_commands read)
-      → status ≡ 3 → TalkEnds answers has_error old new status
+      → IsAnswered answers old.exchange new.exchange (ended_commands read)
+      → status ≡ 3 → ConversationEnds answers has_error old new status
   -- 3: the writer failed in the answer to a command that had ended, or to the last one at the end
   -- of the script
   IsUnwritten : (read : List ℕ) → Consumes old.coming new.coming read → length read ≤ script_limit
       → new.reader_failures ≡ old.reader_failures
-      → IsCutIn answers old new read → status ≡ 3 → TalkEnds answers has_error old new status
+      → IsCutIn answers old new read → status ≡ 3 → ConversationEnds answers has_error old new status
   -- 3: out of memory for a command of which more bytes came than a run has room for, and the
   -- commands that had ended are answered
   IsOutOfMemory : (read : List ℕ) → Consumes old.coming new.coming read → length read ≤ script_limit
       → new.reader_failures ≡ old.reader_failures
       → command_room < length (kept read) → has_quit (ended_commands read) ≡ false
-      → IsAnswered answers old.telling new.telling (ended_commands read)
-      → status ≡ 3 → TalkEnds answers has_error old new status
+      → IsAnswered answers old.exchange new.exchange (ended_commands read)
+      → status ≡ 3 → ConversationEnds answers has_error old new status

@@ -2,19 +2,19 @@
 use Rattle.std.specs.Prelude.{◌≡◌, ℕ, Bool, List, Some}
 use Rattle.tangle_streams.specs.Streams.{Failed}
 use Rattle.tangle_script.specs.Requests.{Request}
-use Rattle.tangle_script.specs.Script.{Talk}
-use Rattle.tangle_script.specs.Endings.{TalkEnds}
+use Rattle.tangle_script.specs.Script.{Conversation}
+use Rattle.tangle_script.specs.Endings.{ConversationEnds}
 
 -- the reader, whose bytes are known, has the same ones left, and neither it nor the writer failed
-pub record IsQuiet {State : Type 0} (old new : Talk State) : Type 0 where
+pub record IsQuiet {State : Type 0} (old new : Conversation State) : Type 0 where
   pub script : List ℕ
   pub coming : old.coming ≡ Some script
   pub unread : new.coming ≡ Some script
   pub read : Failed old.reader_failures new.reader_failures → ⊥
-  pub taken : Failed old.telling.stream.failures new.telling.stream.failures → ⊥
+  pub taken : Failed old.exchange.stream.failures new.exchange.stream.failures → ⊥
 
 -- status 3 is no end of such a run
 abbrev pub ThreeNeedsReason : {State : Type 0} → (State → Request → List ℕ → State → Type 0)
     → (State → Bool → Type 0) → Type 0
 ThreeNeedsReason {State} answers has_error =
-    (old new : Talk State) → IsQuiet old new → TalkEnds answers has_error old new 3 → ⊥
+    (old new : Conversation State) → IsQuiet old new → ConversationEnds answers has_error old new 3 → ⊥

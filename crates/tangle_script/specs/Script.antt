@@ -6,22 +6,22 @@ use Rattle.tangle_streams.specs.Streams.{Failed, Stream}
 use Rattle.tangle_script.specs.Requests.{Command, Request, is_edit, is_quit, request_of}
 
 -- a project and a writer at a moment
-pub record Telling (State : Type 0) : Type 0 where
+pub record Exchange (State : Type 0) : Type 0 where
   pub state : State
   pub stream : Stream
 
-abbrev pub telling : {State : Type 0} → State → Stream → Telling State
-telling state stream = record { state = state; stream = stream }
+abbrev pub exchange : {State : Type 0} → State → Stream → Exchange State
+exchange state stream = record { state = state; stream = stream }
 
 -- and a reader
-pub record Talk (State : Type 0) : Type 0 where
-  pub telling : Telling State
+pub record Conversation (State : Type 0) : Type 0 where
+  pub exchange : Exchange State
   pub coming : Option (List ℕ)
   pub reader_failures : ℕ
 
-abbrev pub talk : {State : Type 0} → State → Stream → Option (List ℕ) → ℕ → Talk State
-talk state stream coming reader_failures = record {
-  telling = telling state stream;
+abbrev pub conversation : {State : Type 0} → State → Stream → Option (List ℕ) → ℕ → Conversation State
+conversation state stream coming reader_failures = record {
+  exchange = exchange state stream;
   coming = coming;
   reader_failures = reader_failures;
 }
@@ -52,14 +52,14 @@ module _ {State : Type 0} (answers : State → Request → List ℕ → State �
       × Dialogue mid cs rest t × (text ≡ first ++ rest)
 
   -- these commands were answered, and the writer has just the answers and did not fail
-  pub record IsAnswered (old new : Telling State) (commands : List Command) : Type 0 where
+  pub record IsAnswered (old new : Exchange State) (commands : List Command) : Type 0 where
     pub text : List ℕ
     pub answered : Dialogue old.state commands text new.state
     pub written : Appends old.stream.taken new.stream.taken text
     pub failures : new.stream.failures ≡ old.stream.failures
 
   -- the writer failed, and has the answers to a front of the commands and a part of one more
-  pub record IsCut (old new : Telling State) (commands : List Command) : Type 0 where
+  pub record IsCut (old new : Exchange State) (commands : List Command) : Type 0 where
     pub front : List Command
     pub last : Command
     pub later : List Command
@@ -76,7 +76,7 @@ module _ {State : Type 0} (answers : State → Request → List ℕ → State �
     pub failed : Failed old.stream.failures new.stream.failures
 
   -- the commands up to the first `quit` were answered
-  pub record IsQuit (old new : Telling State) (commands : List Command) : Type 0 where
+  pub record IsQuit (old new : Exchange State) (commands : List Command) : Type 0 where
     pub front : List Command
     pub last : Command
     pub later : List Command

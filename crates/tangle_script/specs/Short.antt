@@ -3,8 +3,8 @@ use Rattle.std.specs.Prelude.{◌≡◌, ◌<◌, ◌≤◌, ◌⊎◌, ℕ, ◌
 use Rattle.tangle_streams.specs.Streams.{Failed}
 use Rattle.tangle_script.specs.Requests.{Command, Request}
 use Rattle.tangle_script.specs.Commands.{all_commands}
-use Rattle.tangle_script.specs.Script.{Talk}
-use Rattle.tangle_script.specs.Endings.{TalkEnds, command_room, script_limit}
+use Rattle.tangle_script.specs.Script.{Conversation}
+use Rattle.tangle_script.specs.Endings.{ConversationEnds, command_room, script_limit}
 
 abbrev pub text_size : Option (List ℕ) → ℕ
 text_size None = 0
@@ -19,15 +19,15 @@ abbrev pub HasShortCommands : List ℕ → Type 0
 HasShortCommands script = All (λ c. command_size c ≤ command_room) (all_commands script)
 
 -- the reader or the writer failed, or the script is longer than a script may be
-abbrev pub HasFailed : {State : Type 0} → Talk State → Talk State → List ℕ → Type 0
+abbrev pub HasFailed : {State : Type 0} → Conversation State → Conversation State → List ℕ → Type 0
 HasFailed old new script =
     Failed old.reader_failures new.reader_failures
-    ⊎ (Failed old.telling.stream.failures new.telling.stream.failures
+    ⊎ (Failed old.exchange.stream.failures new.exchange.stream.failures
     ⊎ (script_limit < length script))
 
 -- a run over such a script that ends with status 3 has failed so: it was not out of memory
 abbrev pub ShortNeedsNoMemory : {State : Type 0} → (State → Request → List ℕ → State → Type 0)
     → (State → Bool → Type 0) → Type 0
 ShortNeedsNoMemory {State} answers has_error =
-    (old new : Talk State) (script : List ℕ) → old.coming ≡ Some script → HasShortCommands script
-    → TalkEnds answers has_error old new 3 → HasFailed old new script
+    (old new : Conversation State) (script : List ℕ) → old.coming ≡ Some script → HasShortCommands script
+    → ConversationEnds answers has_error old new 3 → HasFailed old new script

@@ -44,10 +44,10 @@ IsRow c Quit = (c.line ≡ codes "quit") × (c.text ≡ None)
 IsRow c BadCommand = ⊥
 
 -- a command asks for the request of its row; one that is no row is a bad command
-abbrev pub Asks : Command → Request → Type 0
-Asks c BadCommand = (r : Request) → IsRow c r → ⊥
-Asks c r = IsRow c r
+abbrev pub CommandAsks : Command → Request → Type 0
+CommandAsks c BadCommand = (r : Request) → IsRow c r → ⊥
+CommandAsks c r = IsRow c r
 
 -- a command asks for one request, which is the one that the table of answers is about
 abbrev pub AsksForItsRow : Command → Type 0
-AsksForItsRow c = Asks c (request_of c) × ((r : Request) → Asks c r → r ≡ request_of c)
+AsksForItsRow c = CommandAsks c (request_of c) × ((r : Request) → CommandAsks c r → r ≡ request_of c)

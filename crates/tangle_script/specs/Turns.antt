@@ -4,37 +4,37 @@ use Rattle.std.specs.Io.KnownBytes.{Consumes, IsAtEnd, Keeps}
 use Rattle.tangle_streams.specs.Streams.{one_more_failure}
 use Rattle.tangle_script.specs.Requests.{Command, Request}
 use Rattle.tangle_script.specs.Commands.{ended_commands, kept}
-use Rattle.tangle_script.specs.Script.{IsCut, IsQuit, IsAnswered, Talk, Telling, has_quit}
-use Rattle.tangle_script.specs.Endings.{IsStatus, TalkEnds}
+use Rattle.tangle_script.specs.Script.{IsCut, IsQuit, IsAnswered, Conversation, Exchange, has_quit}
+use Rattle.tangle_script.specs.Endings.{IsStatus, ConversationEnds}
 use Rattle.tangle_script.specs.declared.answering.End.{End}
 use Rattle.tangle_script.specs.declared.answering.End.TheVariants.{Done, Failed as IsFailed}
 
 module _ {State : Type 0} (answers : State → Request → List ℕ → State → Type 0) where
   -- the commands in some bytes were answered, up to a `quit` or a failure of the writer
-  abbrev pub Breaks : End → Telling State → Telling State → List Command → Type 0
+  abbrev pub Breaks : End → Exchange State → Exchange State → List Command → Type 0
   Breaks Done old new commands = IsQuit answers old new commands
   Breaks IsFailed old new commands = IsCut answers old new commands
 
   -- so many bytes were read, the commands that ended in them are answered, and these bytes are kept
-  pub record Holds (old now : Talk State) (pending : List ℕ) (count : ℕ) : Type 0 where
+  pub record IsMidway (old now : Conversation State) (pending : List ℕ) (count : ℕ) : Type 0 where
     pub read : List ℕ
     pub given : Consumes old.coming now.coming read
     pub counted : length read ≡ count
     pub reader_failures : now.reader_failures ≡ old.reader_failures
     pub unquit : has_quit (ended_commands read) ≡ false
-    pub is_answered : IsAnswered answers old.telling now.telling (ended_commands read)
+    pub is_answered : IsAnswered answers old.exchange now.exchange (ended_commands read)
     pub pending_is : pending ≡ kept read
 
   -- a run came to its end, and its status is that of its faults
-  abbrev pub EndsAnswered : (State → Bool → Type 0) → Talk State → Talk State → Type 0
+  abbrev pub EndsAnswered : (State → Bool → Type 0) → Conversation State → Conversation State → Type 0
   EndsAnswered has_error old new =
-      (status : ℕ) → IsStatus has_error new.telling.state status
-      → TalkEnds answers has_error old new status
+      (status : ℕ) → IsStatus has_error new.exchange.state status
+      → ConversationEnds answers has_error old new status
 
   -- why a run ends
-  abbrev pub EndsBy : (State → Bool → Type 0) → End → Talk State → Talk State → Type 0
+  abbrev pub EndsBy : (State → Bool → Type 0) → End → Conversation State → Conversation State → Type 0
   EndsBy has_error Done old new = EndsAnswered has_error old new
-  EndsBy has_error IsFailed old new = TalkEnds answers has_error old new 3
+  EndsBy has_error IsFailed old new = ConversationEnds answers has_error old new 3
 
 -- whether more of a script comes
 abbrev pub Probes : Option (List ℕ) → Option (List ℕ) → Option Bool → Type 0

@@ -1,8 +1,9 @@
 //! The commands in some bytes are answered.
 ghost use Rattle.std.specs.Prelude.{◌≡◌, ◌≤◌, List, drop, length, false, IfErr, IfOk};
 ghost use Rattle.std.specs.Option.{option_copied};
-ghost use Rattle.tangle_script.specs.Commands.{OnlyWaits, all_commands, ended_commands, found_commands, is_nothing, kept};
-ghost use Rattle.tangle_script.specs.Script.{IsCut, IsAnswered, has_quit, telling};
+ghost use Rattle.tangle_script.specs.Commands.{OnlyWaits, all_commands, ended_commands};
+ghost use Rattle.tangle_script.specs.Commands.{found_commands, is_nothing, kept};
+ghost use Rattle.tangle_script.specs.Script.{IsCut, IsAnswered, has_quit, exchange};
 ghost use Rattle.tangle_script.specs.Turns.{Breaks};
 ghost use Rattle.tangle_script.specs.declared.answering.End.TheVariants.{Failed};
 
@@ -41,14 +42,14 @@ fn answer_line<P: Project, S: Sink>(
     sink: &mut S,
 ) -> Result<bool, SinkFailed>
     ensures answered { IfOk result (λ _. IsAnswered P.answers
-        (telling (P.state held.old draft.old) (S.stream sink.old))
-        (telling (P.state held.new draft.new) (S.stream sink.new))
+        (exchange (P.state held.old draft.old) (S.stream sink.old))
+        (exchange (P.state held.new draft.new) (S.stream sink.new))
         (found_commands line.now (option_copied text.entry))) }
     ensures quit { IfOk result (λ quit.
         has_quit (found_commands line.now (option_copied text.entry)) ≡ quit) }
     ensures cut { IfErr result (λ _. IsCut P.answers
-        (telling (P.state held.old draft.old) (S.stream sink.old))
-        (telling (P.state held.new draft.new) (S.stream sink.new))
+        (exchange (P.state held.old draft.old) (S.stream sink.old))
+        (exchange (P.state held.new draft.new) (S.stream sink.new))
         (found_commands line.now (option_copied text.entry))) }
 {
     if is_no_command(line, text) {
@@ -70,15 +71,15 @@ pub fn answer_all<P: Project, S: Sink>(
     sink: &mut S,
 ) -> Result<usize, End>
     ensures answered { IfOk result (λ _. IsAnswered P.answers
-        (telling (P.state held.old draft.old) (S.stream sink.old))
-        (telling (P.state held.new draft.new) (S.stream sink.new))
+        (exchange (P.state held.old draft.old) (S.stream sink.old))
+        (exchange (P.state held.new draft.new) (S.stream sink.new))
         (ended_commands bytes.now)) }
     ensures unquit { IfOk result (λ _. has_quit (ended_commands bytes.now) ≡ false) }
     ensures used { IfOk result (λ used.
         (kept bytes.now ≡ drop used bytes.now) × (used ≤ length bytes.now)) }
     ensures breaks { IfErr result (λ end. Breaks P.answers end
-        (telling (P.state held.old draft.old) (S.stream sink.old))
-        (telling (P.state held.new draft.new) (S.stream sink.new))
+        (exchange (P.state held.old draft.old) (S.stream sink.old))
+        (exchange (P.state held.new draft.new) (S.stream sink.new))
         (ended_commands bytes.now)) }
 {
     let mut rest = bytes;
@@ -104,12 +105,12 @@ pub fn answer_last<P: Project, S: Sink>(
 ) -> Result<(), End>
     requires { OnlyWaits bytes.now }
     ensures answered { IfOk result (λ _. IsAnswered P.answers
-        (telling (P.state held.old draft.old) (S.stream sink.old))
-        (telling (P.state held.new draft.new) (S.stream sink.new))
+        (exchange (P.state held.old draft.old) (S.stream sink.old))
+        (exchange (P.state held.new draft.new) (S.stream sink.new))
         (all_commands bytes.now)) }
     ensures cut { IfErr result (λ end. (end ≡ Failed) × IsCut P.answers
-        (telling (P.state held.old draft.old) (S.stream sink.old))
-        (telling (P.state held.new draft.new) (S.stream sink.new))
+        (exchange (P.state held.old draft.old) (S.stream sink.old))
+        (exchange (P.state held.new draft.new) (S.stream sink.new))
         (all_commands bytes.now)) }
 {
     let (line, text) = last_parts(bytes);

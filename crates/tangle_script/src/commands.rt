@@ -1,10 +1,12 @@
 //! The commands in some bytes of a script.
-ghost use Rattle.std.specs.Prelude.{◌≡◌, ◌<◌, ℕ, List, [], ◌∷◌, ◌++◌, length, nat_lt, IfSome, IfNone, Option, None, Some};
+ghost use Rattle.std.specs.Prelude.{◌≡◌, ◌<◌, ℕ, List, [], ◌∷◌, ◌++◌, length, nat_lt, IfSome};
+ghost use Rattle.std.specs.Prelude.{IfNone, Option, None, Some};
 ghost use Rattle.std.specs.Option.{option_copied};
 ghost use Rattle.tangle_script.specs.Requests.{takes_text};
-ghost use Rattle.tangle_script.specs.Commands.{OnlyWaits, all_commands, alone, ended, ended_commands, found_commands, kept, unended};
+ghost use Rattle.tangle_script.specs.Commands.{OnlyWaits, all_commands, alone, ended};
+ghost use Rattle.tangle_script.specs.Commands.{ended_commands, found_commands, kept, unended};
 
-use crate::request::wants_text;
+use crate::request::needs_text;
 use memchr::memchr;
 
 /// A line, its text if it takes one, and the bytes after them.
@@ -48,7 +50,7 @@ pub fn first_command(bytes: &[u8]) -> Option<Found<'_>>
     ensures none { IfNone result ((ended_commands bytes.now ≡ []) × (kept bytes.now ≡ bytes.now)) }
 {
     let (line, rest) = split_line(bytes)?;
-    if !wants_text(line) {
+    if !needs_text(line) {
         return Some(Found {
             line,
             text: None,

@@ -13,5 +13,5 @@ mod request;
 mod running;
 
 pub use project::{Project, SinkFailed};
-pub use request::{Request, each_command_asks_for_its_row, parse, wants_text};
+pub use request::{Request, each_command_asks_for_its_row, needs_text, parse};
 pub use running::{SCRIPT_LIMIT, run_script, short_commands_need_no_memory, three_needs_a_reason};

@@ -1,7 +1,9 @@
 //! What a script line asks for.
 ghost use Rattle.std.specs.Prelude.{◌≡◌, ℕ, List, Option, codes};
 ghost use Rattle.std.specs.Option.{option_copied, option_map};
-ghost use Rattle.tangle_script.specs.Requests.{Command, after_word, asked, bare_request, file_request, is_quit, number_and_file, request_of, takes_text, text_request};
+ghost use Rattle.tangle_script.specs.Requests.{Command, after_word, asked, bare_request};
+ghost use Rattle.tangle_script.specs.Requests.{file_request, is_quit, number_and_file, request_of};
+ghost use Rattle.tangle_script.specs.Requests.{takes_text, text_request};
 ghost use Rattle.tangle_script.specs.Table.{AsksForItsRow};
 
 /// What a line of a script asks for, with the line after it where that is its text.
@@ -161,7 +163,7 @@ fn with_text<'a>(line: &'a [u8], text: &'a [u8]) -> Request<'a>
 }
 
 /// Whether the next line is always the text of this one.
-pub fn wants_text(line: &[u8]) -> bool
+pub fn needs_text(line: &[u8]) -> bool
     ensures { result ≡ takes_text line.now }
 {
     rest_after(line, b"insert ").is_some() || rest_after(line, b"replace ").is_some()

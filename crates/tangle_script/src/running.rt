@@ -1,13 +1,16 @@
 //! A run: each command is answered before more of the script is read.
-ghost use Rattle.std.specs.Prelude.{◌≡◌, ◌<◌, ◌≤◌, ◌+◌, ℕ, List, ◌++◌, length, take, Bool, false, IfErr, IfOk, MatchResult, OnOk};
+ghost use Rattle.std.specs.Prelude.{◌≡◌, ◌<◌, ◌≤◌, ◌+◌, ℕ, List, ◌++◌, length, take, Bool, false};
+ghost use Rattle.std.specs.Prelude.{IfErr, IfOk, MatchResult, OnOk};
 ghost use Rattle.std.specs.Io.KnownBytes.{IsAtEnd};
 ghost use Rattle.tangle_script.specs.Buffer.{bytes};
 ghost use Rattle.tangle_script.specs.Commands.{OnlyWaits, ended_commands, kept};
-ghost use Rattle.tangle_script.specs.Script.{IsAnswered, Talk, has_quit, talk, telling};
-ghost use Rattle.tangle_script.specs.Endings.{IsStatus, TalkEnds, script_limit};
+ghost use Rattle.tangle_script.specs.Script.{IsAnswered, Conversation, has_quit, conversation};
+ghost use Rattle.tangle_script.specs.Script.{exchange};
+ghost use Rattle.tangle_script.specs.Endings.{IsStatus, ConversationEnds, script_limit};
 ghost use Rattle.tangle_script.specs.Quiet.{ThreeNeedsReason};
 ghost use Rattle.tangle_script.specs.Short.{ShortNeedsNoMemory};
-ghost use Rattle.tangle_script.specs.Turns.{Breaks, EndsAnswered, EndsBy, Holds, Probes, counted_probe};
+ghost use Rattle.tangle_script.specs.Turns.{Breaks, EndsAnswered, EndsBy, IsMidway, Probes};
+ghost use Rattle.tangle_script.specs.Turns.{counted_probe};
 
 use crate::answering::{End, answer_all, answer_last};
 use crate::buffer::{Buffer, CHUNK};
@@ -33,14 +36,14 @@ fn answer_chunk<P: Project, S: Sink>(
     requires within { searched ≤ length (bytes buffer.old) }
     requires waits { OnlyWaits (take searched (bytes buffer.old)) }
     ensures answered { IfOk result (λ _. IsAnswered P.answers
-        (telling (P.state held.old draft.old) (S.stream sink.old))
-        (telling (P.state held.new draft.new) (S.stream sink.new))
+        (exchange (P.state held.old draft.old) (S.stream sink.old))
+        (exchange (P.state held.new draft.new) (S.stream sink.new))
         (ended_commands (bytes buffer.old))) }
     ensures unquit { OnOk result (has_quit (ended_commands (bytes buffer.old)) ≡ false) }
     ensures kept { OnOk result (bytes buffer.new ≡ kept (bytes buffer.old)) }
     ensures breaks { IfErr result (λ end. Breaks P.answers end
-        (telling (P.state held.old draft.old) (S.stream sink.old))
-        (telling (P.state held.new draft.new) (S.stream sink.new))
+        (exchange (P.state held.old draft.old) (S.stream sink.old))
+        (exchange (P.state held.new draft.new) (S.stream sink.new))
         (ended_commands (bytes buffer.old))) }
 {
     if !ends_a_line(&buffer.as_slice()[searched..]) {
@@ -64,18 +67,18 @@ fn turn<P: Project, R: Feed, S: Sink>(
     requires some { 0 < most }
     requires few { most ≤ 4096 }
     requires waits { OnlyWaits (bytes buffer.old) }
-    ensures ends { (old : Talk P.State) (count : ℕ) → count + most ≤ script_limit
-        → Holds P.answers old
-        (talk (P.state held.old draft.old) (S.stream sink.old)
+    ensures ends { (old : Conversation P.State) (count : ℕ) → count + most ≤ script_limit
+        → IsMidway P.answers old
+        (conversation (P.state held.old draft.old) (S.stream sink.old)
         (R.coming feed.old) (R.failures feed.old))
         (bytes buffer.old) count
         → MatchResult result
-        (λ n. Holds P.answers old
-        (talk (P.state held.new draft.new) (S.stream sink.new)
+        (λ n. IsMidway P.answers old
+        (conversation (P.state held.new draft.new) (S.stream sink.new)
         (R.coming feed.new) (R.failures feed.new))
         (bytes buffer.new) (count + n))
         (λ end. EndsBy P.answers P.has_error end old
-        (talk (P.state held.new draft.new) (S.stream sink.new)
+        (conversation (P.state held.new draft.new) (S.stream sink.new)
         (R.coming feed.new) (R.failures feed.new))) }
     ensures end { IfOk result (λ n. n ≡ 0 → IsAtEnd (R.coming feed.new)) }
     ensures within { IfOk result (λ n. n ≤ most) }
@@ -114,17 +117,17 @@ fn end_full<P: Project, R: Feed, S: Sink>(
     sink: &mut S,
 ) -> Result<(), End>
     requires { OnlyWaits pending.now }
-    ensures { (old : Talk P.State) (count : ℕ) → count ≡ script_limit
-        → Holds P.answers old
-        (talk (P.state held.old draft.old) (S.stream sink.old)
+    ensures { (old : Conversation P.State) (count : ℕ) → count ≡ script_limit
+        → IsMidway P.answers old
+        (conversation (P.state held.old draft.old) (S.stream sink.old)
         (R.coming feed.old) (R.failures feed.old))
         pending.now count
         → MatchResult result
         (λ _. EndsAnswered P.answers P.has_error old
-        (talk (P.state held.new draft.new) (S.stream sink.new)
+        (conversation (P.state held.new draft.new) (S.stream sink.new)
         (R.coming feed.new) (R.failures feed.new)))
         (λ end. EndsBy P.answers P.has_error end old
-        (talk (P.state held.new draft.new) (S.stream sink.new)
+        (conversation (P.state held.new draft.new) (S.stream sink.new)
         (R.coming feed.new) (R.failures feed.new))) }
 {
     match ends_here(feed) {
@@ -144,14 +147,14 @@ fn read_script<P: Project, R: Feed, S: Sink>(
 ) -> Result<(), End>
     ensures { MatchResult result
         (λ _. EndsAnswered P.answers P.has_error
-        (talk (P.state held.old draft.old) (S.stream sink.old)
+        (conversation (P.state held.old draft.old) (S.stream sink.old)
         (R.coming feed.old) (R.failures feed.old))
-        (talk (P.state held.new draft.new) (S.stream sink.new)
+        (conversation (P.state held.new draft.new) (S.stream sink.new)
         (R.coming feed.new) (R.failures feed.new)))
         (λ end. EndsBy P.answers P.has_error end
-        (talk (P.state held.old draft.old) (S.stream sink.old)
+        (conversation (P.state held.old draft.old) (S.stream sink.old)
         (R.coming feed.old) (R.failures feed.old))
-        (talk (P.state held.new draft.new) (S.stream sink.new)
+        (conversation (P.state held.new draft.new) (S.stream sink.new)
         (R.coming feed.new) (R.failures feed.new))) }
 {
     let mut buffer = Buffer::new(alloc);
@@ -187,10 +190,10 @@ pub fn run_script<P: Project, R: Feed, S: Sink>(
     feed: &mut R,
     sink: &mut S,
 ) -> u8
-    ensures { TalkEnds P.answers P.has_error
-        (talk (P.state held.old draft.old) (S.stream sink.old)
+    ensures { ConversationEnds P.answers P.has_error
+        (conversation (P.state held.old draft.old) (S.stream sink.old)
         (R.coming feed.old) (R.failures feed.old))
-        (talk (P.state held.new draft.new) (S.stream sink.new)
+        (conversation (P.state held.new draft.new) (S.stream sink.new)
         (R.coming feed.new) (R.failures feed.new))
         result }
 {

@@ -1,4 +1,4 @@
-//! Growths of a run that are refused, where the library that `tests/memory.sh` makes is in front of
+//! Allocations of a run that fail, where the library that `tests/memory.sh` makes is in front of
 //! the allocator. Without it none is.
 use crate::support::{Letters, Long};
 use std::alloc::Global;
@@ -7,16 +7,16 @@ use std::test::Fail;
 use tangle_script::run_script;
 use tangle_streams::IoSink;
 
-// Refuses the nth growth from here on, none at 0, and says whether the library is there: no memory
-// is so large.
-fn refuse_growth(alloc: Global, nth: u32) -> bool {
+// Fails the nth allocation from here on, none at 0, and says whether the library is there: no
+// memory is so large.
+fn fail_allocation(alloc: Global, nth: u32) -> bool {
     Vec::<u8>::with_capacity(alloc, (1 << 62) + nth as usize).is_ok()
 }
 
 // Ends the refusals, and says whether the last one never came.
 fn end_refusals(alloc: Global, is_harnessed: bool) -> bool {
     let is_waiting = Vec::<u8>::with_capacity(alloc, 3 << 61).is_ok();
-    refuse_growth(alloc, 0);
+    fail_allocation(alloc, 0);
     is_waiting || !is_harnessed
 }
 
@@ -32,13 +32,13 @@ fn insertion(count: usize) -> Long<'static> {
     }
 }
 
-// Runs the script with the nth growth refused, and says whether none was. A run in which one was
-// has answered the question alone, and ends with status 3.
+// Runs the script with the nth allocation failing, and says whether none did. A run in which one
+// was has answered the question alone, and ends with status 3.
 fn run_is_spared(rt: &impl Abort, alloc: Global, mut script: Long<'_>, nth: u32) -> bool {
     let mut project = Letters::new();
     let mut draft = 0;
     let mut room = [0u8; 6];
-    let is_harnessed = refuse_growth(alloc, nth);
+    let is_harnessed = fail_allocation(alloc, nth);
     let ended = {
         let mut sink = IoSink::new(room.as_mut_slice());
         run_script::<Letters, _, _>(alloc, &mut project, &mut draft, &mut script, &mut sink)
@@ -55,7 +55,7 @@ fn run_is_spared(rt: &impl Abort, alloc: Global, mut script: Long<'_>, nth: u32)
 }
 
 #[test]
-fn each_growth_of_a_long_command_refused(rt: HostRuntime) -> Result<(), Fail> {
+fn each_allocation_of_a_long_command_failing(rt: HostRuntime) -> Result<(), Fail> {
     for nth in 1..1000 {
         if run_is_spared(&rt, rt.alloc(), insertion(100_000), nth) {
             return Ok(());
@@ -65,7 +65,7 @@ fn each_growth_of_a_long_command_refused(rt: HostRuntime) -> Result<(), Fail> {
 }
 
 #[test]
-fn no_growth_of_a_command_that_fits(rt: HostRuntime) -> Result<(), Fail> {
+fn no_allocation_for_a_command_that_fits(rt: HostRuntime) -> Result<(), Fail> {
     for count in [0, 86, 4077, 4081, 4082] {
         assert!(rt; run_is_spared(&rt, rt.alloc(), insertion(count), 1));
     }

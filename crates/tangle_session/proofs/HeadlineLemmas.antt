@@ -18,7 +18,7 @@ use Rattle.tangle_session.specs.Files.{source_at, web_at}
 use Rattle.tangle_session.specs.Headline.{Call, EditsRead, OneEdit, ListOf, History, Started, Edited, IsAnswered, ListsLastExpanded, ByStart, ByLast, IsPlainTangling}
 use Rattle.tangle_session.specs.Headline.{NoOutputReachesACycle, EachCycleIsReported, ShowsPlainTangling, ShowsLastWork}
 use Rattle.tangle_session.specs.Headline.{accepted, edits_of, files_after, roles_with, web_after}
-use Rattle.tangle_session.specs.Sessions.{AreMade, ListsAffected, SessionRead}
+use Rattle.tangle_session.specs.Sessions.{AreMade, ListsAffectedOfWebs, SessionRead}
 use Rattle.tangle_session.specs.Tangle.{AreFaultsOf, output_at, outputs_of}
 use Rattle.tangle_session.specs.Writes.{IsTrueFile, WritesOutput}
 use Rattle.tangle_session.specs.declared.headline.Shown.{Shown}
@@ -70,50 +70,50 @@ zip_more (a ∷ xs) (b ∷ ys) x y e = ap (λ l. (a, b) ∷ l) (zip_more xs ys x
 
 -- what a history leaves
 
-pub record Stands (files : FileTable) (roles : RolesRead) (lists : List (List Edit)) (session : SessionRead) : Type 0 where
+pub record IsReached (files : FileTable) (roles : RolesRead) (lists : List (List Edit)) (session : SessionRead) : Type 0 where
   pub files_are : session.files ≡ files_after files lists
   pub roles_are : session.roles ≡ roles_with roles lists
   pub expanded : ListsLastExpanded files roles session.work lists
 
-stands_made : (files : FileTable) (roles : RolesRead) (lists : List (List Edit)) (before after : SessionRead) (edits : List Edit)
-    → Stands files roles lists before → AreMade before edits after → Stands files roles (lists ++ edits ∷ []) after
-stands_made files roles lists before after edits stands are =
+reached_made : (files : FileTable) (roles : RolesRead) (lists : List (List Edit)) (before after : SessionRead) (edits : List Edit)
+    → IsReached files roles lists before → AreMade before edits after → IsReached files roles (lists ++ edits ∷ []) after
+reached_made files roles lists before after edits reached are =
     let files_now : after.files ≡ files_after files (lists ++ edits ∷ []) =
-    are.files ∙ ap (λ fs. edited_all fs edits) stands.files_are ∙ sym (files_more files lists edits) in
+    are.files ∙ ap (λ fs. edited_all fs edits) reached.files_are ∙ sym (files_more files lists edits) in
     let roles_now : after.roles ≡ roles_with roles (lists ++ edits ∷ []) =
-    are.roles ∙ ap (λ rs. roles_after rs edits) stands.roles_are ∙ sym (roles_more roles lists edits) in
+    are.roles ∙ ap (λ rs. roles_after rs edits) reached.roles_are ∙ sym (roles_more roles lists edits) in
     let web_before : web_at before.files before.roles ≡ web_after files roles lists =
-    ap (λ fs. web_at fs before.roles) stands.files_are ∙ ap (web_at (files_after files lists)) stands.roles_are in
+    ap (λ fs. web_at fs before.roles) reached.files_are ∙ ap (web_at (files_after files lists)) reached.roles_are in
     let web_now : web_at after.files after.roles ≡ web_after files roles (lists ++ edits ∷ []) =
     ap (λ fs. web_at fs after.roles) files_now ∙ ap (web_at (files_after files (lists ++ edits ∷ []))) roles_now in
     record {
       files_are = files_now;
       roles_are = roles_now;
       expanded = ByLast lists edits
-          (subst (λ web. ListsAffected (web_after files roles lists) web after.work) web_now
-          (subst (λ web. ListsAffected web (web_at after.files after.roles) after.work) web_before are.work));
+          (subst (λ web. ListsAffectedOfWebs (web_after files roles lists) web after.work) web_now
+          (subst (λ web. ListsAffectedOfWebs web (web_at after.files after.roles) after.work) web_before are.work));
     }
 
-stands_edited : (files : FileTable) (roles : RolesRead) (calls : List Call) (before after : SessionRead) (edits : EditsRead) (answer : Result (Unit {0}) ListRefusal)
-    → Stands files roles (accepted calls) before → IsAnswered before edits answer after → Stands files roles (accepted (calls ++ (edits, answer) ∷ [])) after
-stands_edited files roles calls before after (OneEdit edit) (Ok done) stands is =
-    subst (λ lists. Stands files roles lists after) (sym (accepted_one (OneEdit edit) done calls))
-    (stands_made files roles (accepted calls) before after (edit ∷ []) stands is.1)
-stands_edited files roles calls before after (ListOf edits) (Ok done) stands is =
-    subst (λ lists. Stands files roles lists after) (sym (accepted_one (ListOf edits) done calls))
-    (stands_made files roles (accepted calls) before after edits stands is.1)
-stands_edited files roles calls before after (OneEdit edit) (Err refused) stands is =
-    subst (λ lists. Stands files roles lists after) (sym (accepted_none (OneEdit edit) refused calls))
-    (subst (λ s. Stands files roles (accepted calls) s) (sym is.1) stands)
-stands_edited files roles calls before after (ListOf edits) (Err refused) stands is =
-    subst (λ lists. Stands files roles lists after) (sym (accepted_none (ListOf edits) refused calls))
-    (subst (λ s. Stands files roles (accepted calls) s) (sym is.1) stands)
+reached_edited : (files : FileTable) (roles : RolesRead) (calls : List Call) (before after : SessionRead) (edits : EditsRead) (answer : Result (Unit {0}) ListRefusal)
+    → IsReached files roles (accepted calls) before → IsAnswered before edits answer after → IsReached files roles (accepted (calls ++ (edits, answer) ∷ [])) after
+reached_edited files roles calls before after (OneEdit edit) (Ok done) reached is =
+    subst (λ lists. IsReached files roles lists after) (sym (accepted_one (OneEdit edit) done calls))
+    (reached_made files roles (accepted calls) before after (edit ∷ []) reached is.1)
+reached_edited files roles calls before after (ListOf edits) (Ok done) reached is =
+    subst (λ lists. IsReached files roles lists after) (sym (accepted_one (ListOf edits) done calls))
+    (reached_made files roles (accepted calls) before after edits reached is.1)
+reached_edited files roles calls before after (OneEdit edit) (Err refused) reached is =
+    subst (λ lists. IsReached files roles lists after) (sym (accepted_none (OneEdit edit) refused calls))
+    (subst (λ s. IsReached files roles (accepted calls) s) (sym is.1) reached)
+reached_edited files roles calls before after (ListOf edits) (Err refused) reached is =
+    subst (λ lists. IsReached files roles lists after) (sym (accepted_none (ListOf edits) refused calls))
+    (subst (λ s. IsReached files roles (accepted calls) s) (sym is.1) reached)
 
-pub stands : {files : FileTable} {roles : RolesRead} {calls : List Call} {session : SessionRead} → History files roles calls session → Stands files roles (accepted calls) session
-stands {files = files} {roles = roles} (Started {session = session} none same_files same_roles work) =
+pub reached : {files : FileTable} {roles : RolesRead} {calls : List Call} {session : SessionRead} → History files roles calls session → IsReached files roles (accepted calls) session
+reached {files = files} {roles = roles} (Started {session = session} none same_files same_roles work) =
     record { files_are = same_files; roles_are = same_roles; expanded = ByStart work }
-stands {files = files} {roles = roles} (Edited {calls = calls} {after = after} before edits answer history is) =
-    stands_edited files roles calls before after edits answer (stands history) is
+reached {files = files} {roles = roles} (Edited {calls = calls} {after = after} before edits answer history is) =
+    reached_edited files roles calls before after edits answer (reached history) is
 
 -- a step, from what the clauses of the calls say
 
@@ -132,7 +132,7 @@ first_reason (Some r) refusal answer is h only = cc
 
 pub one_made : (before after : SessionRead) (edit : Edit) (done : Unit {0})
     → after.files ≡ edited before.files edit → after.roles ≡ edited_roles before.roles edit
-    → ListsAffected (web_at before.files before.roles) (web_at after.files after.roles) after.work
+    → ListsAffectedOfWebs (web_at before.files before.roles) (web_at after.files after.roles) after.work
     → IfSome (session_refusal before.files before.roles edit) (λ refusal. Ok done ≡ Err refusal)
     → IsAnswered before (OneEdit edit) (Ok done) after
 one_made before after edit done files roles work refused =
@@ -147,7 +147,7 @@ one_refused before after edit refusal answer is refused only same =
 
 pub several_answered : (before after : SessionRead) (edits : List Edit) (answer : Result (Unit {0}) ListRefusal)
     → OnOk answer (after.files ≡ edited_all before.files edits) → OnOk answer (after.roles ≡ roles_after before.roles edits)
-    → OnOk answer (ListsAffected (web_at before.files before.roles) (web_at after.files after.roles) after.work)
+    → OnOk answer (ListsAffectedOfWebs (web_at before.files before.roles) (web_at after.files after.roles) after.work)
     → IfSome (list_refusal before.files before.roles edits) (λ refused. (answer ≡ Err refused) ⊎ (answer ≡ Err list_memory))
     → IfNone (list_refusal before.files before.roles edits) (IsOkUnless answer list_memory)
     → OnErr answer (after ≡ before) → IsAnswered before (ListOf edits) answer after
@@ -160,10 +160,10 @@ several_answered before after edits (Ok done) files roles work refused only err 
 several_answered before after edits (Err refused) files roles work refused_for only err =
     (reason (list_refusal before.files before.roles edits) refused_for only, err)
   where
-    told : Result (Unit {0}) ListRefusal
-    told = Err refused
+    reported : Result (Unit {0}) ListRefusal
+    reported = Err refused
 
-    reason : (o : Option ListRefusal) → IfSome o (λ r. (told ≡ Err r) ⊎ (told ≡ Err list_memory)) → IfNone o (IsOkUnless told list_memory)
+    reason : (o : Option ListRefusal) → IfSome o (λ r. (reported ≡ Err r) ⊎ (reported ≡ Err list_memory)) → IfNone o (IsOkUnless reported list_memory)
         → (o ≡ Some refused) ⊎ (refused ≡ list_memory)
     reason None h only = inr only
     reason (Some r) h only = elim h [ inl is ↦ inl (cc) | inr is ↦ inr (cc) ]
@@ -227,10 +227,10 @@ module _ (name : List ℕ) (old new : Stream) (shown : Shown) where
   pub shows : (s : SessionRead) → Answers s → (files : FileTable) (roles : RolesRead) (calls : List Call) → History files roles calls s
       → ShowsPlainTangling (files_after files (accepted calls)) (roles_with roles (accepted calls)) name old new shown
   shows s answers files roles calls history =
-      let at = stands history in
+      let at = reached history in
       subst (λ rs. ShowsPlainTangling (files_after files (accepted calls)) rs name old new shown) at.roles_are
       (subst (λ fs. ShowsPlainTangling fs s.roles name old new shown) at.files_are (shows_now s answers))
 
   pub shows_work : (s : SessionRead) → shown.work ≡ length s.work → (files : FileTable) (roles : RolesRead) (calls : List Call) → History files roles calls s
       → ShowsLastWork files roles (accepted calls) shown
-  shows_work s counted files roles calls history = record { nodes = s.work; expanded = (stands history).expanded; counted = counted }
+  shows_work s counted files roles calls history = record { nodes = s.work; expanded = (reached history).expanded; counted = counted }

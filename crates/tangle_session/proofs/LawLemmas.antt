@@ -1,4 +1,4 @@
--- The laws of the headline: one tangling, no cycle below an output, and each cycle told.
+-- The laws of the headline: one tangling, no cycle below an output, and each cycle reported.
 use Rattle.std.proofs.Common.{◌≡◌, ◌≢◌, ◌∙◌, ◌<◌, ◌++◌, ℕ, zero, suc, Bool, true, false, List, [], ◌∷◌, length, map, flat_map, get_or, refl, ap, sym, subst, arith, zero-add}
 use Rattle.std.specs.Prelude.{if◌then◌else◌, Option, Some, None, IsSome, Contains, option_to_list, slice_get}
 use Rattle.std.specs.List.{range_with_len}
@@ -6,21 +6,21 @@ use Rattle.std.proofs.lemmas.List.{get_or-map, get_or_default}
 use Rattle.std.proofs.lemmas.List.Elements.{Contains-append_left, Contains-append_right}
 use Rattle.std.proofs.lemmas.List.Folds.{find_at}
 use Rattle.std.proofs.lemmas.List.FromFn.{length-range_with_len, get_or-range_with_len}
-use Rattle.tangle_lines.specs.Faults.{Finding, fault_about}
+use Rattle.tangle_lines.specs.Faults.{FaultRead, fault_about}
 use Rattle.tangle_files.specs.Lines.{FileTable}
 use Rattle.tangle_lines.specs.Reading.{SourceRead}
 use Rattle.tangle_files.specs.Roles.{RolesRead}
 use Rattle.tangle_lines.specs.declared.faults.FaultKind.TheVariants as kind
 use Rattle.tangle_lexer.specs.Occurrences.{OccurrenceRead}
 use Rattle.tangle_scan.specs.Web.{WebRead, PieceRead}
-use Rattle.tangle_names.specs.Faults.{spot_of}
+use Rattle.tangle_names.specs.Faults.{named_place_of}
 use Rattle.tangle_names.specs.NameTable.{TableRead, table_of}
 use Rattle.tangle_names.specs.Resolving.{first_number, first_occurrence, names_in_order, resolves_to}
 use Rattle.tangle_expansion.specs.Limits.{levels, heaviest}
 use Rattle.tangle_expansion.specs.Affected.{IsExpandable}
 use Rattle.tangle_expansion.specs.Outputs.{OutputRead}
-use Rattle.tangle_expansion.specs.Projects.{project, shape_item, ResolvesInside}
-use Rattle.tangle_expansion.specs.Shapes.{Title, Named, Shape, Project, UsesInShape, Reaches, here, on, ContainsItself}
+use Rattle.tangle_expansion.specs.WebShapes.{shapes, shape_item, ResolvesInside}
+use Rattle.tangle_expansion.specs.Shapes.{Title, Named, Shape, Shapes, UsesInShape, Reaches, here, on, ContainsItself}
 use Rattle.tangle_graph.specs.Faults.{AreGraphFaults, fault_of, fault_at_number, fault_place, faults_of_names, graph_faults, large_program, no_program}
 use Rattle.tangle_graph.specs.Faults as of_graph
 use Rattle.tangle_graph.specs.Nodes.{title_of_node}
@@ -28,15 +28,15 @@ use Rattle.tangle_graph.specs.Outputs.{name_text}
 use Rattle.tangle_graph.proofs.NodeLemmas.{title_inside}
 use Rattle.tangle_graph.proofs.StoreLemmas.{there}
 use Rattle.tangle_session.specs.Faults.{AreFaults}
-use Rattle.tangle_session.specs.Files.{project_of, source_at, web_at}
-use Rattle.tangle_session.specs.Laws.{IsToldSelfContaining}
+use Rattle.tangle_session.specs.Files.{shapes_of, source_at, web_at}
+use Rattle.tangle_session.specs.Laws.{IsReportedSelfContaining}
 use Rattle.tangle_session.specs.Tangle.{Tangling, IsTanglingOf}
 use Rattle.tangle_session.proofs.OutputLemmas.{IsFit}
 
 abbrev AreOneList : Type 0
-AreOneList = (web : WebRead) (table : TableRead) (out : List ℕ) (a b : List Finding) → AreGraphFaults web table out a → AreGraphFaults web table out b → a ≡ b
+AreOneList = (web : WebRead) (table : TableRead) (out : List ℕ) (a b : List FaultRead) → AreGraphFaults web table out a → AreGraphFaults web table out b → a ≡ b
 
-one_faults : AreOneList → (source : SourceRead) (web : WebRead) (out : List ℕ) (a b : List Finding) → AreFaults source web out a → AreFaults source web out b → a ≡ b
+one_faults : AreOneList → (source : SourceRead) (web : WebRead) (out : List ℕ) (a b : List FaultRead) → AreFaults source web out a → AreFaults source web out b → a ≡ b
 one_faults law source web out a b x y =
     x.list ∙ ap (λ l. source.faults ++ (web.faults ++ ((table_of web).faults ++ l))) (law web (table_of web) out x.of_graph y.of_graph x.is_graph y.is_graph) ∙ sym y.list
 
@@ -52,62 +52,62 @@ no_use : (shape : Shape) (name : List ℕ) → shape ≡ [] → UsesInShape shap
 no_use [] name e u = u
 no_use (x ∷ shape) name e u = absurd (let no : x ∷ shape ≡ [] = e in cc)
 
-none_reached : (project : Project) (node other : Title) → project node ≡ [] → Reaches project node other → ContainsItself project other → ⊥
-none_reached project node other e here c = no_use (project node) c.0 e c.1
-none_reached project node other e (on {name = name} u r) c = no_use (project node) name e u
+none_reached : (shapes : Shapes) (node other : Title) → shapes node ≡ [] → Reaches shapes node other → ContainsItself shapes other → ⊥
+none_reached shapes node other e here c = no_use (shapes node) c.0 e c.1
+none_reached shapes node other e (on {name = name} u r) c = no_use (shapes node) name e u
 
-pub no_cycle : ((l h : ℕ) (p : Project) (node other : Title) → IsExpandable l h p node → Reaches p node other → ContainsItself p other → ⊥)
-    → (project : Project) (names : List (List ℕ)) (output : OutputRead) (other : Title) → IsFit project names output
-    → Reaches project (title_of_node names output.node) other → ContainsItself project other → ⊥
-no_cycle law project names output other fit r c = by output.has_piece refl
+pub no_cycle : ((l h : ℕ) (p : Shapes) (node other : Title) → IsExpandable l h p node → Reaches p node other → ContainsItself p other → ⊥)
+    → (shapes : Shapes) (names : List (List ℕ)) (output : OutputRead) (other : Title) → IsFit shapes names output
+    → Reaches shapes (title_of_node names output.node) other → ContainsItself shapes other → ⊥
+no_cycle law shapes names output other fit r c = by output.has_piece refl
   where
     by : (b : Bool) → output.has_piece ≡ b → ⊥
-    by true e = law levels heaviest project (title_of_node names output.node) other (fit.there e) r c
-    by false e = none_reached project (title_of_node names output.node) other (fit.none e) r c
+    by true e = law levels heaviest shapes (title_of_node names output.node) other (fit.there e) r c
+    by false e = none_reached shapes (title_of_node names output.node) other (fit.none e) r c
 
--- each cycle is told
+-- each cycle is reported
 
 in_range : (n k : ℕ) → k < n → Contains (range_with_len 0 n) k
 in_range n k h = (k, omega (arith, h, length-range_with_len 0 n), get_or-range_with_len 0 n k k h ∙ zero-add k)
 
-in_mapped : (g : ℕ → List Finding) (ns : List ℕ) (k : ℕ) (x : Finding) → Contains ns k → Contains (g k) x → Contains (flat_map g ns) x
+in_mapped : (g : ℕ → List FaultRead) (ns : List ℕ) (k : ℕ) (x : FaultRead) → Contains ns k → Contains (g k) x → Contains (flat_map g ns) x
 in_mapped g [] k x c d = absurd (omega (arith, c.1))
 in_mapped g (n ∷ ns) k x (zero, h, e) d = Contains-append_left (g n) (flat_map g ns) x (subst (λ m. Contains (g m) x) (sym e) d)
 in_mapped g (n ∷ ns) k x (suc i, h, e) d = Contains-append_right (g n) (flat_map g ns) x (in_mapped g ns k x (i, omega (arith, h), e) d)
 
-a_piece : (project : Project) (name : List ℕ) → ContainsItself project (Named name) → project (Named name) ≢ []
-a_piece project name c e = no_use (project (Named name)) c.0 e c.1
+a_piece : (shapes : Shapes) (name : List ℕ) → ContainsItself shapes (Named name) → shapes (Named name) ≢ []
+a_piece shapes name c e = no_use (shapes (Named name)) c.0 e c.1
 
-module _ (web : WebRead) (out : List ℕ) (faults : List Finding) (are : AreGraphFaults web (table_of web) out faults) (id : ℕ) (name : List ℕ) (o : OccurrenceRead)
-    (low : id < length (table_of web).names) (text : get_or (table_of web).names id [] ≡ name) (contains : ContainsItself (project_of web) (Named name))
+module _ (web : WebRead) (out : List ℕ) (faults : List FaultRead) (are : AreGraphFaults web (table_of web) out faults) (id : ℕ) (name : List ℕ) (o : OccurrenceRead)
+    (low : id < length (table_of web).names) (text : get_or (table_of web).names id [] ≡ name) (contains : ContainsItself (shapes_of web) (Named name))
     (first : first_occurrence web.occurrences name ≡ Some o) where
   flagged : are.contains_itself id ≡ true
-  flagged = (are.self_containing id (omega (arith, low))).1 (subst (ContainsItself (project_of web)) (sym (title_inside (table_of web).names id low ∙ ap Named text)) contains)
+  flagged = (are.self_containing id (omega (arith, low))).1 (subst (ContainsItself (shapes_of web)) (sym (title_inside (table_of web).names id low ∙ ap Named text)) contains)
 
   number : get_or (table_of web).first_occurrences id 0 ≡ first_number web.occurrences name
   number = get_or-map (first_number web.occurrences) (table_of web).names id [] 0 low ∙ ap (first_number web.occurrences) text
 
-  stands : slice_get web.occurrences (get_or (table_of web).first_occurrences id 0) ≡ Some o
-  stands = ap (slice_get web.occurrences) number ∙ sym (find_at (resolves_to web.occurrences name) web.occurrences) ∙ first
+  reached : slice_get web.occurrences (get_or (table_of web).first_occurrences id 0) ≡ Some o
+  reached = ap (slice_get web.occurrences) number ∙ sym (find_at (resolves_to web.occurrences name) web.occurrences) ∙ first
 
   one_fault : fault_of web (table_of web) kind.SelfContaining id (fault_place web (table_of web) out are.contains_itself are.reaches_cycle kind.SelfContaining id)
-      ≡ fault_about kind.SelfContaining (spot_of web.file_names o.place) name ∷ []
+      ≡ fault_about kind.SelfContaining (named_place_of web.file_names o.place) name ∷ []
   one_fault =
       ap (λ b. fault_of web (table_of web) kind.SelfContaining id (if b then of_graph.first_occurrence web (table_of web) id else None)) flagged
-      ∙ ap (λ x. map (λ p. fault_about kind.SelfContaining (spot_of web.file_names p.place) (name_text (table_of web) id)) (option_to_list x)) stands
-      ∙ ap (λ t. fault_about kind.SelfContaining (spot_of web.file_names o.place) t ∷ []) text
+      ∙ ap (λ x. map (λ p. fault_about kind.SelfContaining (named_place_of web.file_names p.place) (name_text (table_of web) id)) (option_to_list x)) reached
+      ∙ ap (λ t. fault_about kind.SelfContaining (named_place_of web.file_names o.place) t ∷ []) text
 
-  among : Contains (faults_of_names web (table_of web) out are.contains_itself are.reaches_cycle kind.SelfContaining) (fault_about kind.SelfContaining (spot_of web.file_names o.place) name)
+  among : Contains (faults_of_names web (table_of web) out are.contains_itself are.reaches_cycle kind.SelfContaining) (fault_about kind.SelfContaining (named_place_of web.file_names o.place) name)
   among =
       in_mapped (λ k. fault_of web (table_of web) kind.SelfContaining k (fault_place web (table_of web) out are.contains_itself are.reaches_cycle kind.SelfContaining k))
-      (range_with_len 0 (length (table_of web).names)) id (fault_about kind.SelfContaining (spot_of web.file_names o.place) name)
+      (range_with_len 0 (length (table_of web).names)) id (fault_about kind.SelfContaining (named_place_of web.file_names o.place) name)
       (in_range (length (table_of web).names) id low)
-      (subst (λ l. Contains l (fault_about kind.SelfContaining (spot_of web.file_names o.place) name)) (sym one_fault) (0, omega arith, refl))
+      (subst (λ l. Contains l (fault_about kind.SelfContaining (named_place_of web.file_names o.place) name)) (sym one_fault) (0, omega arith, refl))
 
-  pub told : Contains faults (fault_about kind.SelfContaining (spot_of web.file_names o.place) name)
-  told =
-      let x = fault_about kind.SelfContaining (spot_of web.file_names o.place) name in
-      subst (λ l. Contains l (fault_about kind.SelfContaining (spot_of web.file_names o.place) name)) (sym are.list)
+  pub reported : Contains faults (fault_about kind.SelfContaining (named_place_of web.file_names o.place) name)
+  reported =
+      let x = fault_about kind.SelfContaining (named_place_of web.file_names o.place) name in
+      subst (λ l. Contains l (fault_about kind.SelfContaining (named_place_of web.file_names o.place) name)) (sym are.list)
       (Contains-append_right (faults_of_names web (table_of web) out are.contains_itself are.reaches_cycle kind.Undefined) _ x
       (Contains-append_right (faults_of_names web (table_of web) out are.contains_itself are.reaches_cycle kind.Unused) _ x
       (Contains-append_left (faults_of_names web (table_of web) out are.contains_itself are.reaches_cycle kind.SelfContaining) _ x among)))
@@ -116,17 +116,17 @@ is_some_of : {X : Type 0} (x : Option X) → IsSome x → (y : X) × (x ≡ Some
 is_some_of None h = absurd (let no : false ≡ true = h in cc)
 is_some_of (Some y) h = (y, refl)
 
-pub told_in : (source : SourceRead) (web : WebRead) (out : List ℕ) (faults : List Finding) (name : List ℕ) → ResolvesInside (table_of web)
+pub reported_in : (source : SourceRead) (web : WebRead) (out : List ℕ) (faults : List FaultRead) (name : List ℕ) → ResolvesInside (table_of web)
     → ((text : List ℕ) → Contains (names_in_order web.occurrences) text → IsSome (first_occurrence web.occurrences text))
-    → AreFaults source web out faults → ContainsItself (project_of web) (Named name) → IsToldSelfContaining web name faults
-told_in source web out faults name inside occur are c =
-    let found = there (table_of web) inside name web.pieces (λ none. a_piece (project_of web) name c (ap (map (λ (p : PieceRead). map (shape_item web.texts (table_of web)) p.items)) none)) in
+    → AreFaults source web out faults → ContainsItself (shapes_of web) (Named name) → IsReportedSelfContaining web name faults
+reported_in source web out faults name inside occur are c =
+    let found = there (table_of web) inside name web.pieces (λ none. a_piece (shapes_of web) name c (ap (map (λ (p : PieceRead). map (shape_item web.texts (table_of web)) p.items)) none)) in
     let listed : Contains (names_in_order web.occurrences) name = (found.0, found.1, get_or_default (table_of web).names found.0 name [] found.1 ∙ found.2) in
     let o = is_some_of (first_occurrence web.occurrences name) (occur name listed) in
     record {
       occurrence = o.0;
       is_first = o.1;
-      told = subst (λ l. Contains l (fault_about kind.SelfContaining (spot_of web.file_names o.0.place) name)) (sym are.list)
+      reported = subst (λ l. Contains l (fault_about kind.SelfContaining (named_place_of web.file_names o.0.place) name)) (sym are.list)
           (Contains-append_right source.faults _ _ (Contains-append_right web.faults _ _ (Contains-append_right (table_of web).faults _ _
-          (told web out are.of_graph are.is_graph found.0 name o.0 found.1 found.2 c o.1))));
+          (reported web out are.of_graph are.is_graph found.0 name o.0 found.1 found.2 c o.1))));
     }

@@ -1,6 +1,6 @@
 mod OutputLemmas
 mod TangleLemmas
-mod GroundLemmas
+mod AnalysisLemmas
 mod EditLemmas
 mod LawLemmas
 mod NameLemmas

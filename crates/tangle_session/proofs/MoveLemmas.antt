@@ -9,14 +9,14 @@ use Rattle.tangle_names.specs.declared.Resolved.{Resolved}
 use Rattle.tangle_names.specs.Names.{Text, Meaning, One, full_names, meaning, only_with, prefix}
 use Rattle.tangle_names.specs.NameTable.{TableRead, table_of}
 use Rattle.tangle_names.specs.Resolving.{names_in_order, names_of, resolution, resolve}
-use Rattle.tangle_expansion.specs.Projects.{is_node, is_piece_of, node_of_name, resolved_at, shape_item, use_of}
+use Rattle.tangle_expansion.specs.WebShapes.{is_node, is_piece_of, node_of_name, resolved_at, shape_item, use_of}
 use Rattle.tangle_expansion.specs.Shapes.{Shape, ShapeItem, Title}
 use Rattle.tangle_expansion.specs.declared.nodes.Node.{Node}
-use Rattle.tangle_session.specs.Files.{project_of}
+use Rattle.tangle_session.specs.Files.{shapes_of}
 use Rattle.tangle_session.specs.Moves.{HaveSameShapes, IsMoved, said_item, said_name, said_piece}
-use Rattle.tangle_session.specs.Sessions.{ListsAffected}
+use Rattle.tangle_session.specs.Sessions.{ListsAffectedOfWebs}
 
-pub nothing_affected : (old new : WebRead) (nodes : List Node) → HaveSameShapes old new → ListsAffected old new nodes → nodes ≡ []
+pub nothing_affected : (old new : WebRead) (nodes : List Node) → HaveSameShapes old new → ListsAffectedOfWebs old new nodes → nodes ≡ []
 nothing_affected old new [] same lists = refl
 nothing_affected old new (node ∷ nodes) same lists =
     let affected = ((lists.just node).0 (0, omega arith, refl)).1 in
@@ -96,8 +96,8 @@ module _ (table : TableRead) where
   items_same texts [] = refl
   items_same texts (i ∷ items) = ap (λ x. x ∷ map (shape_item texts table) items) (item_same texts i) ∙ ap (λ l. item_said (said_item texts i) ∷ l) (items_same texts items)
 
-  abbrev project_said : List SaidPiece → Title → Shape
-  project_said pieces node = map (λ p. map item_said p.1) (filter (λ p. is_node table node (node_of_name table p.0)) pieces)
+  abbrev shapes_said : List SaidPiece → Title → Shape
+  shapes_said pieces node = map (λ p. map item_said p.1) (filter (λ p. is_node table node (node_of_name table p.0)) pieces)
 
   one_shape : (texts : List (List ℕ)) (piece : PieceRead) (rest : List PieceRead) (rest_said : List SaidPiece) (b : Bool)
       → map (λ (x : PieceRead). map (shape_item texts table) x.items) rest ≡ map (λ (s : SaidPiece). map item_said s.1) rest_said
@@ -108,23 +108,23 @@ module _ (table : TableRead) where
   one_shape texts piece rest rest_said false h = h
 
   shape_same : (texts : List (List ℕ)) (node : Title) (pieces : List PieceRead)
-      → map (λ (p : PieceRead). map (shape_item texts table) p.items) (filter (is_piece_of table node) pieces) ≡ project_said (map (said_piece texts) pieces) node
+      → map (λ (p : PieceRead). map (shape_item texts table) p.items) (filter (is_piece_of table node) pieces) ≡ shapes_said (map (said_piece texts) pieces) node
   shape_same texts node [] = refl
   shape_same texts node (p ∷ pieces) =
       one_shape texts p (filter (is_piece_of table node) pieces) (filter (λ s. is_node table node (node_of_name table s.0)) (map (said_piece texts) pieces))
       (is_piece_of table node p) (shape_same texts node pieces)
 
 -- the shapes of a web are a function of what it says
-project_same : (web : WebRead) (node : Title)
-    → project_of web node ≡ project_said (bare (names_said (map said_name web.occurrences)) (resolved_said (map said_name web.occurrences))) (map (said_piece web.texts) web.pieces) node
-project_same web node =
+shapes_same : (web : WebRead) (node : Title)
+    → shapes_of web node ≡ shapes_said (bare (names_said (map said_name web.occurrences)) (resolved_said (map said_name web.occurrences))) (map (said_piece web.texts) web.pieces) node
+shapes_same web node =
     shape_same (table_of web) web.texts node web.pieces
-    ∙ ap (λ names. project_said (bare names (table_of web).resolved) (map (said_piece web.texts) web.pieces) node) (names_same web.occurrences)
-    ∙ ap (λ resolved. project_said (bare (names_said (map said_name web.occurrences)) resolved) (map (said_piece web.texts) web.pieces) node) (resolved_same web.occurrences)
+    ∙ ap (λ names. shapes_said (bare names (table_of web).resolved) (map (said_piece web.texts) web.pieces) node) (names_same web.occurrences)
+    ∙ ap (λ resolved. shapes_said (bare (names_said (map said_name web.occurrences)) resolved) (map (said_piece web.texts) web.pieces) node) (resolved_same web.occurrences)
 
 pub moved_same : (old new : WebRead) → IsMoved old new → HaveSameShapes old new
 moved_same old new moved node =
-    project_same new node
-    ∙ ap (λ ss. project_said (bare (names_said ss) (resolved_said ss)) (map (said_piece new.texts) new.pieces) node) moved.names
-    ∙ ap (λ ps. project_said (bare (names_said (map said_name old.occurrences)) (resolved_said (map said_name old.occurrences))) ps node) moved.pieces
-    ∙ sym (project_same old node)
+    shapes_same new node
+    ∙ ap (λ ss. shapes_said (bare (names_said ss) (resolved_said ss)) (map (said_piece new.texts) new.pieces) node) moved.names
+    ∙ ap (λ ps. shapes_said (bare (names_said (map said_name old.occurrences)) (resolved_said (map said_name old.occurrences))) ps node) moved.pieces
+    ∙ sym (shapes_same old node)

@@ -17,7 +17,7 @@ use Rattle.tangle_files.specs.declared.marks.MarkMode.{MarkMode}
 use Rattle.tangle_scan.specs.Web.{WebRead}
 use Rattle.tangle_names.specs.NameTable.{TableRead, table_of}
 use Rattle.tangle_expansion.specs.Outputs.{OutputRead}
-use Rattle.tangle_expansion.specs.Projects.{project, ResolvesInside}
+use Rattle.tangle_expansion.specs.WebShapes.{shapes, ResolvesInside}
 use Rattle.tangle_expansion.specs.Shapes.{Named, Program}
 use Rattle.tangle_expansion.specs.declared.nodes.Node.TheVariants as node
 use Rattle.tangle_graph.specs.Outputs.{firsts, file_names, has_pieces, is_expandable, is_written, name_text, named_file, outputs}
@@ -59,8 +59,8 @@ module _ (web : WebRead) (table : TableRead) (resolves : ResolvesInside table) (
   unfolding ids
   ids_written = filter_passes (is_written web table out) (file_names web table)
 
-  text_at : (i : ℕ) (d : List ℕ) → i < length ids → get_or (map name_of (map (named_file table) ids)) i d ≡ name_text table (get_or ids i 0)
-  text_at i d h =
+  body_at : (i : ℕ) (d : List ℕ) → i < length ids → get_or (map name_of (map (named_file table) ids)) i d ≡ name_text table (get_or ids i 0)
+  body_at i d h =
       get_or-map name_of (map (named_file table) ids) i (named_file table 0) d (omega (arith, h, length-map ids (named_file table)))
       ∙ ap name_of (get_or-map (named_file table) ids i 0 (named_file table 0) h)
 
@@ -69,7 +69,7 @@ module _ (web : WebRead) (table : TableRead) (resolves : ResolvesInside table) (
       let high : j < length ids = omega (arith, h, length-map (map (named_file table) ids) name_of, length-map ids (named_file table)) in
       let low : i < length ids = omega (arith, high, less) in
       ids_once i j 0 less high
-      (once_named table.names (get_or ids i 0) (get_or ids j 0) distinct (ids_below i 0 low) (ids_below j 0 high) (sym (text_at i d low) ∙ same ∙ text_at j d high))
+      (once_named table.names (get_or ids i 0) (get_or ids j 0) distinct (ids_below i 0 low) (ids_below j 0 high) (sym (body_at i d low) ∙ same ∙ body_at j d high))
 
   not_main : (a : Bool) (id : ℕ) → (a && not (bytes_eq (name_text table id) out)) ≡ true → out ≢ name_text table id
   not_main a id e same = by a (bytes_eq (name_text table id) out) ((bytes_eq-Decides (name_text table id) out).1 (sym same)) e
@@ -82,14 +82,14 @@ module _ (web : WebRead) (table : TableRead) (resolves : ResolvesInside table) (
   main_apart : All (λ x. out ≢ x) (map name_of (map (named_file table) ids))
   main_apart =
       All-map (λ x. out ≢ x) name_of (map (named_file table) ids) (All-map (λ o. out ≢ name_of o) (named_file table) ids
-      (λ i d h. not_main (is_expandable (project web table) (Named (name_text table (get_or ids i d)))) (get_or ids i d) (ids_written i d h)))
+      (λ i d h. not_main (is_expandable (shapes web table) (Named (name_text table (get_or ids i d)))) (get_or ids i d) (ids_written i d h)))
 
   main : OutputRead
-  main = record { name = out; node = node.Program; has_macros = not web.has_defs_code; has_piece = has_pieces (project web table Program) }
+  main = record { name = out; node = node.Program; has_macros = not web.has_defs_code; has_piece = has_pieces (shapes web table Program) }
 
   pub names_once : AllPairs (λ a b. a ≢ b) (map (λ o. o.name) (outputs web table out))
   unfolding ids main
-  names_once = by (not (has_pieces (project web table Program)) || is_expandable (project web table) Program)
+  names_once = by (not (has_pieces (shapes web table Program)) || is_expandable (shapes web table) Program)
     where
       by : (b : Bool) → AllPairs (λ a b. a ≢ b) (map (λ o. o.name) ((if b then main ∷ [] else []) ++ map (named_file table) ids))
       by true = AllPairs-cons (λ a b. a ≢ b) out (map name_of (map (named_file table) ids)) main_apart named_once

@@ -17,9 +17,9 @@ use Rattle.tangle_names.specs.NameTable.{TableRead, table_of}
 use Rattle.tangle_expansion.specs.Kept.{kept_at}
 use Rattle.tangle_expansion.specs.Limits.{heaviest, flat_of, IsExpandableNode}
 use Rattle.tangle_expansion.specs.Numbers.{numbers_of}
-use Rattle.tangle_expansion.specs.Outputs.{OutputRead, IsReady, file_text, node_parts, output_text}
-use Rattle.tangle_expansion.specs.Projects.{project, resolved_at, IsNameBelow, ResolvesInside}
-use Rattle.tangle_expansion.specs.Shapes.{Title, Named, Shape, Project}
+use Rattle.tangle_expansion.specs.Outputs.{OutputRead, IsReady, file_text, node_symbols, output_text}
+use Rattle.tangle_expansion.specs.WebShapes.{shapes, resolved_at, IsNameBelow, ResolvesInside}
+use Rattle.tangle_expansion.specs.Shapes.{Title, Named, Shape, Shapes}
 use Rattle.tangle_expansion.specs.Shapes as title
 use Rattle.tangle_expansion.specs.declared.kept.Kept.{Kept}
 use Rattle.tangle_expansion.specs.declared.nodes.Node.TheVariants as node
@@ -30,13 +30,13 @@ use Rattle.tangle_graph.specs.Stores.{StoreRead, IsStoreOf, is_expandable_at, ti
 use Rattle.tangle_graph.proofs.NodeLemmas.{title_inside}
 use Rattle.tangle_graph.proofs.StoreLemmas.{expandable_is, mapped_contains}
 use Rattle.tangle_affected.specs.Keeping.{KeepsJust}
-use Rattle.tangle_session.specs.Files.{project_of, output_bytes, written}
+use Rattle.tangle_session.specs.Files.{shapes_of, output_bytes, written}
 
 -- what holds of each output file: its node is the program or a name, and is expandable if it has a piece
-pub record IsFit (project : Project) (names : List (List ℕ)) (output : OutputRead) : Type 0 where
+pub record IsFit (shapes : Shapes) (names : List (List ℕ)) (output : OutputRead) : Type 0 where
   pub inside : IsNodeOf names output.node
-  pub there : output.has_piece ≡ true → IsExpandableNode project (title_of_node names output.node)
-  pub none : output.has_piece ≡ false → project (title_of_node names output.node) ≡ []
+  pub there : output.has_piece ≡ true → IsExpandableNode shapes (title_of_node names output.node)
+  pub none : output.has_piece ≡ false → shapes (title_of_node names output.node) ≡ []
 
 no_pieces : (s : Shape) → has_pieces s ≡ false → s ≡ []
 no_pieces [] e = refl
@@ -70,23 +70,23 @@ module _ (web : WebRead) (table : TableRead) (resolves : ResolvesInside table) (
       (all_flat (λ id. id < length table.names) (λ occurrence. option_to_list (number_of_name (resolved_at table occurrence))) (file_occurrences web table)
       (λ occurrence. below_one (resolved_at table occurrence) (resolves occurrence)))
 
-  main_fits : (b e : Bool) → b ≡ has_pieces (project web table title.Program) → e ≡ is_expandable (project web table) title.Program → (not b || e) ≡ true
-      → IsFit (project web table) table.names (record { name = out; node = node.Program; has_macros = not web.has_defs_code; has_piece = b })
+  main_fits : (b e : Bool) → b ≡ has_pieces (shapes web table title.Program) → e ≡ is_expandable (shapes web table) title.Program → (not b || e) ≡ true
+      → IsFit (shapes web table) table.names (record { name = out; node = node.Program; has_macros = not web.has_defs_code; has_piece = b })
   main_fits b e is_b is_e h = record {
     inside = tt;
-    there = λ t. (expandable_is (project web table) title.Program).0 (sym is_e ∙ second b e t h);
-    none = λ f. no_pieces (project web table title.Program) (sym is_b ∙ f);
+    there = λ t. (expandable_is (shapes web table) title.Program).0 (sym is_e ∙ second b e t h);
+    none = λ f. no_pieces (shapes web table title.Program) (sym is_b ∙ f);
   }
     where
       second : (b e : Bool) → b ≡ true → (not b || e) ≡ true → e ≡ true
       second true e t h = h
       second false e t h = absurd (cc)
 
-  named_fits : (id : ℕ) → id < length table.names → is_written web table out id ≡ true → IsFit (project web table) table.names (named_file table id)
+  named_fits : (id : ℕ) → id < length table.names → is_written web table out id ≡ true → IsFit (shapes web table) table.names (named_file table id)
   named_fits id h is = record {
     inside = h;
-    there = λ t. subst (IsExpandableNode (project web table)) (sym (title_inside table.names id h)) ((expandable_is (project web table) (Named (name_text table id))).0
-        (first (is_expandable (project web table) (Named (name_text table id))) (not (bytes_eq (name_text table id) out)) is));
+    there = λ t. subst (IsExpandableNode (shapes web table)) (sym (title_inside table.names id h)) ((expandable_is (shapes web table) (Named (name_text table id))).0
+        (first (is_expandable (shapes web table) (Named (name_text table id))) (not (bytes_eq (name_text table id) out)) is));
     none = λ f. absurd (let no : true ≡ false = f in cc);
   }
     where
@@ -94,29 +94,29 @@ module _ (web : WebRead) (table : TableRead) (resolves : ResolvesInside table) (
       first true b e = refl
       first false b e = e
 
-  pub outputs_fit : (output : OutputRead) → Contains (outputs web table out) output → IsFit (project web table) table.names output
+  pub outputs_fit : (output : OutputRead) → Contains (outputs web table out) output → IsFit (shapes web table) table.names output
   outputs_fit output c = elim (Contains-append_cases (main_file web table out) (map (named_file table) (filter (is_written web table out) (file_names web table))) output c) [
-    | inl main ↦ (let found = one_where (not (has_pieces (project web table title.Program)) || is_expandable (project web table) title.Program)
-        (record { name = out; node = node.Program; has_macros = not web.has_defs_code; has_piece = has_pieces (project web table title.Program) }) output main in
-        subst (IsFit (project web table) table.names) found.1 (main_fits (has_pieces (project web table title.Program)) (is_expandable (project web table) title.Program) refl refl found.0))
+    | inl main ↦ (let found = one_where (not (has_pieces (shapes web table title.Program)) || is_expandable (shapes web table) title.Program)
+        (record { name = out; node = node.Program; has_macros = not web.has_defs_code; has_piece = has_pieces (shapes web table title.Program) }) output main in
+        subst (IsFit (shapes web table) table.names) found.1 (main_fits (has_pieces (shapes web table title.Program)) (is_expandable (shapes web table) title.Program) refl refl found.0))
     | inr named ↦ (let found = mapped_contains (named_file table) (filter (is_written web table out) (file_names web table)) output named in
         let low = All-contains (λ id. id < length table.names) (filter (is_written web table out) (file_names web table)) found.0
         (All-filter (is_written web table out) (λ id. id < length table.names) (file_names web table) names_below) found.1 in
         let is = All-contains (λ id. is_written web table out id ≡ true) (filter (is_written web table out) (file_names web table)) found.0 (filter_passes (is_written web table out) (file_names web table)) found.1 in
-        subst (IsFit (project web table) table.names) found.2 (named_fits found.0 low is))
+        subst (IsFit (shapes web table) table.names) found.2 (named_fits found.0 low is))
   ]
 
 -- The text of an output that fits is ready to be written, and is what its node expands to.
-module _ (web : WebRead) (store : StoreRead) (kept : Kept) (is : IsStoreOf (project_of web) store) (names_are : store.names ≡ (table_of web).names)
-    (keeps : KeepsJust (project_of web) store kept) (marks : MarkMode) (output : OutputRead) (fit : IsFit (project_of web) (table_of web).names output) where
+module _ (web : WebRead) (store : StoreRead) (kept : Kept) (is : IsStoreOf (shapes_of web) store) (names_are : store.names ≡ (table_of web).names)
+    (keeps : KeepsJust (shapes_of web) store kept) (marks : MarkMode) (output : OutputRead) (fit : IsFit (shapes_of web) (table_of web).names output) where
   titled : title_in_store store output.node ≡ title_of_node (table_of web).names output.node
   titled = ap (λ l. title_of_node l output.node) names_are
 
-  kept_there : output.has_piece ≡ true → kept_at kept output.node ≡ Some (flat_of (project_of web) (title_of_node (table_of web).names output.node))
+  kept_there : output.has_piece ≡ true → kept_at kept output.node ≡ Some (flat_of (shapes_of web) (title_of_node (table_of web).names output.node))
   kept_there t =
       let inside : IsNodeOf store.names output.node = subst (λ l. IsNodeOf l output.node) (sym names_are) fit.inside in
-      let flag = (is.expandable output.node inside).1 (subst (IsExpandableNode (project_of web)) (sym titled) (fit.there t)) in
-      keeps.expandable output.node flag ∙ ap (λ x. Some (flat_of (project_of web) x)) titled
+      let flag = (is.expandable output.node inside).1 (subst (IsExpandableNode (shapes_of web)) (sym titled) (fit.there t)) in
+      keeps.expandable output.node flag ∙ ap (λ x. Some (flat_of (shapes_of web) x)) titled
 
   kept_none : output.has_piece ≡ false → kept_at kept output.node ≡ None
   kept_none f = keeps.others output.node (by (is_expandable_at store output.node) refl)
@@ -126,26 +126,26 @@ module _ (web : WebRead) (store : StoreRead) (kept : Kept) (is : IsStoreOf (proj
       by true e =
           let inside : IsNodeOf store.names output.node = subst (λ l. IsNodeOf l output.node) (sym names_are) fit.inside in
           let x = (is.expandable output.node inside).0 e in
-          absurd (x.has_piece (ap (project_of web) titled ∙ fit.none f))
+          absurd (x.has_piece (ap (shapes_of web) titled ∙ fit.none f))
 
-  pub ready : ((p : Project) (t : Title) → IsExpandableNode p t → length (flat_of p t) ≤ heaviest) → IsReady output kept
+  pub ready : ((p : Shapes) (t : Title) → IsExpandableNode p t → length (flat_of p t) ≤ heaviest) → IsReady output kept
   ready law = record {
     there = λ t. subst IsSome (sym (kept_there t)) refl;
     light = by output.has_piece refl;
   }
     where
-      by : (b : Bool) → output.has_piece ≡ b → length (node_parts kept output.node) ≤ heaviest
-      by true e = subst (λ o. length (unwrap_or o []) ≤ heaviest) (sym (kept_there e)) (law (project_of web) (title_of_node (table_of web).names output.node) (fit.there e))
+      by : (b : Bool) → output.has_piece ≡ b → length (node_symbols kept output.node) ≤ heaviest
+      by true e = subst (λ o. length (unwrap_or o []) ≤ heaviest) (sym (kept_there e)) (law (shapes_of web) (title_of_node (table_of web).names output.node) (fit.there e))
       by false e = subst (λ o. length (unwrap_or o []) ≤ heaviest) (sym (kept_none e)) (omega arith)
 
   pub same_text : output_text (numbers_of web (table_of web) marks) kept output ≡ output_bytes web marks output
   same_text = by output.has_piece refl
     where
-      by : (b : Bool) → output.has_piece ≡ b → file_text (numbers_of web (table_of web) marks) output.has_macros output.has_piece (node_parts kept output.node) ≡ output_bytes web marks output
+      by : (b : Bool) → output.has_piece ≡ b → file_text (numbers_of web (table_of web) marks) output.has_macros output.has_piece (node_symbols kept output.node) ≡ output_bytes web marks output
       by true e = ap (λ o. file_text (numbers_of web (table_of web) marks) output.has_macros output.has_piece (unwrap_or o [])) (kept_there e)
       by false e =
-          ap (λ p. file_text (numbers_of web (table_of web) marks) output.has_macros p (node_parts kept output.node)) e
-          ∙ ap (λ p. file_text (numbers_of web (table_of web) marks) output.has_macros p (flat_of (project_of web) (title_of_node (table_of web).names output.node))) (sym e)
+          ap (λ p. file_text (numbers_of web (table_of web) marks) output.has_macros p (node_symbols kept output.node)) e
+          ∙ ap (λ p. file_text (numbers_of web (table_of web) marks) output.has_macros p (flat_of (shapes_of web) (title_of_node (table_of web).names output.node))) (sym e)
 
 -- the bytes of a name are those of the output that is found by it
 pub look_up : (web : WebRead) (marks : MarkMode) (name : List ℕ) (os : List OutputRead)

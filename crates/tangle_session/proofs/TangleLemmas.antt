@@ -5,7 +5,7 @@ use Rattle.std.specs.Option.{option_copied, option_map}
 use Rattle.std.specs.Str.{bytes_eq}
 use Rattle.std.proofs.lemmas.Bool.Decides.{nat_tests}
 use Rattle.std.specs.Prelude.{if◌then◌else◌, nat_lt, Option, Some, None, is_some, Ok, Err, find}
-use Rattle.tangle_streams.specs.Streams.{Stream, PutsOut}
+use Rattle.tangle_streams.specs.Streams.{Stream, IsWritten}
 use Rattle.tangle_files.specs.Lines.{FileTable, lines_of}
 use Rattle.tangle_lines.specs.Reading.{SourceRead}
 use Rattle.tangle_files.specs.Roles.{RolesRead, is_there, is_there_if_any, fits}
@@ -13,49 +13,49 @@ use Rattle.tangle_files.specs.declared.refusal.Refusal.TheVariants.{NoWeb, NoCha
 use Rattle.tangle_files.specs.declared.refusal.Refusal.TheVariants as refusal
 use Rattle.tangle_files.specs.declared.marks.MarkMode.{MarkMode}
 use Rattle.tangle_files.specs.declared.marks.MarkMode.TheVariants.{Full}
-use Rattle.tangle_scan.specs.LineTruth.{PiecesStandAtTheirLines}
+use Rattle.tangle_scan.specs.LineTruth.{PiecesAreAtTheirLines}
 use Rattle.tangle_scan.specs.Web.{WebRead}
 use Rattle.tangle_names.specs.NameTable.{table_of}
 use Rattle.tangle_expansion.specs.Affected.{IsAffected}
 use Rattle.tangle_expansion.specs.Limits.{levels, heaviest, flat_of, IsExpandableNode}
 use Rattle.tangle_expansion.specs.Numbers.{numbers_of, text}
 use Rattle.tangle_expansion.specs.Outputs.{OutputRead, IsReady, IsTrueToLines, output_text}
-use Rattle.tangle_expansion.specs.Projects.{ResolvesInside}
-use Rattle.tangle_expansion.specs.Shapes.{Title, Project}
+use Rattle.tangle_expansion.specs.WebShapes.{ResolvesInside}
+use Rattle.tangle_expansion.specs.Shapes.{Title, Shapes}
 use Rattle.tangle_expansion.specs.declared.nodes.Node.{Node}
 use Rattle.tangle_graph.specs.Nodes.{IsNodeOf, title_of_node}
 use Rattle.tangle_graph.specs.Outputs.{outputs}
 use Rattle.tangle_graph.specs.Stores.{StoreRead, IsStoreOf}
-use Rattle.tangle_session.specs.Files.{project_of, output_bytes, source_at, web_at}
+use Rattle.tangle_session.specs.Files.{shapes_of, output_bytes, source_at, web_at}
 use Rattle.tangle_affected.specs.Affected as affected
 use Rattle.tangle_affected.specs.Keeping as keeping
-use Rattle.tangle_session.specs.Sessions.{Holds, ListsAffected, ListsExpandable, start_refusal}
+use Rattle.tangle_session.specs.Sessions.{AgreesWithFiles, ListsAffectedOfWebs, ListsExpandable, start_refusal}
 use Rattle.tangle_session.specs.Tangle.{output_at, outputs_of}
 use Rattle.tangle_session.specs.Writes.{IsTrueFile, WritesOutput}
-use Rattle.tangle_session.specs.declared.tangling.Tangled.{Tangled}
+use Rattle.tangle_session.specs.declared.tangling.SessionState.{SessionState}
 use Rattle.tangle_session.proofs.OutputLemmas.{IsFit, found_in, look_up, names_written, outputs_fit, ready, same_text}
 
 -- the list of the store's nodes, as one of the web's
-pub lists_nodes : (web : WebRead) (store : StoreRead) (nodes : List Node) → IsStoreOf (project_of web) store → store.names ≡ (table_of web).names → keeping.ListsExpandable store nodes → ListsExpandable web nodes
+pub lists_nodes : (web : WebRead) (store : StoreRead) (nodes : List Node) → IsStoreOf (shapes_of web) store → store.names ≡ (table_of web).names → keeping.ListsExpandable store nodes → ListsExpandable web nodes
 lists_nodes web store nodes is names_are lists = record {
   once = lists.once;
   just = λ node. (
     λ c. (let both = (lists.just node).0 c in
-        (subst (λ l. IsNodeOf l node) names_are both.0, subst (λ l. IsExpandableNode (project_of web) (title_of_node l node)) names_are ((is.expandable node both.0).0 both.1))),
+        (subst (λ l. IsNodeOf l node) names_are both.0, subst (λ l. IsExpandableNode (shapes_of web) (title_of_node l node)) names_are ((is.expandable node both.0).0 both.1))),
     λ both. (let inside : IsNodeOf store.names node = subst (λ l. IsNodeOf l node) (sym names_are) both.0 in
-        (lists.just node).1 (inside, (is.expandable node inside).1 (subst (λ l. IsExpandableNode (project_of web) (title_of_node l node)) (sym names_are) both.1))),
+        (lists.just node).1 (inside, (is.expandable node inside).1 (subst (λ l. IsExpandableNode (shapes_of web) (title_of_node l node)) (sym names_are) both.1))),
   );
 }
 
 -- so it is of the affected ones, which are said of titles
-pub lists_titles : (old new : WebRead) (store : StoreRead) (nodes : List Node) → IsStoreOf (project_of new) store → store.names ≡ (table_of new).names
-    → affected.ListsAffected (project_of old) (project_of new) store nodes → ListsAffected old new nodes
+pub lists_titles : (old new : WebRead) (store : StoreRead) (nodes : List Node) → IsStoreOf (shapes_of new) store → store.names ≡ (table_of new).names
+    → affected.ListsAffected (shapes_of old) (shapes_of new) store nodes → ListsAffectedOfWebs old new nodes
 lists_titles old new store nodes is names_are lists = record {
   once = lists.once;
   just = λ node. (
     λ c. (
       subst (λ l. IsNodeOf l node) names_are (lists.only node c).0,
-      subst (λ l. IsAffected levels heaviest (project_of old) (project_of new) (title_of_node l node)) names_are (lists.only node c).1,
+      subst (λ l. IsAffected levels heaviest (shapes_of old) (shapes_of new) (title_of_node l node)) names_are (lists.only node c).1,
     ),
     λ both. (let inside : IsNodeOf store.names node = subst (λ l. IsNodeOf l node) (sym names_are) both.0 in
         let at = lists.all (title_of_node (table_of new).names node) both.1 in
@@ -71,7 +71,7 @@ unfolding web_at source_at
 same_web files roles marks = refl
 
 -- a web whose shapes are what they were affects no node
-pub expands_nothing : (web : WebRead) (nodes : List Node) → ListsAffected web web nodes → nodes ≡ []
+pub expands_nothing : (web : WebRead) (nodes : List Node) → ListsAffectedOfWebs web web nodes → nodes ≡ []
 expands_nothing web [] lists = refl
 expands_nothing web (node ∷ nodes) lists = absurd (((lists.just node).0 (0, omega arith, refl)).1.changed refl)
 
@@ -133,47 +133,47 @@ some_copied None = refl
 some_copied (Some x) = refl
 
 -- What is found by a name, where what is held is what the files make.
-module _ (files : FileTable) (roles : RolesRead) (tangled : Tangled) (hold : Holds files roles tangled) (name : List ℕ) where
+module _ (files : FileTable) (roles : RolesRead) (state : SessionState) (hold : AgreesWithFiles files roles state) (name : List ℕ) where
   abbrev named : OutputRead → Bool
   named o = bytes_eq name o.name
 
-  looked_up : output_at files roles name ≡ option_map (output_bytes (web_at files roles) roles.marks) (find named tangled.ground.store.outputs)
+  looked_up : output_at files roles name ≡ option_map (output_bytes (web_at files roles) roles.marks) (find named state.analysis.store.outputs)
   looked_up =
       look_up (web_at files roles) roles.marks name (outputs (web_at files roles) (table_of (web_at files roles)) roles.out)
-      ∙ ap (λ os. option_map (output_bytes (web_at files roles) roles.marks) (find named os)) (sym hold.ground.outputs_are)
+      ∙ ap (λ os. option_map (output_bytes (web_at files roles) roles.marks) (find named os)) (sym hold.analysis.outputs_are)
 
   -- no two outputs that are held have one name
-  pub names_apart : IsDistinct bytes_eq (map (λ o. o.0) (outputs_of files roles)) → IsDistinct bytes_eq (map (λ (o : OutputRead). o.name) tangled.ground.store.outputs)
+  pub names_apart : IsDistinct bytes_eq (map (λ o. o.0) (outputs_of files roles)) → IsDistinct bytes_eq (map (λ (o : OutputRead). o.name) state.analysis.store.outputs)
   names_apart distinct =
-      subst (λ os. IsDistinct bytes_eq (map (λ (o : OutputRead). o.name) os)) (sym hold.ground.outputs_are)
+      subst (λ os. IsDistinct bytes_eq (map (λ (o : OutputRead). o.name) os)) (sym hold.analysis.outputs_are)
       (subst (IsDistinct bytes_eq) (sym (names_written (web_at files roles) roles.marks (outputs (web_at files roles) (table_of (web_at files roles)) roles.out))) distinct)
 
-  pub none_at : find named tangled.ground.store.outputs ≡ None → output_at files roles name ≡ None
+  pub none_at : find named state.analysis.store.outputs ≡ None → output_at files roles name ≡ None
   none_at e = looked_up ∙ ap (option_map (output_bytes (web_at files roles) roles.marks)) e
 
-  module _ (output : OutputRead) (found : find named tangled.ground.store.outputs ≡ Some output) where
+  module _ (output : OutputRead) (found : find named state.analysis.store.outputs ≡ Some output) where
     pub some_at : output_at files roles name ≡ Some (output_bytes (web_at files roles) roles.marks output)
     some_at = looked_up ∙ ap (option_map (output_bytes (web_at files roles) roles.marks)) found
 
     found_there : find named (outputs (web_at files roles) (table_of (web_at files roles)) roles.out) ≡ Some output
-    found_there = ap (find named) (sym hold.ground.outputs_are) ∙ found
+    found_there = ap (find named) (sym hold.analysis.outputs_are) ∙ found
 
     module _ (resolves : (web : WebRead) → ResolvesInside (table_of web)) where
-      fit : IsFit (project_of (web_at files roles)) (table_of (web_at files roles)).names output
+      fit : IsFit (shapes_of (web_at files roles)) (table_of (web_at files roles)).names output
       fit =
           outputs_fit (web_at files roles) (table_of (web_at files roles)) (resolves (web_at files roles)) roles.out output
           (found_in named (outputs (web_at files roles) (table_of (web_at files roles)) roles.out) output found_there)
 
-      pub is_ready : ((p : Project) (t : Title) → IsExpandableNode p t → length (flat_of p t) ≤ heaviest) → IsReady output tangled.kept
-      is_ready law = ready (web_at files roles) tangled.ground.store tangled.kept hold.ground.store hold.ground.store_names hold.kept roles.marks output fit law
+      pub is_ready : ((p : Shapes) (t : Title) → IsExpandableNode p t → length (flat_of p t) ≤ heaviest) → IsReady output state.kept
+      is_ready law = ready (web_at files roles) state.analysis.store state.kept hold.analysis.store hold.analysis.store_names hold.kept roles.marks output fit law
 
-      pub text_is : output_text tangled.ground.numbers tangled.kept output ≡ output_bytes (web_at files roles) roles.marks output
+      pub text_is : output_text state.analysis.numbers state.kept output ≡ output_bytes (web_at files roles) roles.marks output
       text_is =
-          ap (λ n. output_text n tangled.kept output) hold.ground.numbers
-          ∙ same_text (web_at files roles) tangled.ground.store tangled.kept hold.ground.store hold.ground.store_names hold.kept roles.marks output fit
+          ap (λ n. output_text n state.kept output) hold.analysis.numbers
+          ∙ same_text (web_at files roles) state.analysis.store state.kept hold.analysis.store hold.analysis.store_names hold.kept roles.marks output fit
 
-    pub truth_at : ((source : SourceRead) (web : WebRead) (node : Title) → PiecesStandAtTheirLines source web
-        → IsTrueToLines source web node (text (numbers_of web (table_of web) Full) (flat_of (project_of web) node)))
+    pub truth_at : ((source : SourceRead) (web : WebRead) (node : Title) → PiecesAreAtTheirLines source web
+        → IsTrueToLines source web node (text (numbers_of web (table_of web) Full) (flat_of (shapes_of web) node)))
         → roles.marks ≡ Full → IsTrueFile files roles name
     truth_at law full = record {
       output = output;
@@ -181,19 +181,19 @@ module _ (files : FileTable) (roles : RolesRead) (tangled : Tangled) (hold : Hol
       bytes = output_bytes (web_at files roles) Full output;
       are_its = some_at ∙ ap (λ m. Some (output_bytes (web_at files roles) m output)) full;
       true_to_lines = record {
-        text = text (numbers_of (web_at files roles) (table_of (web_at files roles)) Full) (flat_of (project_of (web_at files roles)) (title_of_node (table_of (web_at files roles)).names output.node));
+        text = text (numbers_of (web_at files roles) (table_of (web_at files roles)) Full) (flat_of (shapes_of (web_at files roles)) (title_of_node (table_of (web_at files roles)).names output.node));
         made = refl;
-        true_to_lines = law (source_at files roles) (web_at files roles) (title_of_node (table_of (web_at files roles)).names output.node) hold.ground.line_truth;
+        true_to_lines = law (source_at files roles) (web_at files roles) (title_of_node (table_of (web_at files roles)).names output.node) hold.analysis.line_truth;
       };
     }
 
 -- how the writing of an output ends
 
-pub written_whole : (o : Option (List ℕ)) (old new : Stream) (text bytes : List ℕ) (n : ℕ) → o ≡ Some bytes → text ≡ bytes → PutsOut old new text (Ok n) → WritesOutput o old new (Ok n)
-written_whole o old new text bytes n at same puts = subst (λ x. WritesOutput x old new (Ok n)) (sym at) (subst (λ t. PutsOut old new t (Ok n)) same puts)
+pub written_whole : (o : Option (List ℕ)) (old new : Stream) (text bytes : List ℕ) (n : ℕ) → o ≡ Some bytes → text ≡ bytes → IsWritten old new text (Ok n) → WritesOutput o old new (Ok n)
+written_whole o old new text bytes n at same puts = subst (λ x. WritesOutput x old new (Ok n)) (sym at) (subst (λ t. IsWritten old new t (Ok n)) same puts)
 
-pub written_front : (o : Option (List ℕ)) (old new : Stream) (text bytes : List ℕ) (n : ℕ) → o ≡ Some bytes → text ≡ bytes → PutsOut old new text (Err (record { 0 = n })) → WritesOutput o old new (Err (refusal.WriteFault n))
-written_front o old new text bytes n at same puts = subst (λ x. WritesOutput x old new (Err (refusal.WriteFault n))) (sym at) (subst (λ t. PutsOut old new t (Err (record { 0 = n }))) same puts)
+pub written_front : (o : Option (List ℕ)) (old new : Stream) (text bytes : List ℕ) (n : ℕ) → o ≡ Some bytes → text ≡ bytes → IsWritten old new text (Err (record { 0 = n })) → WritesOutput o old new (Err (refusal.WriteFault n))
+written_front o old new text bytes n at same puts = subst (λ x. WritesOutput x old new (Err (refusal.WriteFault n))) (sym at) (subst (λ t. IsWritten old new t (Err (record { 0 = n }))) same puts)
 
 pub written_none : (o : Option (List ℕ)) (old new : Stream) → o ≡ None → new ≡ old → WritesOutput o old new (Err refusal.NoOutput)
 written_none o old new at same = subst (λ x. WritesOutput x old new (Err refusal.NoOutput)) (sym at) (refl, same)

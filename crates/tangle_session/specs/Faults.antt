@@ -1,6 +1,6 @@
 -- The faults of a source with its web.
 use Rattle.std.specs.Prelude.{◌≡◌, ℕ, List, ◌++◌}
-use Rattle.tangle_lines.specs.Faults.{Finding}
+use Rattle.tangle_lines.specs.Faults.{FaultRead}
 use Rattle.tangle_lines.specs.Reading.{SourceRead}
 use Rattle.tangle_scan.specs.Web.{WebRead}
 use Rattle.tangle_names.specs.NameTable.{table_of}
@@ -8,7 +8,7 @@ use Rattle.tangle_graph.specs.Faults.{AreGraphFaults}
 
 -- The faults of the change file and of reading, then those of scanning, of names and of the graph of names, for a main file of this name.
 -- Those of the graph are one list, which is a law of it.
-pub record AreFaults (source : SourceRead) (web : WebRead) (out : List ℕ) (faults : List Finding) : Type 0 where
-  pub of_graph : List Finding
+pub record AreFaults (source : SourceRead) (web : WebRead) (out : List ℕ) (faults : List FaultRead) : Type 0 where
+  pub of_graph : List FaultRead
   pub is_graph : AreGraphFaults web (table_of web) out of_graph
   pub list : faults ≡ source.faults ++ (web.faults ++ ((table_of web).faults ++ of_graph))

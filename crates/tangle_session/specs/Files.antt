@@ -9,8 +9,8 @@ use Rattle.tangle_names.specs.NameTable.{table_of}
 use Rattle.tangle_expansion.specs.Limits.{flat_of}
 use Rattle.tangle_expansion.specs.Numbers.{numbers_of}
 use Rattle.tangle_expansion.specs.Outputs.{OutputRead, file_text}
-use Rattle.tangle_expansion.specs.Projects.{project}
-use Rattle.tangle_expansion.specs.Shapes.{Project}
+use Rattle.tangle_expansion.specs.WebShapes.{shapes}
+use Rattle.tangle_expansion.specs.Shapes.{Shapes}
 use Rattle.tangle_graph.specs.Nodes.{title_of_node}
 use Rattle.tangle_graph.specs.Outputs.{outputs}
 
@@ -24,15 +24,15 @@ web_at files roles = web_of (source_at files roles)
 
 module _ (web : WebRead) where
   -- the shape of each node of a web
-  abbrev pub project_of : Project
-  project_of = project web (table_of web)
+  abbrev pub shapes_of : Shapes
+  shapes_of = shapes web (table_of web)
 
   module _ (marks : MarkMode) where
     -- the bytes of an output file of a web whose line marks are written so
     abbrev pub output_bytes : OutputRead → List ℕ
     output_bytes output =
         file_text (numbers_of web (table_of web) marks) output.has_macros output.has_piece
-        (flat_of project_of (title_of_node (table_of web).names output.node))
+        (flat_of shapes_of (title_of_node (table_of web).names output.node))
 
     abbrev pub written : OutputRead → List ℕ × List ℕ
     written output = (output.name, output_bytes output)

@@ -28,14 +28,14 @@ use Rattle.tangle_files.specs.declared.edits.Edit.{Edit}
 use Rattle.tangle_files.specs.declared.marks.MarkMode.{MarkMode}
 use Rattle.tangle_files.specs.declared.marks.MarkMode.TheVariants.{Full}
 use Rattle.tangle_files.specs.declared.refusal.Refusal.TheVariants.{NoMemory}
-use Rattle.tangle_lines.specs.Faults.{Finding}
+use Rattle.tangle_lines.specs.Faults.{FaultRead}
 use Rattle.tangle_lines.specs.Reading.{SourceRead, source_of}
 use Rattle.tangle_scan.specs.Web.{WebRead, web_of}
 use Rattle.tangle_names.specs.NameTable.{TableRead, table_of}
 use Rattle.tangle_expansion.specs.Limits.{flat_of}
 use Rattle.tangle_expansion.specs.Numbers.{numbers_of}
 use Rattle.tangle_expansion.specs.Outputs.{OutputRead, file_text}
-use Rattle.tangle_expansion.specs.Projects.{project}
+use Rattle.tangle_expansion.specs.WebShapes.{shapes}
 use Rattle.tangle_expansion.specs.Shapes.{Title, Named, Reaches, ContainsItself}
 use Rattle.tangle_expansion.specs.declared.nodes.Node.{Node}
 use Rattle.tangle_graph.specs.Faults.{AreGraphFaults}
@@ -43,8 +43,8 @@ use Rattle.tangle_graph.specs.Nodes.{title_of_node}
 use Rattle.tangle_graph.specs.Outputs.{outputs}
 use Rattle.tangle_session.specs.Edits.{list_memory, list_refusal, of_first, session_refusal}
 use Rattle.tangle_session.specs.Files.{web_at}
-use Rattle.tangle_session.specs.Laws.{IsToldSelfContaining}
-use Rattle.tangle_session.specs.Sessions.{AreMade, ListsAffected, ListsExpandable}
+use Rattle.tangle_session.specs.Laws.{IsReportedSelfContaining}
+use Rattle.tangle_session.specs.Sessions.{AreMade, ListsAffectedOfWebs, ListsExpandable}
 use Rattle.tangle_session.specs.Sessions.{SessionRead, start_refusal}
 use Rattle.tangle_session.specs.Writes.{IsTrueFile, WritesOutput}
 use Rattle.tangle_session.specs.declared.headline.Edits.{Edits}
@@ -60,11 +60,11 @@ use Rattle.tangle_session.specs.declared.refusing.ListRefusal.{ListRefusal}
 abbrev pub output_text : WebRead → TableRead → MarkMode → OutputRead → List ℕ
 output_text web names marks output =
     file_text (numbers_of web names marks) output.has_macros output.has_piece
-    (flat_of (project web names) (title_of_node names.names output.node))
+    (flat_of (shapes web names) (title_of_node names.names output.node))
 
 -- Each step is a function of what the steps before it gave, and of the roles; of nothing else.
 pub record IsPlainTangling (files : FileTable) (roles : RolesRead)
-    (output_files : List (List ℕ × List ℕ)) (faults : List Finding) : Type 0 where
+    (output_files : List (List ℕ × List ℕ)) (faults : List FaultRead) : Type 0 where
   -- files to source: the lines of the web, with files included and the change file's changes made
   pub source : SourceRead
   pub reading : source ≡ source_of files roles
@@ -80,7 +80,7 @@ pub record IsPlainTangling (files : FileTable) (roles : RolesRead)
       map (λ output. (output.name, output_text web names roles.marks output))
       (outputs web names roles.out)
   -- and to faults: those of reading, of scanning, of names, and of what uses what, in this order
-  pub of_uses : List Finding
+  pub of_uses : List FaultRead
   pub are_of_uses : AreGraphFaults web names roles.out of_uses
   pub reporting : faults ≡ source.faults ++ (web.faults ++ (names.faults ++ of_uses))
 
@@ -152,14 +152,14 @@ pub data History (files : FileTable) (roles : RolesRead) : List Call → Session
 abbrev pub NoOutputReachesACycle : WebRead → TableRead → List ℕ → Type 0
 NoOutputReachesACycle web names out =
     (output : OutputRead) (other : Title) → Contains (outputs web names out) output
-    → Reaches (project web names) (title_of_node names.names output.node) other
-    → ¬ (ContainsItself (project web names) other)
+    → Reaches (shapes web names) (title_of_node names.names output.node) other
+    → ¬ (ContainsItself (shapes web names) other)
 
 -- each name that contains itself has its fault, at its first occurrence
-abbrev pub EachCycleIsReported : WebRead → TableRead → List Finding → Type 0
+abbrev pub EachCycleIsReported : WebRead → TableRead → List FaultRead → Type 0
 EachCycleIsReported web names faults =
-    (name : List ℕ) → ContainsItself (project web names) (Named name)
-    → IsToldSelfContaining web name faults
+    (name : List ℕ) → ContainsItself (shapes web names) (Named name)
+    → IsReportedSelfContaining web name faults
 
 -- A session was asked everything, and for the output file of this name, whatever the name, with a
 -- writer that was in the state old and then in the state new.
@@ -193,7 +193,7 @@ pub data ListsLastExpanded (files : FileTable) (roles : RolesRead) (nodes : List
     List (List Edit) → Type 0 where
   ByStart : ListsExpandable (web_at files roles) nodes → ListsLastExpanded files roles nodes []
   ByLast : (earlier : List (List Edit)) (last : List Edit)
-      → ListsAffected (web_after files roles earlier)
+      → ListsAffectedOfWebs (web_after files roles earlier)
       (web_after files roles (earlier ++ last ∷ [])) nodes
       → ListsLastExpanded files roles nodes (earlier ++ last ∷ [])
 

@@ -5,13 +5,13 @@ use Rattle.tangle_scan.specs.Web.{WebRead, PieceRead}
 use Rattle.tangle_scan.specs.declared.items.Item.{Item}
 use Rattle.tangle_scan.specs.declared.items.Item.TheVariants.{UseOf}
 use Rattle.tangle_names.specs.NameTable.{TableRead}
-use Rattle.tangle_expansion.specs.Projects.{shape_item}
+use Rattle.tangle_expansion.specs.WebShapes.{shape_item}
 use Rattle.tangle_expansion.specs.Shapes.{ShapeItem, Title}
-use Rattle.tangle_session.specs.Files.{project_of}
+use Rattle.tangle_session.specs.Files.{shapes_of}
 
 -- each node has the shape that it had
 abbrev pub HaveSameShapes : WebRead → WebRead → Type 0
-HaveSameShapes old new = (node : Title) → project_of new node ≡ project_of old node
+HaveSameShapes old new = (node : Title) → shapes_of new node ≡ shapes_of old node
 
 -- a table without names
 abbrev pub no_names : TableRead
@@ -34,7 +34,7 @@ said_item texts item = (shape_item texts no_names item, used_occurrence item)
 
 -- what a piece says: the number of its name's occurrence, and its items, without its section
 abbrev pub said_piece : List (List ℕ) → PieceRead → Option ℕ × List (ShapeItem × Option ℕ)
-said_piece texts piece = (piece.name, map (said_item texts) piece.items)
+said_piece texts piece = (piece.occurrence, map (said_item texts) piece.items)
 
 -- what an occurrence of a name says
 abbrev pub said_name : OccurrenceRead → List ℕ × Bool

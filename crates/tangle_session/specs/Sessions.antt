@@ -8,7 +8,7 @@ use Rattle.tangle_files.specs.declared.marks.MarkMode.{MarkMode}
 use Rattle.tangle_lines.specs.Reading.{SourceRead}
 use Rattle.tangle_files.specs.declared.refusal.Refusal.{Refusal}
 use Rattle.tangle_files.specs.declared.refusal.Refusal.TheVariants.{NoWeb, NoChange}
-use Rattle.tangle_scan.specs.LineTruth.{PiecesStandAtTheirLines}
+use Rattle.tangle_scan.specs.LineTruth.{PiecesAreAtTheirLines}
 use Rattle.tangle_scan.specs.Web.{WebRead}
 use Rattle.tangle_names.specs.NameTable.{table_of, table_over}
 use Rattle.tangle_expansion.specs.Affected.{IsAffected}
@@ -20,9 +20,9 @@ use Rattle.tangle_graph.specs.Outputs.{outputs}
 use Rattle.tangle_graph.specs.Stores.{IsStoreOf}
 use Rattle.tangle_affected.specs.Keeping.{KeepsJust}
 use Rattle.tangle_session.specs.Faults.{AreFaults}
-use Rattle.tangle_session.specs.Files.{project_of, source_at, web_at}
-use Rattle.tangle_session.specs.declared.ground.Ground.{Ground}
-use Rattle.tangle_session.specs.declared.tangling.Tangled.{Tangled}
+use Rattle.tangle_session.specs.Files.{shapes_of, source_at, web_at}
+use Rattle.tangle_session.specs.declared.analysis.Analysis.{Analysis}
+use Rattle.tangle_session.specs.declared.tangling.SessionState.{SessionState}
 
 -- the files, the roles, and the nodes that were expanded in the start or in the last accepted edit
 pub record SessionRead : Type 0 where
@@ -30,7 +30,7 @@ pub record SessionRead : Type 0 where
   pub roles : RolesRead
   pub work : List Node
 
--- the first refusal that applies to a start, but for want of memory
+-- the first refusal that applies to a start, but for lack of memory
 abbrev pub start_refusal : FileTable → RolesRead → Option Refusal
 start_refusal files roles =
     if is_there files roles.web then (if is_there_if_any files roles.change then None else Some NoChange) else Some NoWeb
@@ -39,47 +39,47 @@ start_refusal files roles =
 pub record ListsExpandable (web : WebRead) (nodes : List Node) : Type 0 where
   pub once : AllPairs (λ a b. a ≢ b) nodes
   pub just : (node : Node) → Contains nodes node
-      ↔ (IsNodeOf (table_of web).names node × IsExpandableNode (project_of web) (title_of_node (table_of web).names node))
+      ↔ (IsNodeOf (table_of web).names node × IsExpandableNode (shapes_of web) (title_of_node (table_of web).names node))
 
 -- the list has each affected node of the new web once, and no other
-pub record ListsAffected (old new : WebRead) (nodes : List Node) : Type 0 where
+pub record ListsAffectedOfWebs (old new : WebRead) (nodes : List Node) : Type 0 where
   pub once : AllPairs (λ a b. a ≢ b) nodes
   pub just : (node : Node) → Contains nodes node
-      ↔ (IsNodeOf (table_of new).names node × IsAffected levels heaviest (project_of old) (project_of new) (title_of_node (table_of new).names node))
+      ↔ (IsNodeOf (table_of new).names node × IsAffected levels heaviest (shapes_of old) (shapes_of new) (title_of_node (table_of new).names node))
 
 -- Between these two states of a session a list of edits was made, each on what the earlier ones
 -- left. Just the nodes that the whole list affects were expanded.
 pub record AreMade (before : SessionRead) (edits : List Edit) (after : SessionRead) : Type 0 where
   pub files : after.files ≡ edited_all before.files edits
   pub roles : after.roles ≡ roles_after before.roles edits
-  pub work : ListsAffected (web_at before.files before.roles) (web_at after.files after.roles) after.work
+  pub work : ListsAffectedOfWebs (web_at before.files before.roles) (web_at after.files after.roles) after.work
 
--- The ground is what the web of a source makes, for a main file of this name and line marks that
+-- The analysis is what the web of a source makes, for a main file of this name and line marks that
 -- are written so: its occurrences, its names, its store and its numbers, and the faults.
-pub record IsGroundOf (source : SourceRead) (web : WebRead) (out : List ℕ) (marks : MarkMode)
-    (ground : Ground) : Type 0 where
-  pub occurrences : ground.occurrences.items ≡ web.occurrences
-  pub table : ground.table ≡ table_over web.occurrences []
-  pub store : IsStoreOf (project_of web) ground.store
-  pub store_names : ground.store.names ≡ (table_of web).names
-  pub outputs_are : ground.store.outputs ≡ outputs web (table_of web) out
-  pub numbers : ground.numbers ≡ numbers_of web (table_of web) marks
-  pub faults : AreFaults source web out ground.faults.items
-  pub line_truth : PiecesStandAtTheirLines source web
+pub record IsAnalysisOf (source : SourceRead) (web : WebRead) (out : List ℕ) (marks : MarkMode)
+    (analysis : Analysis) : Type 0 where
+  pub occurrences : analysis.occurrences.items ≡ web.occurrences
+  pub table : analysis.table ≡ table_over web.occurrences []
+  pub store : IsStoreOf (shapes_of web) analysis.store
+  pub store_names : analysis.store.names ≡ (table_of web).names
+  pub outputs_are : analysis.store.outputs ≡ outputs web (table_of web) out
+  pub numbers : analysis.numbers ≡ numbers_of web (table_of web) marks
+  pub faults : AreFaults source web out analysis.faults.items
+  pub line_truth : PiecesAreAtTheirLines source web
 
--- the ground is what the files make
-abbrev pub IsGroundAt : FileTable → RolesRead → Ground → Type 0
-IsGroundAt files roles ground =
-    IsGroundOf (source_at files roles) (web_at files roles) roles.out roles.marks ground
+-- the analysis is what the files make
+abbrev pub IsAnalysisAt : FileTable → RolesRead → Analysis → Type 0
+IsAnalysisAt files roles analysis =
+    IsAnalysisOf (source_at files roles) (web_at files roles) roles.out roles.marks analysis
 
--- the ground of some files and roles
-pub record IsGround (ground : Ground) : Type 0 where
+-- the analysis of some files and roles
+pub record IsGround (analysis : Analysis) : Type 0 where
   pub files : FileTable
   pub roles : RolesRead
-  pub made : IsGroundAt files roles ground
+  pub made : IsAnalysisAt files roles analysis
 
 -- What is held is what the files make, with what each expandable node expands to; and the web and the change file are there.
-pub record Holds (files : FileTable) (roles : RolesRead) (tangled : Tangled) : Type 0 where
+pub record AgreesWithFiles (files : FileTable) (roles : RolesRead) (state : SessionState) : Type 0 where
   pub are_there : fits files roles ≡ true
-  pub ground : IsGroundAt files roles tangled.ground
-  pub kept : KeepsJust (project_of (web_at files roles)) tangled.ground.store tangled.kept
+  pub analysis : IsAnalysisAt files roles state.analysis
+  pub kept : KeepsJust (shapes_of (web_at files roles)) state.analysis.store state.kept

@@ -2,7 +2,7 @@
 use Rattle.std.specs.Prelude.{◌≡◌, ℕ, List, Option}
 use Rattle.std.specs.Map.{lookup}
 use Rattle.std.specs.Str.{bytes_eq}
-use Rattle.tangle_lines.specs.Faults.{Finding}
+use Rattle.tangle_lines.specs.Faults.{FaultRead}
 use Rattle.tangle_files.specs.Lines.{FileTable}
 use Rattle.tangle_files.specs.Roles.{RolesRead}
 use Rattle.tangle_session.specs.Faults.{AreFaults}
@@ -10,7 +10,7 @@ use Rattle.tangle_session.specs.Files.{source_at, web_at, written_outputs}
 
 -- the faults in order, and the output files: each a name and its bytes
 pub record Tangling : Type 0 where
-  pub faults : List Finding
+  pub faults : List FaultRead
   pub outputs : List (List ℕ × List ℕ)
 
 module _ (files : FileTable) (roles : RolesRead) where
@@ -23,7 +23,7 @@ module _ (files : FileTable) (roles : RolesRead) where
   output_at name = lookup (bytes_eq name) outputs_of
 
   -- the faults, in order
-  abbrev pub AreFaultsOf : List Finding → Type 0
+  abbrev pub AreFaultsOf : List FaultRead → Type 0
   AreFaultsOf faults = AreFaults (source_at files roles) (web_at files roles) roles.out faults
 
 -- what tangling of the files gives

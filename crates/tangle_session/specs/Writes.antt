@@ -8,7 +8,7 @@ use Rattle.tangle_files.specs.declared.marks.MarkMode.TheVariants.{Full}
 use Rattle.tangle_lines.specs.Reading.{SourceRead}
 use Rattle.tangle_files.specs.declared.refusal.Refusal.{Refusal}
 use Rattle.tangle_files.specs.declared.refusal.Refusal.TheVariants as refusal
-use Rattle.tangle_streams.specs.Streams.{Stream, PutsOut}
+use Rattle.tangle_streams.specs.Streams.{Stream, IsWritten}
 use Rattle.tangle_scan.specs.Web.{WebRead}
 use Rattle.tangle_names.specs.NameTable.{table_of}
 use Rattle.tangle_expansion.specs.Numbers.{numbers_of}
@@ -21,8 +21,8 @@ use Rattle.tangle_session.specs.Tangle.{output_at}
 -- An output of these bytes was written. At Ok the writer has all of them; at a fault of the writer exactly the front that the number
 -- says. There is no other refusal.
 abbrev pub WritesOut : Stream → Stream → List ℕ → Result ℕ Refusal → Type 0
-WritesOut old new bytes (Ok n) = PutsOut old new bytes (Ok n)
-WritesOut old new bytes (Err (refusal.WriteFault n)) = PutsOut old new bytes (Err (record { 0 = n }))
+WritesOut old new bytes (Ok n) = IsWritten old new bytes (Ok n)
+WritesOut old new bytes (Err (refusal.WriteFault n)) = IsWritten old new bytes (Err (record { 0 = n }))
 WritesOut old new bytes (Err _) = ⊥
 
 -- The output of a name is written, where it has these bytes; where there is none, nothing is written, and it is refused.
@@ -32,7 +32,7 @@ WritesOutput (Some bytes) old new result = WritesOut old new bytes result
 
 -- Where line marks are written in full, the bytes of an output are the macros, if they begin it, and
 -- the text of its node and a line feed, if the node has a piece; and each byte of a word, sign,
--- quoted text, verbatim text or ASCII code in that text that is in no stretch is at the compiler's
+-- quoted text, verbatim text or ASCII constant in that text that is in no stretch is at the compiler's
 -- place that is its own.
 pub record IsTrueOutput (source : SourceRead) (web : WebRead) (output : OutputRead) (bytes : List ℕ) : Type 0 where
   pub text : List ℕ

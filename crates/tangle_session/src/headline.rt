@@ -11,7 +11,7 @@ ghost use Rattle.tangle_session.specs.Headline.{ShowsLastWork, ShowsPlainTanglin
 ghost use Rattle.tangle_session.specs.Headline.{accepted, edits_read, files_after, roles_with};
 ghost use Rattle.tangle_session.specs.Sessions.{start_refusal};
 
-use crate::laws::{no_output_reaches_a_cycle, self_containing_names_are_told};
+use crate::laws::{no_output_reaches_a_cycle, self_containing_names_are_reported};
 use crate::outputs::OutputNames;
 use crate::refusing::ListRefusal;
 use crate::session::{Session, refusal_to_start};
@@ -108,7 +108,7 @@ pub fn start_and_edit(
 /// tangling gives for the files and roles of the start with just the accepted edits made, whatever
 /// edits brought the session here.
 pub fn ask_all<'a, S: Sink>(session: &'a Session, name: &[u8], sink: &mut S) -> Shown<'a>
-    ensures tangled { (files : FileTable) (roles : RolesRead) (calls : List Call)
+    ensures state { (files : FileTable) (roles : RolesRead) (calls : List Call)
         → History files roles calls session.now
         → ShowsPlainTangling (files_after files (accepted calls))
         (roles_with roles (accepted calls)) name.now
@@ -118,7 +118,7 @@ pub fn ask_all<'a, S: Sink>(session: &'a Session, name: &[u8], sink: &mut S) -> 
         → ShowsLastWork files roles (accepted calls) result }
 {
     no_output_reaches_a_cycle();
-    self_containing_names_are_told();
+    self_containing_names_are_reported();
     let size = session.output_size(name);
     let written = session.write_output(name, sink);
     Shown {

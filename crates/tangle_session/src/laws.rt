@@ -3,7 +3,7 @@ ghost use Rattle.std.specs.Prelude.{◌≡◌, ℕ, List, [], ◌∷◌, Contain
 ghost use Rattle.std.specs.List.{IsDistinct};
 ghost use Rattle.std.specs.Option.{option_map};
 ghost use Rattle.std.specs.Str.{bytes_eq};
-ghost use Rattle.tangle_lines.specs.Faults.{Finding};
+ghost use Rattle.tangle_lines.specs.Faults.{FaultRead};
 ghost use Rattle.tangle_files.specs.Edited.{edited, edited_all, edited_roles, roles_after};
 ghost use Rattle.tangle_files.specs.Lines.{FileTable};
 ghost use Rattle.tangle_files.specs.Roles.{RolesRead};
@@ -16,18 +16,20 @@ ghost use Rattle.tangle_expansion.specs.Outputs.{OutputRead};
 ghost use Rattle.tangle_expansion.specs.Shapes.{Title, Named, Reaches, ContainsItself};
 ghost use Rattle.tangle_graph.specs.Nodes.{title_of_node};
 ghost use Rattle.tangle_graph.specs.Outputs.{outputs};
-ghost use Rattle.tangle_session.specs.Tangle.{Tangling, AreFaultsOf, IsTanglingOf, output_at, outputs_of};
+ghost use Rattle.tangle_session.specs.Tangle.{Tangling, AreFaultsOf, IsTanglingOf, output_at};
+ghost use Rattle.tangle_session.specs.Tangle.{outputs_of};
 ghost use Rattle.tangle_session.specs.Edits.{list_refusal, of_first, session_refusal};
-ghost use Rattle.tangle_session.specs.Files.{project_of, web_at};
-ghost use Rattle.tangle_session.specs.Laws.{IsToldSelfContaining};
+ghost use Rattle.tangle_session.specs.Files.{shapes_of, web_at};
+ghost use Rattle.tangle_session.specs.Laws.{IsReportedSelfContaining};
 ghost use Rattle.tangle_session.specs.Moves.{HaveSameShapes, IsMoved};
-ghost use Rattle.tangle_session.specs.Sessions.{ListsAffected};
+ghost use Rattle.tangle_session.specs.Sessions.{ListsAffectedOfWebs};
 
 use tangle_expansion::{expandable_nodes_reach_no_cycle, names_resolve_inside};
 use tangle_graph::graph_faults_are_one_list;
 use tangle_names::names_are_the_full_names;
 
-/// Tangling gives one thing: which faults and which outputs is determined by the files and the roles.
+/// Tangling gives one thing: which faults and which outputs is determined by the files and the
+/// roles.
 pub fn tangling_is_one()
     ensures { (files : FileTable) (roles : RolesRead) (a b : Tangling)
         → IsTanglingOf files roles a → IsTanglingOf files roles b → a ≡ b }
@@ -37,39 +39,45 @@ pub fn tangling_is_one()
 
 /// No two output files have one name: each is found by its own.
 pub fn outputs_are_found_by_their_names()
-    ensures distinct { (files : FileTable) (roles : RolesRead) → IsDistinct bytes_eq (map (λ output. output.0) (outputs_of files roles)) }
+    ensures distinct { (files : FileTable) (roles : RolesRead)
+        → IsDistinct bytes_eq (map (λ output. output.0) (outputs_of files roles)) }
     ensures found { (files : FileTable) (roles : RolesRead) (name bytes : List ℕ)
-        → Contains (outputs_of files roles) (name, bytes) → output_at files roles name ≡ Some bytes }
+        → Contains (outputs_of files roles) (name, bytes) → output_at files roles name
+        ≡ Some bytes }
 {
     names_resolve_inside();
     names_are_the_full_names();
 }
 
-/// No output file reaches a name that contains itself. The main file reaches what the program reaches.
+/// No output file reaches a name that contains itself. The main file reaches what the program
+/// reaches.
 pub fn no_output_reaches_a_cycle()
     ensures { (files : FileTable) (roles : RolesRead) (output : OutputRead) (other : Title)
         → Contains (outputs (web_at files roles) (table_of (web_at files roles)) roles.out) output
-        → Reaches (project_of (web_at files roles)) (title_of_node (table_of (web_at files roles)).names output.node) other
-        → ¬ (ContainsItself (project_of (web_at files roles)) other) }
+        → Reaches (shapes_of (web_at files roles))
+        (title_of_node (table_of (web_at files roles)).names output.node) other
+        → ¬ (ContainsItself (shapes_of (web_at files roles)) other) }
 {
     names_resolve_inside();
     expandable_nodes_reach_no_cycle();
 }
 
 /// Each name that contains itself has its fault, at its first occurrence.
-pub fn self_containing_names_are_told()
-    ensures { (files : FileTable) (roles : RolesRead) (faults : List Finding) (name : List ℕ)
-        → AreFaultsOf files roles faults → ContainsItself (project_of (web_at files roles)) (Named name)
-        → IsToldSelfContaining (web_at files roles) name faults }
+pub fn self_containing_names_are_reported()
+    ensures { (files : FileTable) (roles : RolesRead) (faults : List FaultRead) (name : List ℕ)
+        → AreFaultsOf files roles faults → ContainsItself (shapes_of (web_at files roles))
+        (Named name)
+        → IsReportedSelfContaining (web_at files roles) name faults }
 {
     names_resolve_inside();
     names_are_the_full_names();
 }
 
-/// An edit that leaves each shape as it was expands nothing. So it is where text only moves: where lines, files, section numbers and macros
-/// change, and names and pieces say what they said.
+/// An edit that leaves each shape as it was expands nothing. So it is where text only moves: where
+/// lines, files, section numbers and macros change, and names and pieces say what they said.
 pub fn moved_text_expands_nothing()
-    ensures nothing { (old new : WebRead) (nodes : List Node) → HaveSameShapes old new → ListsAffected old new nodes → nodes ≡ [] }
+    ensures nothing { (old new : WebRead) (nodes : List Node) → HaveSameShapes old new
+        → ListsAffectedOfWebs old new nodes → nodes ≡ [] }
     ensures moved { (old new : WebRead) → IsMoved old new → HaveSameShapes old new }
 {}
 
@@ -84,10 +92,10 @@ pub fn one_edit_is_a_list()
         ≡ option_map of_first (session_refusal files roles edit) }
 {}
 
-/// What leaves the web as it was expands nothing. How line marks are written changes neither the web
-/// nor why an edit is refused.
+/// What leaves the web as it was expands nothing. How line marks are written changes neither the
+/// web nor why an edit is refused.
 pub fn what_leaves_the_web_expands_nothing()
-    ensures nothing { (web : WebRead) (nodes : List Node) → ListsAffected web web nodes
+    ensures nothing { (web : WebRead) (nodes : List Node) → ListsAffectedOfWebs web web nodes
         → nodes ≡ [] }
     ensures marks { (files : FileTable) (roles : RolesRead) (marks : MarkMode)
         → web_at files (record roles { marks = marks }) ≡ web_at files roles }

@@ -1,11 +1,13 @@
-//! The project as one object: a session tangles files with roles, and answers for their outputs and faults.
+//! The project as one object: a session tangles files with roles, and answers for their outputs and
+//! faults.
 //!
 //! [`Session::start`] takes the files and the roles. What it answers is defined over these two
-//! alone: the output files and their bytes, and the list of faults. [`Session::apply`] makes an edit
-//! and [`Session::apply_all`] a list of edits, and the session then answers for what they left.
+//! alone: the output files and their bytes, and the list of faults. [`Session::apply`] makes an
+//! edit and [`Session::apply_all`] a list of edits, and the session then answers for what they
+//! left.
 #![tactic(auto)]
 
-mod ground;
+mod analysis;
 mod headline;
 mod laws;
 mod outputs;
@@ -16,7 +18,7 @@ mod tangling;
 pub use headline::{Edits, Shown, ask_all, start_and_edit};
 pub use laws::{
     moved_text_expands_nothing, no_output_reaches_a_cycle, one_edit_is_a_list,
-    outputs_are_found_by_their_names, self_containing_names_are_told, tangling_is_one,
+    outputs_are_found_by_their_names, self_containing_names_are_reported, tangling_is_one,
     what_leaves_the_web_expands_nothing,
 };
 pub use outputs::OutputNames;

@@ -1,20 +1,22 @@
 //! A started session.
-ghost use Rattle.std.specs.Prelude.{◌≡◌, ◌⊎◌, [], length, map, IfOk, OnOk, OnErr, IfSome, IfNone, IsOkUnless, Err};
+ghost use Rattle.std.specs.Prelude.{◌≡◌, ◌⊎◌, [], length, map, IfOk, OnOk, OnErr, IfSome, IfNone};
+ghost use Rattle.std.specs.Prelude.{IsOkUnless, Err};
 ghost use Rattle.std.specs.Option.{option_map};
 ghost use Rattle.tangle_files.specs.declared.refusal.Refusal.TheVariants.{NoMemory as no_memory};
 ghost use Rattle.tangle_files.specs.declared.marks.MarkMode.TheVariants.{Full};
 ghost use Rattle.tangle_session.specs.Files.{web_at};
 ghost use Rattle.tangle_files.specs.Edited.{edited, edited_all, edited_roles, roles_after};
 ghost use Rattle.tangle_session.specs.Edits.{list_memory, list_refusal, session_refusal};
-ghost use Rattle.tangle_session.specs.Sessions.{ListsAffected, ListsExpandable, start_refusal};
+ghost use Rattle.tangle_session.specs.Sessions.{ListsAffectedOfWebs, ListsExpandable};
+ghost use Rattle.tangle_session.specs.Sessions.{start_refusal};
 ghost use Rattle.tangle_session.specs.Tangle.{AreFaultsOf, output_at, outputs_of};
 ghost use Rattle.tangle_session.specs.Writes.{IsTrueFile, WritesOutput};
 
-use crate::ground::Ground;
+use crate::analysis::Analysis;
 use crate::laws::outputs_are_found_by_their_names;
 use crate::outputs::OutputNames;
 use crate::refusing::{ListRefusal, refusal_to_apply};
-use crate::tangling::{Tangled, marks_after, tangle_again};
+use crate::tangling::{SessionState, marks_after, tangle_again};
 use std::alloc::Global;
 use std::marker::Model;
 use tangle_affected::expand_all;
@@ -24,26 +26,26 @@ use tangle_expansion::{
 };
 use tangle_lines::{Edit, Fault, Files, Refusal, Roles, Sink, WriteFault};
 
-/// A project that is tangled: its files and roles, its output files and its faults. It holds no bytes of outputs; these are made as they are
-/// written.
+/// A project that is tangled: its files and roles, its output files and its faults. It holds no
+/// bytes of outputs; these are made as they are written.
 #[derive(Drop)]
 pub struct Session {
     roles: Roles,
-    tangled: Tangled,
+    state: SessionState,
     alloc: Global,
 }
 
 impl Model for Session {
-    ghost use Rattle.tangle_session.specs.Sessions.{SessionRead, Holds};
+    ghost use Rattle.tangle_session.specs.Sessions.{SessionRead, AgreesWithFiles};
 
     ghost Value = { SessionRead };
 
-    ghost view = { λ s. record { files = s.tangled.files; roles = s.roles; work = s.tangled.work } };
+    ghost view = { λ s. record { files = s.state.files; roles = s.roles; work = s.state.work } };
 
-    ghost invariant = { λ s. Holds s.tangled.files s.roles s.tangled };
+    ghost invariant = { λ s. AgreesWithFiles s.state.files s.roles s.state };
 }
 
-/// Why a session is not to be started with these files and roles, but for want of memory.
+/// Why a session is not to be started with these files and roles, but for lack of memory.
 pub(crate) fn refusal_to_start(files: &Files, roles: &Roles) -> Option<Refusal>
     ensures { result ≡ start_refusal files.now roles.now }
 {
@@ -58,13 +60,14 @@ pub(crate) fn refusal_to_start(files: &Files, roles: &Roles) -> Option<Refusal>
 }
 
 impl Session {
-    /// Starts a session: reads, scans and tangles the web of these roles, with its change file. Each node that can be expanded is expanded
-    /// once.
+    /// Starts a session: reads, scans and tangles the web of these roles, with its change file.
+    /// Each node that can be expanded is expanded once.
     ///
     /// # Errors
     ///
-    /// `NoWeb` where the web isn't among the files, else `NoChange` where the change file that is named isn't, else `NoMemory` where a growth
-    /// was refused. The files and the roles are handed back as they were.
+    /// `NoWeb` where the web isn't among the files, else `NoChange` where the change file that is
+    /// named isn't, else `NoMemory` where an allocation was refused. The files and the roles are
+    /// handed back as they were.
     pub fn start(
         alloc: Global,
         files: Files,
@@ -73,22 +76,24 @@ impl Session {
         ensures files { IfOk result (λ session. session.files ≡ files) }
         ensures roles { IfOk result (λ session. session.roles ≡ roles) }
         ensures work { IfOk result (λ session. ListsExpandable (web_at files roles) session.work) }
-        ensures refused { IfSome (start_refusal files roles) (λ refusal. result ≡ Err (files, roles, refusal)) }
-        ensures only { IfNone (start_refusal files roles) (IsOkUnless result (files, roles, no_memory)) }
+        ensures refused { IfSome (start_refusal files roles)
+            (λ refusal. result ≡ Err (files, roles, refusal)) }
+        ensures only { IfNone (start_refusal files roles)
+            (IsOkUnless result (files, roles, no_memory)) }
     {
         if let Some(refusal) = refusal_to_start(&files, &roles) {
             return Err((files, roles, refusal));
         }
-        let ground = match Ground::build(alloc, &files, &roles, roles.marks(), None) {
-            Ok(ground) => ground,
+        let analysis = match Analysis::build(alloc, &files, &roles, roles.marks(), None) {
+            Ok(analysis) => analysis,
             Err(_) => return Err((files, roles, Refusal::NoMemory)),
         };
         let mut work = Work::new(alloc);
-        match expand_all(alloc, &ground.store, &mut work) {
+        match expand_all(alloc, &analysis.store, &mut work) {
             Ok(kept) => Ok(Session {
-                tangled: Tangled {
+                state: SessionState {
                     files,
-                    ground,
+                    analysis,
                     kept,
                     work,
                 },
@@ -99,21 +104,21 @@ impl Session {
         }
     }
 
-    /// Makes an edit of the files, or sets how line marks are written, and tangles the project anew.
-    /// Just those nodes are expanded that can be expanded and reach one whose shape isn't what it
-    /// was, each once; of the others the expansions are kept. The new state is built beside the old
-    /// one and takes its place at once. What is left is what [`Session::apply_all`] leaves for a
-    /// list of this edit alone.
+    /// Makes an edit of the files, or sets how line marks are written, and tangles the project
+    /// anew. Just those nodes are expanded that can be expanded and reach one whose shape isn't
+    /// what it was, each once; of the others the expansions are kept. The new state is built beside
+    /// the old one and takes its place at once. What is left is what [`Session::apply_all`] leaves
+    /// for a list of this edit alone.
     ///
     /// # Errors
     ///
     /// That of [`Files::refusal_to_edit`] if there is one, else `RoleFile` where the web or the
-    /// change file is to be discarded, else `NoMemory` where an allocation was refused; and then
+    /// change file is to be discarded, else `NoMemory` where an allocation failed; and then
     /// nothing changes.
     pub fn apply(&mut self, edit: &Edit) -> Result<(), Refusal>
         ensures files { OnOk result (self.new.files ≡ edited self.old.files edit.now) }
         ensures roles { OnOk result (self.new.roles ≡ edited_roles self.old.roles edit.now) }
-        ensures work { OnOk result (ListsAffected (web_at self.old.files self.old.roles)
+        ensures work { OnOk result (ListsAffectedOfWebs (web_at self.old.files self.old.roles)
             (web_at self.new.files self.new.roles) self.new.work) }
         ensures refused { IfSome (session_refusal self.old.files self.old.roles edit.now)
             (λ refusal. result ≡ Err refusal) }
@@ -121,7 +126,7 @@ impl Session {
             (IsOkUnless result no_memory) }
         ensures err { OnErr result (self.new ≡ self.old) }
     {
-        if let Some(refusal) = refusal_to_apply(&self.tangled.files, &self.roles, edit) {
+        if let Some(refusal) = refusal_to_apply(&self.state.files, &self.roles, edit) {
             return Err(refusal);
         }
         let work = Work::new(self.alloc);
@@ -131,18 +136,18 @@ impl Session {
         }
     }
 
-    /// Makes a list of edits, each on what the earlier ones left, and then tangles the project once.
-    /// Just those nodes are expanded that can be expanded and reach one whose shape isn't what it
-    /// was before the list, each once: none, if the list is empty.
+    /// Makes a list of edits, each on what the earlier ones left, and then tangles the project
+    /// once. Just those nodes are expanded that can be expanded and reach one whose shape isn't
+    /// what it was before the list, each once: none, if the list is empty.
     ///
     /// # Errors
     ///
-    /// That of the first edit that is refused, with its number from 0; or `NoMemory` with the number
-    /// 0, which may come before such an edit is met; and then nothing changes.
+    /// That of the first edit that is refused, with its number from 0; or `NoMemory` with the
+    /// number 0, which may come before such an edit is met; and then nothing changes.
     pub fn apply_all(&mut self, edits: &[Edit]) -> Result<(), ListRefusal>
         ensures files { OnOk result (self.new.files ≡ edited_all self.old.files edits.now) }
         ensures roles { OnOk result (self.new.roles ≡ roles_after self.old.roles edits.now) }
-        ensures work { OnOk result (ListsAffected (web_at self.old.files self.old.roles)
+        ensures work { OnOk result (ListsAffectedOfWebs (web_at self.old.files self.old.roles)
             (web_at self.new.files self.new.roles) self.new.work) }
         ensures refused { IfSome (list_refusal self.old.files self.old.roles edits.now) (λ refused.
             (result ≡ Err refused) ⊎ (result ≡ Err list_memory)) }
@@ -154,14 +159,14 @@ impl Session {
         self.make(edits, work)
     }
 
-    /// Makes the edits, all or none: what an edit alone and a list of edits have in common. The work
-    /// has no node yet. The setting of line marks changes last, when the new state is whole, since
-    /// it cannot fail; source, web, faults and refusals do not depend on it.
+    /// Makes the edits, all or none: what an edit alone and a list of edits have in common. The
+    /// work has no node yet. The setting of line marks changes last, when the new state is whole,
+    /// since it cannot fail; source, web, faults and refusals do not depend on it.
     fn make(&mut self, edits: &[Edit], work: Work) -> Result<(), ListRefusal>
         requires { work ≡ [] }
         ensures files { OnOk result (self.new.files ≡ edited_all self.old.files edits.now) }
         ensures roles { OnOk result (self.new.roles ≡ roles_after self.old.roles edits.now) }
-        ensures work { OnOk result (ListsAffected (web_at self.old.files self.old.roles)
+        ensures work { OnOk result (ListsAffectedOfWebs (web_at self.old.files self.old.roles)
             (web_at self.new.files self.new.roles) self.new.work) }
         ensures refused { IfSome (list_refusal self.old.files self.old.roles edits.now) (λ refused.
             (result ≡ Err refused) ⊎ (result ≡ Err list_memory)) }
@@ -170,18 +175,19 @@ impl Session {
         ensures err { OnErr result (self.new ≡ self.old) }
     {
         let marks = marks_after(&self.roles, edits);
-        let next = tangle_again(self.alloc, &self.tangled, &self.roles, edits, marks, work)?;
+        let next = tangle_again(self.alloc, &self.state, &self.roles, edits, marks, work)?;
         self.roles.set_marks(marks);
-        self.tangled = next;
+        self.state = next;
         Ok(())
     }
 
-    /// The names of the output files, in the order in which they are to be written: the main file first, if the program has no piece or can
-    /// be expanded, and then the named files in the order of their first occurrences with `@(`.
+    /// The names of the output files, in the order in which they are to be written: the main file
+    /// first, if the program has no piece or can be expanded, and then the named files in the order
+    /// of their first occurrences with `@(`.
     pub fn output_names(&self) -> OutputNames<'_>
         ensures { result ≡ map (λ output. output.0) (outputs_of self.now.files self.now.roles) }
     {
-        OutputNames::new(self.tangled.ground.store.outputs())
+        OutputNames::new(self.state.analysis.store.outputs())
     }
 
     /// How many bytes the output file of this name has: `None` where no output file has the name.
@@ -190,27 +196,24 @@ impl Session {
     {
         names_resolve_inside();
         expandable_nodes_are_light();
-        match self.tangled.find_output(name) {
-            Some(output) => Some(file_size(
-                output,
-                &self.tangled.kept,
-                &self.tangled.ground.numbers,
-            )),
+        match self.state.find_output(name) {
+            Some(output) => Some(file_size(output, &self.state.kept, &self.state.analysis.numbers)),
             None => None,
         }
     }
 
     /// Writes the output file of this name: how many bytes it has. At Ok, and where line marks are
-    /// written in full, each byte of a word, a sign, a quoted or verbatim text or an ASCII code is at
-    /// the compiler's place that is its own, but for those behind a line end that a quoted text or a
-    /// join took, up to the next line end or mark.
+    /// written in full, each byte of a word, a sign, a quoted or verbatim text or an ASCII constant
+    /// is at the compiler's place that is its own, but for those behind a line end that a quoted
+    /// text or a join took, up to the next line end or mark.
     ///
     /// # Errors
     ///
-    /// `NoOutput` where no output file has the name, and then nothing is written; `WriteFault(n)` where the sink failed, or took no byte,
-    /// after the first `n` bytes of the file.
+    /// `NoOutput` where no output file has the name, and then nothing is written; `WriteFault(n)`
+    /// where the sink failed, or took no byte, after the first `n` bytes of the file.
     pub fn write_output<S: Sink>(&self, name: &[u8], sink: &mut S) -> Result<u128, Refusal>
-        ensures written { WritesOutput (output_at self.now.files self.now.roles name.now) (S.stream sink.old) (S.stream sink.new) result }
+        ensures written { WritesOutput (output_at self.now.files self.now.roles name.now)
+            (S.stream sink.old) (S.stream sink.new) result }
         ensures line_truth { self.now.roles.marks ≡ Full
             → OnOk result (IsTrueFile self.now.files self.now.roles name.now) }
     {
@@ -239,14 +242,9 @@ impl Session {
         expandable_nodes_are_light();
         texts_are_true_to_lines();
         outputs_are_found_by_their_names();
-        match self.tangled.find_output_at(index, name) {
+        match self.state.find_output_at(index, name) {
             Some(output) => {
-                match write_file(
-                    output,
-                    &self.tangled.kept,
-                    &self.tangled.ground.numbers,
-                    sink,
-                ) {
+                match write_file(output, &self.state.kept, &self.state.analysis.numbers, sink) {
                     Ok(size) => Ok(size),
                     Err(WriteFault(size)) => Err(Refusal::WriteFault(size)),
                 }
@@ -255,18 +253,19 @@ impl Session {
         }
     }
 
-    /// The faults: those of the change file and of reading, of scanning, of names, and of the graph of names, each in its order.
+    /// The faults: those of the change file and of reading, of scanning, of names, and of the graph
+    /// of names, each in its order.
     pub fn faults(&self) -> &[Fault]
         ensures { AreFaultsOf self.now.files self.now.roles result.now }
     {
-        self.tangled.ground.faults.as_slice()
+        self.state.analysis.faults.as_slice()
     }
 
     /// The files.
     pub fn files(&self) -> &Files
         ensures { result.now ≡ self.now.files }
     {
-        &self.tangled.files
+        &self.state.files
     }
 
     /// The roles.
@@ -280,6 +279,6 @@ impl Session {
     pub fn last_work(&self) -> u64
         ensures { result ≡ length self.now.work }
     {
-        self.tangled.work.made()
+        self.state.work.made()
     }
 }

@@ -7,31 +7,31 @@ ghost use Rattle.tangle_files.specs.Edited.{edited_all, roles_after};
 ghost use Rattle.tangle_files.specs.Roles.{RolesRead, fits};
 ghost use Rattle.tangle_session.specs.Edits.{list_memory, list_refusal};
 ghost use Rattle.tangle_session.specs.Files.{web_at};
-ghost use Rattle.tangle_session.specs.Sessions.{Holds, IsGroundAt, ListsAffected};
+ghost use Rattle.tangle_session.specs.Sessions.{AgreesWithFiles, IsAnalysisAt, ListsAffectedOfWebs};
 
-use crate::ground::Ground;
+use crate::analysis::Analysis;
 use crate::refusing::{ListRefusal, refusal_to_apply};
 use std::alloc::Global;
 use tangle_affected::expand_again;
 use tangle_expansion::{Kept, Output, Work};
 use tangle_lines::{Edit, Files, MarkMode, NoMemory, Roles};
 
-/// Files that are tangled: their ground, the expansions, and which nodes were expanded for them.
+/// Files that are tangled: their analysis, the expansions, and which nodes were expanded for them.
 #[derive(Drop)]
-pub(crate) struct Tangled {
+pub(crate) struct SessionState {
     pub(crate) files: Files,
-    pub(crate) ground: Ground,
+    pub(crate) analysis: Analysis,
     pub(crate) kept: Kept,
     pub(crate) work: Work,
 }
 
-impl Tangled {
+impl SessionState {
     /// The output file of this name, if there is one.
     pub(crate) fn find_output(&self, name: &[u8]) -> Option<&Output>
         ensures { option_copied result
-            ≡ find (λ output. bytes_eq name.now output.name) self.now.ground.store.outputs }
+            ≡ find (λ output. bytes_eq name.now output.name) self.now.analysis.store.outputs }
     {
-        for output in self.ground.store.outputs() {
+        for output in self.analysis.store.outputs() {
             if name == output.name() {
                 return Some(output);
             }
@@ -41,11 +41,12 @@ impl Tangled {
 
     /// The same, where no two output files have one name: it is looked for at this index first.
     pub(crate) fn find_output_at(&self, index: usize, name: &[u8]) -> Option<&Output>
-        requires { IsDistinct bytes_eq (map (λ output. output.name) self.now.ground.store.outputs) }
+        requires { IsDistinct bytes_eq
+            (map (λ output. output.name) self.now.analysis.store.outputs) }
         ensures { option_copied result
-            ≡ find (λ output. bytes_eq name.now output.name) self.now.ground.store.outputs }
+            ≡ find (λ output. bytes_eq name.now output.name) self.now.analysis.store.outputs }
     {
-        match self.ground.store.outputs().get(index) {
+        match self.analysis.store.outputs().get(index) {
             Some(output) if name == output.name() => Some(output),
             _ => self.find_output(name),
         }
@@ -84,38 +85,38 @@ fn edited_copy(files: &Files, roles: &Roles, edits: &[Edit]) -> Result<Files, Li
     Ok(copy)
 }
 
-/// What is held with this ground of the files, over the expansions that were kept. The work has no
-/// node yet.
+/// What is held with this analysis of the files, over the expansions that were kept. The work has
+/// no node yet.
 fn expand_over(
     alloc: Global,
-    old: &Tangled,
+    old: &SessionState,
     files: Files,
-    ground: Ground,
+    analysis: Analysis,
     mut work: Work,
-) -> Result<Tangled, NoMemory>
+) -> Result<SessionState, NoMemory>
     requires held { (before after : RolesRead)
-        × Holds old.now.files before old.now × IsGroundAt files after ground }
+        × AgreesWithFiles old.now.files before old.now × IsAnalysisAt files after analysis }
     requires unbegun { work ≡ [] }
     ensures files { IfOk result (λ new. new.files ≡ files) }
-    ensures held { (before after : RolesRead) → Holds old.now.files before old.now
-        → IsGroundAt files after ground → fits files after ≡ true
-        → IfOk result (λ new. Holds new.files after new) }
-    ensures work { (before after : RolesRead) → Holds old.now.files before old.now
-        → IsGroundAt files after ground → IfOk result (λ new.
-        ListsAffected (web_at old.now.files before) (web_at new.files after) new.work) }
+    ensures held { (before after : RolesRead) → AgreesWithFiles old.now.files before old.now
+        → IsAnalysisAt files after analysis → fits files after ≡ true
+        → IfOk result (λ new. AgreesWithFiles new.files after new) }
+    ensures work { (before after : RolesRead) → AgreesWithFiles old.now.files before old.now
+        → IsAnalysisAt files after analysis → IfOk result (λ new.
+        ListsAffectedOfWebs (web_at old.now.files before) (web_at new.files after) new.work) }
 {
     let kept = expand_again(
         alloc,
-        &old.ground.store,
-        &old.ground.table,
+        &old.analysis.store,
+        &old.analysis.table,
         &old.kept,
-        &ground.store,
-        &ground.table,
+        &analysis.store,
+        &analysis.table,
         &mut work,
     )?;
-    Ok(Tangled {
+    Ok(SessionState {
         files,
-        ground,
+        analysis,
         kept,
         work,
     })
@@ -126,18 +127,18 @@ fn expand_over(
 /// there.
 pub(crate) fn tangle_again(
     alloc: Global,
-    old: &Tangled,
+    old: &SessionState,
     roles: &Roles,
     edits: &[Edit],
     marks: MarkMode,
     work: Work,
-) -> Result<Tangled, ListRefusal>
-    requires held { Holds old.now.files roles.now old.now }
+) -> Result<SessionState, ListRefusal>
+    requires held { AgreesWithFiles old.now.files roles.now old.now }
     requires unbegun { work ≡ [] }
     ensures files { IfOk result (λ new. new.files ≡ edited_all old.now.files edits.now) }
     ensures held { IfOk result (λ new.
-        Holds new.files (record roles.now { marks = marks }) new) }
-    ensures work { IfOk result (λ new. ListsAffected (web_at old.now.files roles.now)
+        AgreesWithFiles new.files (record roles.now { marks = marks }) new) }
+    ensures work { IfOk result (λ new. ListsAffectedOfWebs (web_at old.now.files roles.now)
         (web_at new.files (record roles.now { marks = marks })) new.work) }
     ensures taken { OnOk result (list_refusal old.now.files roles.now edits.now ≡ None) }
     ensures refused { IfErr result (λ refused.
@@ -145,7 +146,7 @@ pub(crate) fn tangle_again(
         ⊎ (refused ≡ list_memory)) }
 {
     let files = edited_copy(&old.files, roles, edits)?;
-    let ground = Ground::build(alloc, &files, roles, marks, Some(&old.ground))?;
-    let next = expand_over(alloc, old, files, ground, work)?;
+    let analysis = Analysis::build(alloc, &files, roles, marks, Some(&old.analysis))?;
+    let next = expand_over(alloc, old, files, analysis, work)?;
     Ok(next)
 }

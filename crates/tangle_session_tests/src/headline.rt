@@ -1,5 +1,5 @@
 //! A session that is started and edited in one call, and asked everything in another.
-use crate::support::{AMPLE, check_handed_back, start, tell_all, told_project};
+use crate::support::{AMPLE, check_handed_back, report_all, reported_project, start};
 use crate::webs::CYCLE;
 use std::alloc::{AllocError, Global};
 use std::process::Abort;
@@ -7,9 +7,9 @@ use std::test::Fail;
 use tangle_folders::MemorySink;
 use tangle_lines::{Edit, Files, Refusal, Roles};
 use tangle_session::{Edits, ListRefusal, Session, Shown, ask_all, start_and_edit};
-use tangle_test_support::{Kind, edit, end_refusals, files_with, refuse_growth};
+use tangle_test_support::{Kind, edit, end_refusals, fail_allocation, files_with};
 
-// More growths than any call makes here.
+// More allocations than any call makes here.
 const MOST: u32 = 10_000;
 
 // The main file where the cycle is broken.
@@ -62,7 +62,7 @@ fn cycle(alloc: Global) -> Result<(Files, Roles), Fail> {
     Ok((files, roles))
 }
 
-// Starts and edits with this growth refused: what comes of it, and whether none was refused.
+// Starts and edits with this allocation failing: what comes of it, and whether none was refused.
 fn edited_without(
     alloc: Global,
     files: Files,
@@ -70,13 +70,13 @@ fn edited_without(
     calls: &[Edits],
     nth: u32,
 ) -> (Edited, bool) {
-    let is_harnessed = refuse_growth(alloc, nth);
+    let is_harnessed = fail_allocation(alloc, nth);
     let edited = start_and_edit(alloc, files, roles, calls);
     (edited, end_refusals(alloc, is_harnessed))
 }
 
-// Asks for everything, and for the main file. It is a function of its own, so that its promise is looked
-// at once.
+// Asks for everything, and for the main file. It is a function of its own, so that its promise is
+// looked at once.
 fn ask<'a>(session: &'a Session, sink: &mut MemorySink) -> Shown<'a> {
     ask_all(session, b"a.c", sink)
 }
@@ -115,12 +115,12 @@ fn check_whole(rt: &impl Abort, alloc: Global, session: &Session) -> Result<(), 
 }
 
 // All that a session of the cycle answers before an edit.
-fn told_cycle(alloc: Global) -> Result<MemorySink, Fail> {
+fn reported_cycle(alloc: Global) -> Result<MemorySink, Fail> {
     let session = start(alloc, CYCLE)?;
-    tell_all(alloc, &session)
+    report_all(alloc, &session)
 }
 
-// The edit is refused; so is the list where a growth of it was, and else it is made.
+// The edit is refused; so is the list where an allocation of it failed, and else it is made.
 fn check_answers(
     rt: &impl Abort,
     alloc: Global,
@@ -135,7 +135,7 @@ fn check_answers(
         return check_whole(rt, alloc, session);
     }
     assert_eq!(rt; answers.last(), Some(&refused(Refusal::NoMemory)));
-    assert!(rt; tell_all(alloc, session)?.bytes() == told_cycle(alloc)?.bytes());
+    assert!(rt; report_all(alloc, session)?.bytes() == reported_cycle(alloc)?.bytes());
     Ok(())
 }
 
@@ -153,7 +153,7 @@ fn check_edited(
     }
 }
 
-// Starts and edits with this growth refused, and says whether none was.
+// Starts and edits with this allocation failing, and says whether none did.
 fn edits_are_spared(
     rt: &impl Abort,
     alloc: Global,
@@ -161,7 +161,7 @@ fn edits_are_spared(
     nth: u32,
 ) -> Result<bool, Fail> {
     let (files, roles) = cycle(alloc)?;
-    let before = told_project(alloc, &files, &roles)?;
+    let before = reported_project(alloc, &files, &roles)?;
     let (edited, was_spared) = edited_without(alloc, files, roles, calls, nth);
     let checked = check_edited(rt, alloc, &before, &edited, was_spared);
     // what owns a session is let go once, in front of the ways out
@@ -170,7 +170,7 @@ fn edits_are_spared(
     Ok(was_spared)
 }
 
-// Refuses the first growth, the second and so on, until none is refused.
+// Fails the first allocation, the second and so on, until none fails.
 fn refuse_each(rt: &impl Abort, alloc: Global, calls: &[Edits]) -> Result<(), Fail> {
     for nth in 1..MOST {
         if edits_are_spared(rt, alloc, calls, nth)? {
@@ -181,14 +181,14 @@ fn refuse_each(rt: &impl Abort, alloc: Global, calls: &[Edits]) -> Result<(), Fa
 }
 
 #[test]
-fn started_and_edited_with_each_growth_refused(rt: HostRuntime) -> Result<(), Fail> {
+fn started_and_edited_with_each_allocation_failing(rt: HostRuntime) -> Result<(), Fail> {
     let mut calls = Vec::new(rt.alloc());
     push_calls(rt.alloc(), &mut calls)?;
     refuse_each(&rt, rt.alloc(), &calls)
 }
 
-// Asks with this growth of the writer refused, and says whether none was; else the writer has failed,
-// and has the front of the main file that is counted.
+// Asks with this allocation of the writer failing, and says whether none did; else the writer has
+// failed, and has the front of the main file that is counted.
 fn answers_are_spared(
     rt: &impl Abort,
     alloc: Global,
@@ -196,16 +196,16 @@ fn answers_are_spared(
     nth: u32,
 ) -> Result<bool, Fail> {
     let mut sink = MemorySink::new(alloc, AMPLE);
-    let is_harnessed = refuse_growth(alloc, nth);
+    let is_harnessed = fail_allocation(alloc, nth);
     let written = ask(session, &mut sink).written;
     let was_spared = end_refusals(alloc, is_harnessed);
     let taken = sink.bytes().len();
-    let wanted = if was_spared {
+    let expected = if was_spared {
         Ok(taken as u128)
     } else {
         Err(Refusal::WriteFault(taken as u128))
     };
-    assert_eq!(rt; written, wanted);
+    assert_eq!(rt; written, expected);
     assert!(rt; Some(sink.bytes()) == ONE_PIECE.get(..taken));
     Ok(was_spared)
 }
@@ -224,7 +224,7 @@ fn refuse_each_of_the_writer(
 }
 
 #[test]
-fn asked_with_each_growth_of_the_writer_refused(rt: HostRuntime) -> Result<(), Fail> {
+fn asked_with_each_allocation_of_the_writer_failing(rt: HostRuntime) -> Result<(), Fail> {
     let session = start(rt.alloc(), b"@ A.\n@c\nint x;\n")?;
     refuse_each_of_the_writer(&rt, rt.alloc(), &session)
 }

@@ -1,16 +1,16 @@
 //! The tests of sessions, of what no clause of theirs says and no conversation shows: refused
-//! growths, a writer that fails, and starts that are refused; and lists of edits by the call that
-//! takes them, with the number of the edit that is refused.
+//! allocations, a writer that fails, and starts that are refused; and lists of edits by the call
+//! that takes them, with the number of the edit that is refused.
 //!
 //! They ask through the public calls alone, as a program does that keeps a project open.
 #![tactic(auto)]
 
 #[cfg(test)]
-mod growths;
+mod allocations;
 #[cfg(test)]
 mod headline;
 #[cfg(test)]
-mod list_growths;
+mod list_allocations;
 #[cfg(test)]
 mod lists;
 #[cfg(test)]

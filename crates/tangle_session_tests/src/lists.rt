@@ -1,6 +1,6 @@
 //! Lists of edits: made as a whole and tangled once, or refused at one edit, and then nothing
 //! changes.
-use crate::support::{start, tell_all, tell_shown};
+use crate::support::{report_all, report_shown, start};
 use crate::webs::TWO_BRANCHES;
 use std::alloc::{AllocError, Global};
 use std::process::Abort;
@@ -24,7 +24,7 @@ pub(crate) fn push_edits(
     Ok(())
 }
 
-/// How the list is refused, if it is. It stands apart, so that what the call promises is looked at
+/// How the list is refused, if it is. It is separate, so that what the call promises is looked at
 /// once.
 pub(crate) fn refusal_of(session: &mut Session, edits: &[Edit]) -> Option<ListRefusal> {
     session.apply_all(edits).err()
@@ -62,9 +62,9 @@ fn check_made_in_vain(
     session: &mut Session,
     steps: &[Step],
 ) -> Result<(), Fail> {
-    let before = tell_shown(alloc, session)?;
+    let before = report_shown(alloc, session)?;
     check_made(rt, alloc, session, steps, 0)?;
-    assert!(rt; tell_shown(alloc, session)?.bytes() == before.bytes());
+    assert!(rt; report_shown(alloc, session)?.bytes() == before.bytes());
     Ok(())
 }
 
@@ -76,10 +76,10 @@ fn check_refused(
     steps: &[Step],
     refused: ListRefusal,
 ) -> Result<(), Fail> {
-    let before = tell_all(alloc, session)?;
+    let before = report_all(alloc, session)?;
     let found = make(alloc, session, steps)?;
     assert_eq!(rt; found, Some(refused));
-    assert!(rt; tell_all(alloc, session)?.bytes() == before.bytes());
+    assert!(rt; report_all(alloc, session)?.bytes() == before.bytes());
     Ok(())
 }
 

@@ -1,5 +1,5 @@
 //! Starts that are refused.
-use crate::support::{check_handed_back, handed_back, told_project};
+use crate::support::{check_handed_back, handed_back, reported_project};
 use std::alloc::Global;
 use std::process::Abort;
 use std::test::Fail;
@@ -16,7 +16,7 @@ fn check_refused(
 ) -> Result<(), Fail> {
     let files = files_with(alloc, &[(b"b.w", b"@ A.\n@c\nx\n"), (b"a.ch", b"@x\n")])?;
     let roles = Roles::new(alloc, web, change, b"b.c")?;
-    let before = told_project(alloc, &files, &roles)?;
+    let before = reported_project(alloc, &files, &roles)?;
     match handed_back(alloc, files, roles) {
         Some(handed_back) => check_handed_back(rt, alloc, &before, &handed_back, refusal),
         None => Err(Fail::from("started")),

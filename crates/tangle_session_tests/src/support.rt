@@ -11,7 +11,7 @@ use tangle_test_support::files_with;
 /// Room for all that a test writes.
 pub(crate) const AMPLE: usize = 10_000_000;
 
-// It stands apart, so that what a start promises is looked at once.
+// It is separate, so that what a start promises is looked at once.
 fn started(alloc: Global, files: Files, roles: Roles) -> Option<Session> {
     Session::start(alloc, files, roles).ok()
 }
@@ -32,14 +32,14 @@ pub(crate) fn start(alloc: Global, web: &[u8]) -> Result<Session, Fail> {
     Ok(started(alloc, files, roles).ok_or("not started")?)
 }
 
-// Tells a line.
-fn tell(sink: &mut MemorySink, line: &[u8]) -> Result<(), Fail> {
+// Reports a line.
+fn report(sink: &mut MemorySink, line: &[u8]) -> Result<(), Fail> {
     put(sink, Ok(0), line)?;
     put(sink, Ok(0), b"\n")?;
     Ok(())
 }
 
-/// Writes an output file. It stands apart, so that what a session promises of it is looked at once.
+/// Writes an output file. It is separate, so that what a session promises of it is looked at once.
 pub(crate) fn write_output(
     session: &Session,
     name: &[u8],
@@ -48,9 +48,9 @@ pub(crate) fn write_output(
     session.write_output(name, sink)
 }
 
-// Tells an output file: its name on a line, and its bytes. As many go out as the session counts.
-fn tell_output(session: &Session, name: &[u8], sink: &mut MemorySink) -> Result<(), Fail> {
-    tell(sink, name)?;
+// Reports an output file: its name on a line, and its bytes. As many go out as the session counts.
+fn report_output(session: &Session, name: &[u8], sink: &mut MemorySink) -> Result<(), Fail> {
+    report(sink, name)?;
     let before = sink.bytes().len();
     let written = write_output(session, name, sink)?;
     let after = sink.bytes().len();
@@ -63,47 +63,47 @@ fn tell_output(session: &Session, name: &[u8], sink: &mut MemorySink) -> Result<
 }
 
 // The output files, one after another: the name of each on a line, and its bytes.
-fn tell_outputs(session: &Session, sink: &mut MemorySink) -> Result<(), Fail> {
+fn report_outputs(session: &Session, sink: &mut MemorySink) -> Result<(), Fail> {
     for name in session.output_names() {
-        tell_output(session, name, sink)?;
+        report_output(session, name, sink)?;
     }
     Ok(())
 }
 
 // The lines of the faults.
-fn tell_faults(session: &Session, sink: &mut MemorySink) -> Result<(), Fail> {
+fn report_faults(session: &Session, sink: &mut MemorySink) -> Result<(), Fail> {
     for fault in session.faults() {
         write_fault(fault, sink)?;
     }
     Ok(())
 }
 
-fn tell_lines(lines: &[Line], sink: &mut MemorySink) -> Result<(), Fail> {
+fn report_lines(lines: &[Line], sink: &mut MemorySink) -> Result<(), Fail> {
     for line in lines {
-        tell(sink, b"|")?;
-        tell(sink, line.bytes())?;
+        report(sink, b"|")?;
+        report(sink, line.bytes())?;
     }
     Ok(())
 }
 
 // A file: its name and each of its lines.
-fn tell_file(files: &Files, name: &[u8], sink: &mut MemorySink) -> Result<(), Fail> {
-    tell(sink, name)?;
+fn report_file(files: &Files, name: &[u8], sink: &mut MemorySink) -> Result<(), Fail> {
+    report(sink, name)?;
     match files.lines(name) {
-        Some(lines) => tell_lines(lines, sink),
+        Some(lines) => report_lines(lines, sink),
         None => Err(Fail::from("the file")),
     }
 }
 
-fn tell_files(files: &Files, sink: &mut MemorySink) -> Result<(), Fail> {
+fn report_files(files: &Files, sink: &mut MemorySink) -> Result<(), Fail> {
     for number in 0..files.count() {
-        tell_file(files, files.name(number).unwrap_or(b""), sink)?;
+        report_file(files, files.name(number).unwrap_or(b""), sink)?;
     }
     Ok(())
 }
 
 // How line marks are written.
-fn told_marks(marks: MarkMode) -> &'static [u8] {
+fn reported_marks(marks: MarkMode) -> &'static [u8] {
     match marks {
         MarkMode::Full => b"full",
         MarkMode::Bare => b"bare",
@@ -111,52 +111,52 @@ fn told_marks(marks: MarkMode) -> &'static [u8] {
 }
 
 // The files and the roles.
-fn tell_project(files: &Files, roles: &Roles, sink: &mut MemorySink) -> Result<(), Fail> {
-    tell_files(files, sink)?;
-    tell(sink, roles.web())?;
-    tell(sink, roles.change().unwrap_or(b"|"))?;
-    tell(sink, roles.out())?;
-    tell(sink, told_marks(roles.marks()))
+fn report_project(files: &Files, roles: &Roles, sink: &mut MemorySink) -> Result<(), Fail> {
+    report_files(files, sink)?;
+    report(sink, roles.web())?;
+    report(sink, roles.change().unwrap_or(b"|"))?;
+    report(sink, roles.out())?;
+    report(sink, reported_marks(roles.marks()))
 }
 
-/// What is told of files and roles.
-pub(crate) fn told_project(
+/// What is reported of files and roles.
+pub(crate) fn reported_project(
     alloc: Global,
     files: &Files,
     roles: &Roles,
 ) -> Result<MemorySink, Fail> {
     let mut sink = MemorySink::new(alloc, AMPLE);
-    tell_project(files, roles, &mut sink)?;
+    report_project(files, roles, &mut sink)?;
     Ok(sink)
 }
 
-/// A start that was refused so handed back files and roles as they were told before.
+/// A start that was refused so handed back files and roles as they were reported before.
 pub(crate) fn check_handed_back(
     rt: &impl Abort,
     alloc: Global,
     before: &MemorySink,
     handed_back: &(Files, Roles, Refusal),
-    wanted: Refusal,
+    expected: Refusal,
 ) -> Result<(), Fail> {
     let (files, roles, refusal) = handed_back;
-    assert_eq!(rt; *refusal, wanted);
-    assert!(rt; told_project(alloc, files, roles)?.bytes() == before.bytes());
+    assert_eq!(rt; *refusal, expected);
+    assert!(rt; reported_project(alloc, files, roles)?.bytes() == before.bytes());
     Ok(())
 }
 
 /// What can be asked of a session but for the last work: outputs, faults, files and roles.
-pub(crate) fn tell_shown(alloc: Global, session: &Session) -> Result<MemorySink, Fail> {
+pub(crate) fn report_shown(alloc: Global, session: &Session) -> Result<MemorySink, Fail> {
     let mut sink = MemorySink::new(alloc, AMPLE);
-    tell_outputs(session, &mut sink)?;
-    tell_faults(session, &mut sink)?;
-    tell_project(session.files(), session.roles(), &mut sink)?;
+    report_outputs(session, &mut sink)?;
+    report_faults(session, &mut sink)?;
+    report_project(session.files(), session.roles(), &mut sink)?;
     Ok(sink)
 }
 
 /// All that can be asked of a session: the same, and the last work.
-pub(crate) fn tell_all(alloc: Global, session: &Session) -> Result<MemorySink, Fail> {
-    let mut sink = tell_shown(alloc, session)?;
+pub(crate) fn report_all(alloc: Global, session: &Session) -> Result<MemorySink, Fail> {
+    let mut sink = report_shown(alloc, session)?;
     let mut digits = Buffer::new();
-    tell(&mut sink, digits.format(session.last_work()).as_bytes())?;
+    report(&mut sink, digits.format(session.last_work()).as_bytes())?;
     Ok(sink)
 }

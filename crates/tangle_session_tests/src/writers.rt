@@ -1,4 +1,4 @@
-//! A writer that fails: what went out is the front of the output file.
+//! A writer that fails: what was written is the front of the output file.
 use crate::support::{start, write_output};
 use std::alloc::Global;
 use std::process::Abort;

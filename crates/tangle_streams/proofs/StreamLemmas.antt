@@ -1,4 +1,4 @@
--- What one write after another puts out.
+-- What one write after another writes.
 use Rattle.std.proofs.Common.{◌≡◌, ℕ, ◌+◌, ◌-◌, ◌^◌, ◌<◌, ◌≤◌, inl, inr, Bool, true, false, cond, List, [], ◌∷◌, ◌++◌, length, take, drop, refl, sym, ap, ◌∙◌, append_assoc, append-nil, Option, None, Some, Ok, Err, arith, length-append}
 use Rattle.std.proofs.lemmas.List.{take-append-drop, length-take-le}
 use Rattle.std.proofs.Math.Seq.{take-append_seam}
@@ -6,7 +6,7 @@ use Rattle.std.proofs.lemmas.Bool.{ne_eqb, lt-ltb}
 use borrow.Author.Tests.{ltb-true, ltb-false}
 use Rattle.std.specs.Prelude.{nat_lt, ◌==◌, ◌&&◌}
 use Rattle.std.specs.Io.KnownBytes.{Appends, Keeps}
-use Rattle.tangle_streams.specs.Streams.{Stream, Failed, PutsOut, one_more_failure, Takes, counted}
+use Rattle.tangle_streams.specs.Streams.{Stream, Failed, IsWritten, one_more_failure, Takes, counted}
 
 pub Appends-none : (a : Option (List ℕ)) → Appends a a []
 Appends-none None = tt
@@ -31,17 +31,17 @@ Failed-one_more n = by (nat_lt n (2 ^ 64 - 1)) refl
     by true e = let h : n < 2 ^ 64 - 1 = omega (arith, ltb-true n (2 ^ 64 - 1) e) in inl (omega arith)
     by false e = let h : 2 ^ 64 - 1 ≤ n = omega (arith, ltb-false n (2 ^ 64 - 1) e) in inr (omega arith)
 
--- the text and a front of the bytes were put out, and the rest is still to come
+-- the text and a front of the bytes were written, and the rest is still to come
 pub record IsHalfway (old new : Stream) (count : ℕ) (text bytes rest : List ℕ) : Type 0 where
   pub front : List ℕ
   pub whole : bytes ≡ front ++ rest
   pub so_far : count ≡ length text + length front
-  pub told : Appends old.taken new.taken (text ++ front)
+  pub reported : Appends old.taken new.taken (text ++ front)
   pub unfailed : new.failures ≡ old.failures
 
-pub halfway_at_first : (a b : Stream) (n : ℕ) (text bytes : List ℕ) → PutsOut a b text (Ok n) → IsHalfway a b n text bytes bytes
+pub halfway_at_first : (a b : Stream) (n : ℕ) (text bytes : List ℕ) → IsWritten a b text (Ok n) → IsHalfway a b n text bytes bytes
 halfway_at_first a b n text bytes h =
-    record { front = []; whole = refl; so_far = omega (arith, h.0); told = simp append-nil h.1; unfailed = h.2 }
+    record { front = []; whole = refl; so_far = omega (arith, h.0); reported = simp append-nil h.1; unfailed = h.2 }
 
 unfailed_at : {g g' : ℕ} (n : ℕ) (rest : List ℕ) → 0 < n → g' ≡ counted g rest (Some n) → g' ≡ g
 unfailed_at {g} n rest some e =
@@ -51,28 +51,28 @@ unfailed_at {g} n rest some e =
 pub halfway_more : (a b c : Stream) (count n : ℕ) (text bytes rest : List ℕ)
     → IsHalfway a b count text bytes rest → 0 < n → n ≤ length rest → Takes b.taken c.taken rest (Some n) → c.failures ≡ counted b.failures rest (Some n)
     → IsHalfway a c (count + n) text bytes (drop n rest)
-halfway_more a b c count n text bytes rest h some within told failed = record {
+halfway_more a b c count n text bytes rest h some within reported failed = record {
   front = h.front ++ take n rest;
   whole = h.whole ∙ ap (λ l. h.front ++ l) (sym (take-append-drop n rest)) ∙ sym (append_assoc h.front (take n rest) (drop n rest));
   so_far = omega (arith, h.so_far, length-append h.front (take n rest), length-take-le n rest within);
-  told = rw (← append_assoc) (Appends-append a.taken b.taken c.taken (text ++ h.front) (take n rest) h.told told);
+  reported = rw (← append_assoc) (Appends-append a.taken b.taken c.taken (text ++ h.front) (take n rest) h.reported reported);
   unfailed = unfailed_at n rest some failed ∙ h.unfailed;
 }
 
 pub halfway_at_end : (a b : Stream) (count : ℕ) (text bytes rest : List ℕ)
-    → IsHalfway a b count text bytes rest → rest ≡ [] → PutsOut a b (text ++ bytes) (Ok count)
+    → IsHalfway a b count text bytes rest → rest ≡ [] → IsWritten a b (text ++ bytes) (Ok count)
 halfway_at_end a b count text bytes rest h none =
     let e : bytes ≡ h.front = h.whole ∙ ap (λ l. h.front ++ l) none ∙ simp append-nil in
-    (rw e (omega (arith, h.so_far, length-append text h.front)), rw e h.told, h.unfailed)
+    (rw e (omega (arith, h.so_far, length-append text h.front)), rw e h.reported, h.unfailed)
 
 pub halfway_fault : (a b c : Stream) (count : ℕ) (text bytes rest : List ℕ)
     → IsHalfway a b count text bytes rest → 0 < length rest → Keeps b.taken c.taken → c.failures ≡ one_more_failure b.failures
-    → PutsOut a c (text ++ bytes) (Err (record { 0 = count }))
+    → IsWritten a c (text ++ bytes) (Err (record { 0 = count }))
 halfway_fault a b c count text bytes rest h some kept failed =
     let e : text ++ bytes ≡ (text ++ h.front) ++ rest = ap (λ l. text ++ l) h.whole ∙ sym (append_assoc text h.front rest) in
     let k : count ≡ length (text ++ h.front) = omega (arith, h.so_far, length-append text h.front) in (
       rw (e, k) (omega (arith, length-append (text ++ h.front) rest)),
-      rw (e, k, take-append_seam) (Appends-kept a.taken b.taken c.taken (text ++ h.front) h.told kept),
+      rw (e, k, take-append_seam) (Appends-kept a.taken b.taken c.taken (text ++ h.front) h.reported kept),
       rw (failed, h.unfailed) (Failed-one_more a.failures),
     )
 
@@ -97,6 +97,6 @@ pub empty_list : (xs : List ℕ) → length xs ≡ 0 → xs ≡ []
 empty_list [] h = refl
 empty_list (x ∷ xs) h = absurd (omega arith)
 
--- nothing is put out at first
-pub PutsOut-none : (a : Stream) → PutsOut a a [] (Ok 0)
-PutsOut-none a = (refl, Appends-none a.taken, refl)
+-- nothing is written at first
+pub IsWritten-none : (a : Stream) → IsWritten a a [] (Ok 0)
+IsWritten-none a = (refl, Appends-none a.taken, refl)

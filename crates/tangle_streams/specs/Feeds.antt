@@ -3,7 +3,7 @@ use Rattle.std.specs.Prelude.{◌≡◌, ℕ, ◌<◌, List, length, take, Optio
 use Rattle.std.specs.Io.KnownBytes.{Consumes, IsAtEnd, Keeps}
 use Rattle.tangle_streams.specs.Streams.{one_more_failure}
 
--- what the reader tells after it answered: it gave these bytes from its front, and no byte of some room at its end alone
+-- what the reader reports after it answered: it gave these bytes from its front, and no byte of some room at its end alone
 abbrev pub Gives : Option (List ℕ) → Option (List ℕ) → List ℕ → Option ℕ → Type 0
 Gives old new room None = Keeps old new
 Gives old new room (Some n) = Consumes old new (take n room) × (n ≡ 0 → 0 < length room → IsAtEnd new)

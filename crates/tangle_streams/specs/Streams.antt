@@ -3,7 +3,7 @@ use Rattle.std.specs.Prelude.{◌≡◌, ℕ, ◌+◌, ◌-◌, ◌^◌, ◌<◌
 use Rattle.std.specs.Io.KnownBytes.{Appends, Keeps}
 use Rattle.tangle_streams.specs.declared.failures.WriteFault.{WriteFault}
 
--- a writer at a moment: the bytes that it has taken, where it tells them, and how often it failed
+-- a writer at a moment: the bytes that it has taken, where it reports them, and how often it failed
 pub record Stream : Type 0 where
   pub taken : Option (List ℕ)
   pub failures : ℕ
@@ -12,7 +12,7 @@ pub record Stream : Type 0 where
 abbrev pub one_more_failure : ℕ → ℕ
 one_more_failure n = min (n + 1) (2 ^ 64 - 1)
 
--- the writer failed in a call: its count rose, or stands at its last value
+-- the writer failed in a call: its count rose, or is at its last value
 abbrev pub Failed : ℕ → ℕ → Type 0
 Failed old new = (old < new) ⊎ (new ≡ 2 ^ 64 - 1)
 
@@ -25,18 +25,18 @@ is_failure bytes (Some n) = (n == 0) && nat_lt 0 (length bytes)
 abbrev pub counted : ℕ → List ℕ → Option ℕ → ℕ
 counted failures bytes answer = if is_failure bytes answer then one_more_failure failures else failures
 
--- what the writer tells after it answered: it has the bytes from the front that it took
+-- what the writer reports after it answered: it has the bytes from the front that it took
 abbrev pub Takes : Option (List ℕ) → Option (List ℕ) → List ℕ → Option ℕ → Type 0
 Takes old new bytes None = Keeps old new
 Takes old new bytes (Some n) = Appends old new (take n bytes)
 
--- A text was put out. At Ok the writer has all of it and did not fail, and the number is its length. At a fault
+-- A text was written. At Ok the writer has all of it and did not fail, and the number is its length. At a fault
 -- the writer has exactly a front of it, which the number says, and it failed.
-abbrev pub PutsOut : Stream → Stream → List ℕ → Result ℕ WriteFault → Type 0
-PutsOut old new text (Ok n) = (n ≡ length text) × Appends old.taken new.taken text × (new.failures ≡ old.failures)
-PutsOut old new text (Err e) = (e.0 < length text) × Appends old.taken new.taken (take e.0 text) × Failed old.failures new.failures
+abbrev pub IsWritten : Stream → Stream → List ℕ → Result ℕ WriteFault → Type 0
+IsWritten old new text (Ok n) = (n ≡ length text) × Appends old.taken new.taken text × (new.failures ≡ old.failures)
+IsWritten old new text (Err e) = (e.0 < length text) × Appends old.taken new.taken (take e.0 text) × Failed old.failures new.failures
 
--- where a text was put out so far, the text and these bytes are put out now
-abbrev pub PutsOutMore : Stream → Stream → Result ℕ WriteFault → List ℕ → Result ℕ WriteFault → Type 0
-PutsOutMore now new so_far bytes result =
-    (old : Stream) (text : List ℕ) → PutsOut old now text so_far → length text + length bytes < 2 ^ 128 → PutsOut old new (text ++ bytes) result
+-- where a text was written so far, the text and these bytes are written now
+abbrev pub IsWrittenBehind : Stream → Stream → Result ℕ WriteFault → List ℕ → Result ℕ WriteFault → Type 0
+IsWrittenBehind now new so_far bytes result =
+    (old : Stream) (text : List ℕ) → IsWritten old now text so_far → length text + length bytes < 2 ^ 128 → IsWritten old new (text ++ bytes) result

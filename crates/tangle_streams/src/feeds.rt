@@ -1,4 +1,4 @@
-//! Readers that tell their bytes and count their failures.
+//! Readers that report their bytes and count their failures.
 ghost use Rattle.std.specs.Prelude.{◌≡◌, ℕ, ◌≤◌, List, length, Option, None, IfSome};
 ghost use Rattle.tangle_streams.specs.Feeds.{Gives, counted_read};
 
@@ -6,16 +6,17 @@ use std::io::Read;
 
 /// A reader of bytes.
 pub trait Feed {
-    // The bytes that it has left, where it tells them.
+    // The bytes that it has left, where it reports them.
     ghost coming: { Self → Option (List ℕ) } = { λ _. None };
 
     // How often it failed; at its last value the count stays.
     ghost failures: { Self → ℕ };
 
-    /// Gives so many bytes into the front of the room. No byte, where there is room, is the end. `None` is a failure.
+    /// Gives so many bytes into the front of the room. No byte, where there is room, is the end.
+    /// `None` is a failure.
     fn fill(&mut self, room: &mut [u8]) -> Option<usize>
         ensures within { IfSome result (λ n. n ≤ length room.old) }
-        ensures told { Gives (coming self.old) (coming self.new) room.new result }
+        ensures reported { Gives (coming self.old) (coming self.new) room.new result }
         ensures failed { failures self.new ≡ counted_read (failures self.old) result };
 
     /// How often it failed.

@@ -22,11 +22,12 @@ impl<W: Write> IoSink<W> {
         IoSink { inner, failures: 0 }
     }
 
-    /// Hands on what the writer has kept back. To fail in it is one more failure. No contract of a writer tells when that
-    /// fails, so that none here can tell it: tests do.
+    /// Hands on what the writer has kept back. To fail in it is one more failure. No contract of a
+    /// writer reports when that fails, so that none here can report it: tests do.
     pub fn flush(&mut self)
         ensures kept { Keeps (W.contents self.old.inner) (W.contents self.new.inner) }
-        ensures failed { (self.new.failures ≡ self.old.failures) ⊎ (self.new.failures ≡ one_more_failure self.old.failures) }
+        ensures failed { (self.new.failures ≡ self.old.failures)
+            ⊎ (self.new.failures ≡ one_more_failure self.old.failures) }
     {
         if self.inner.flush().is_err() {
             self.count_failure();

@@ -1,8 +1,9 @@
-//! Writers and readers that tell their bytes and count their failures.
+//! Writers and readers that report their bytes and count their failures.
 //!
 //! A [`Feed`] is such a reader, and [`IoFeed`] makes one of any reader.
 //!
-//! [`Sink`] is such a writer, [`IoSink`] makes one of any writer, and [`put`] puts bytes out after others.
+//! [`Sink`] is such a writer, [`IoSink`] makes one of any writer, and [`put`] puts bytes out after
+//! others.
 #![tactic(auto)]
 
 mod failures;

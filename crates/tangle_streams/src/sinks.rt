@@ -4,14 +4,16 @@ ghost use Rattle.tangle_streams.specs.Streams.{Stream, Takes, counted};
 
 /// A writer of bytes.
 pub trait Sink {
-    // The bytes that it has taken, where it tells them, and how often it failed; at its last value the count stays.
+    // The bytes that it has taken, where it reports them, and how often it failed; at its last
+    // value the count stays.
     ghost stream: { Self → Stream };
 
     /// Takes so many bytes from the front. `None`, or none of some bytes, is a failure.
     fn take(&mut self, bytes: &[u8]) -> Option<usize>
         ensures within { IfSome result (λ n. n ≤ length bytes.now) }
-        ensures told { Takes (stream self.old).taken (stream self.new).taken bytes.now result }
-        ensures failed { (stream self.new).failures ≡ counted (stream self.old).failures bytes.now result };
+        ensures reported { Takes (stream self.old).taken (stream self.new).taken bytes.now result }
+        ensures failed { (stream self.new).failures
+            ≡ counted (stream self.old).failures bytes.now result };
 
     /// How often it failed.
     fn failures(&self) -> u64

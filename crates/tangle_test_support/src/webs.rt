@@ -2,7 +2,7 @@
 use itoa::Buffer;
 use std::alloc::{AllocError, Global};
 
-// Adds these bytes, and the digits of the number but for its first: 1007 stands for `007`.
+// Adds these bytes, and the digits of the number but for its first: 1007 represents `007`.
 fn add_numbered(text: &mut Vec<u8>, front: &[u8], number: usize) -> Result<(), AllocError> {
     let mut digits = Buffer::new();
     text.extend_from_slice(front)?;
@@ -28,8 +28,8 @@ fn add_section(
     text.extend_from_slice(b"\n")
 }
 
-/// Adds the sections of some names, which are a letter and the digits of a number but for its first. Each name but the last uses the next
-/// one so many times.
+/// Adds the sections of some names, which are a letter and the digits of a number but for its
+/// first. Each name but the last uses the next one so many times.
 pub fn add_sections(
     text: &mut Vec<u8>,
     letter: u8,
@@ -59,7 +59,8 @@ pub fn chain(
     Ok(text)
 }
 
-/// The program and the names from `n00` to `n29`, each of which but the last uses the next one twice, and a named file.
+/// The program and the names from `n00` to `n29`, each of which but the last uses the next one
+/// twice, and a named file.
 pub fn doubling(alloc: Global) -> Result<Vec<u8>, AllocError> {
     let mut text = chain(alloc, b'n', 100, 129, 2)?;
     text.extend_from_slice(b"@ @(s.h@>=\n1\n")?;

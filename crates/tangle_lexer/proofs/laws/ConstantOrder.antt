@@ -1,13 +1,13 @@
--- An ASCII constant stands on one line.
+-- An ASCII constant is on one line.
 use Rattle.std.proofs.Common.{◌≡◌, ℕ, zero, suc, ◌+◌, Bool, true, false, List, [], ◌∷◌, drop, Option, Some, None, refl, sym, arith, subst, if◌then◌else◌, cond, ◌==◌, not, ◌*◌}
 use Rattle.std.specs.Prelude.{nat_le}
 use Rattle.tangle_lexer.specs.declared.modes.ScanState.{ScanState}
 use Rattle.tangle_lexer.specs.Bytes.{at_sign, backslash, apostrophe, holds, is_octal}
 use Rattle.tangle_lexer.specs.Text.{Cell, byte_at}
-use Rattle.tangle_lexer.specs.declared.constants.Constant.{Constant}
+use Rattle.tangle_lexer.specs.declared.constants.AsciiConstant.{AsciiConstant}
 use Rattle.tangle_lexer.specs.Constants.{escape_value, if_closed, digit_at, if_byte, octal_constant, escaped_constant, constant_by, constant_at, constant_lexeme, ascii_constant}
 use Rattle.tangle_lexer.proofs.laws.Points.{Point, IsByte, walked, HoldsBytes, IsTextAt}
-use Rattle.tangle_lexer.proofs.laws.TokenOrder.{StandInOrder}
+use Rattle.tangle_lexer.proofs.laws.TokenOrder.{AreInOrder}
 use Rattle.tangle_lexer.proofs.laws.RegionOrder.{holds-byte, two-bytes, more-bytes, bytes-precede}
 use Rattle.tangle_lexer.proofs.laws.WhiteOrder.{bad_constant-in_order}
 
@@ -21,7 +21,7 @@ front-byte [] h = absurd h
 front-byte (c ∷ cs) h = (h, tt)
 
 -- the cells of a constant and the apostrophe behind it are bytes
-abbrev HasBytes : List Cell → Option Constant → Type 0
+abbrev HasBytes : List Cell → Option AsciiConstant → Type 0
 HasBytes text None = Unit {0}
 HasBytes text (Some k) = HoldsBytes (k.count + 1) text
 
@@ -41,7 +41,7 @@ octal-byte : (b : Option ℕ) → is_octal b ≡ true → IsByte b
 octal-byte None h = cc
 octal-byte (Some b) h = tt
 
-either-bytes : (text : List Cell) (b : Bool) (x y : Option Constant) → (b ≡ true → HasBytes text x) → (b ≡ false → HasBytes text y) → HasBytes text (if b then x else y)
+either-bytes : (text : List Cell) (b : Bool) (x y : Option AsciiConstant) → (b ≡ true → HasBytes text x) → (b ≡ false → HasBytes text y) → HasBytes text (if b then x else y)
 either-bytes text true x y h k = h refl
 either-bytes text false x y h k = k refl
 
@@ -57,9 +57,9 @@ is-digit b h = by (is_octal b) (octal-byte b) h
 
 octal-bytes : (text : List Cell) → HoldsBytes 2 text → HasBytes text (octal_constant text)
 octal-bytes text h =
-    let one : Option Constant = if_byte (digit_at 1 text) 2 text in
-    let two : Option Constant = if_byte (8 * digit_at 1 text + digit_at 2 text) 3 text in
-    let three : Option Constant = if_byte (64 * digit_at 1 text + 8 * digit_at 2 text + digit_at 3 text) 4 text in
+    let one : Option AsciiConstant = if_byte (digit_at 1 text) 2 text in
+    let two : Option AsciiConstant = if_byte (8 * digit_at 1 text + digit_at 2 text) 3 text in
+    let three : Option AsciiConstant = if_byte (64 * digit_at 1 text + 8 * digit_at 2 text + digit_at 3 text) 4 text in
     either-bytes text (not (is_octal (byte_at 2 text))) one (if not (is_octal (byte_at 3 text)) then two else three)
     (λ e. value-bytes (digit_at 1 text) 2 text h)
     (λ e.
@@ -86,7 +86,7 @@ constant-bytes : (b : Option ℕ) (text : List Cell) → byte_at 0 text ≡ b �
 constant-bytes None text e = tt
 constant-bytes (Some b) text e =
     let front : IsByte (byte_at 0 text) = subst IsByte (sym e) tt in
-    let other : Option Constant = if b == apostrophe then None else if_closed (Some b) 1 text in
+    let other : Option AsciiConstant = if b == apostrophe then None else if_closed (Some b) 1 text in
     either-bytes text (b == at_sign) (if_closed (if holds at_sign (byte_at 1 text) then Some at_sign else None) 2 text) (if b == backslash then escaped_constant text else other)
     (λ i. closed-bytes (if holds at_sign (byte_at 1 text) then Some at_sign else None) 2 text (λ x k. two-bytes text front (double-byte (byte_at 1 text) x k)))
     (λ i. either-bytes text (b == backslash) (escaped_constant text) other (λ j. escaped-bytes text front)
@@ -94,11 +94,11 @@ constant-bytes (Some b) text e =
 
 module _ (width : ℕ → ℕ) (count : ℕ) where
   pub ascii_constant-in_order : (s : ScanState) (at : Point) (c : Cell) (cs : List Cell) → IsTextAt width count at (c ∷ cs) → HoldsBytes 2 (c ∷ cs)
-      → StandInOrder width count true at (ascii_constant s (c ∷ cs)).tokens true (walked at (1 + (ascii_constant s (c ∷ cs)).more) (c ∷ cs))
+      → AreInOrder width count true at (ascii_constant s (c ∷ cs)).tokens true (walked at (1 + (ascii_constant s (c ∷ cs)).more) (c ∷ cs))
   ascii_constant-in_order s at c cs is h = by (constant_at (drop 1 cs)) (constant-bytes (byte_at 0 (drop 1 cs)) (drop 1 cs) refl)
     where
-      by : (k : Option Constant) → HasBytes (drop 1 cs) k
-          → StandInOrder width count true at (constant_lexeme k s (c ∷ cs)).tokens true (walked at (1 + (constant_lexeme k s (c ∷ cs)).more) (c ∷ cs))
+      by : (k : Option AsciiConstant) → HasBytes (drop 1 cs) k
+          → AreInOrder width count true at (constant_lexeme k s (c ∷ cs)).tokens true (walked at (1 + (constant_lexeme k s (c ∷ cs)).more) (c ∷ cs))
       by None bytes = bad_constant-in_order width count s at (c ∷ cs) is h
       by (Some k) bytes =
           let sum : 2 + (k.count + 1) ≡ 1 + (2 + k.count) = omega arith in

@@ -18,7 +18,7 @@ use Rattle.tangle_lexer.specs.declared.regions.Region.{Region}
 use Rattle.tangle_lexer.specs.declared.regions.Region.TheVariants as region
 use Rattle.tangle_lexer.specs.declared.regions.Unit.{Unit as Unit-of}
 use Rattle.tangle_lexer.specs.declared.regions.Unit.TheVariants as unit
-use Rattle.tangle_lexer.specs.declared.constants.Constant.{Constant}
+use Rattle.tangle_lexer.specs.declared.constants.AsciiConstant.{AsciiConstant}
 use Rattle.tangle_lexer.specs.Bytes.{at_sign, double_quote, apostrophe, greater_sign, holds, is_line_end}
 use Rattle.tangle_lexer.specs.Text.{Cell, byte_at, column_at, line_at, span_at}
 use Rattle.tangle_lexer.specs.Regions.{count_before, from_units, unless_stop, unit_at, more_by}
@@ -29,7 +29,7 @@ use Rattle.tangle_lexer.specs.Constants.{constant_at, constant_lexeme}
 use Rattle.tangle_lexer.specs.Names.{name_end, is_ended, name_faults, behind_name, has_single_equals, head_or_mention, head_count}
 use Rattle.tangle_lexer.specs.Steps.{code_at, byte_kind, kind_by, kind_of, prose, section_start, documentation_code, c_code, c_lexeme, macro_code, macro_lexeme, lexeme_in, lexeme, lexemes}
 use Rattle.tangle_lexer.specs.Segments.{Segment, segment, span_points, byte_points, kept_points, code_segments, c_segments, segments_in, segments, text_segments, verbatim_segments}
-use Rattle.tangle_lexer.specs.Segments.Fate.{Code}
+use Rattle.tangle_lexer.specs.Segments.Fate.{ControlBytes}
 use Rattle.tangle_lexer.proofs.lemmas.QuietTokens.{AreQuiet, is_loud, seen, quiet-append, fault_if-quiet, white-quiet, line_ends-quiet, verbatim_tokens-quiet, cut_tokens-quiet, quote_end-quiet, constant-quiet}
 use Rattle.tangle_lexer.proofs.laws.Points.{Point, behind, walked, HoldsBytes, IsTextAt, text-walked}
 use Rattle.tangle_lexer.proofs.laws.RegionOrder.{more-bytes}
@@ -59,10 +59,10 @@ kind-no-sign inc (Some b) next = by (b == at_sign) refl
 -- the tokens of C parts
 
 abbrev pub in_part : Mode → Bool
-in_part mode.Code = true
+in_part mode.CPart = true
 in_part _ = false
 
--- where the bytes of the texts stand that lie in C parts; the flag says whether the first token does
+-- where the bytes of the texts are that lie in C parts; the flag says whether the first token does
 abbrev pub part_points : Bool → List Token → List (ℕ × ℕ)
 part_points within [] = []
 part_points within (token.Section ∷ es) = part_points false es
@@ -128,11 +128,11 @@ white-points r text b kind line =
     ∙ ap (λ ps. ps ++ token_points (fault_if b kind line)) (line_ends-points r 0 text)
     ∙ fault-points b kind line
 
-constant-points : (k : Option Constant) (s : ScanState) (text : List Cell) → token_points (constant_lexeme k s text).tokens ≡ []
+constant-points : (k : Option AsciiConstant) (s : ScanState) (text : List Cell) → token_points (constant_lexeme k s text).tokens ≡ []
 constant-points None s text = refl
 constant-points (Some k) s text = refl
 
-constant-mode : (k : Option Constant) (s : ScanState) (text : List Cell) → (constant_lexeme k s text).after.mode ≡ s.mode
+constant-mode : (k : Option AsciiConstant) (s : ScanState) (text : List Cell) → (constant_lexeme k s text).after.mode ≡ s.mode
 constant-mode None s text = refl
 constant-mode (Some k) s text = refl
 
@@ -149,7 +149,7 @@ code-plain code.SectionStart s text h k = absurd (h refl)
 code-plain code.Name s text h k = absurd (k refl)
 code-plain code.ControlText s text h k = plain s _ (white-quiet _ _ (line_ends-quiet region.ControlText 0 (drop 2 text)) (fault_if-quiet _ fault.ControlText _)) refl
 code-plain code.Verbatim s text h k = plain s _ (verbatim_tokens-quiet (drop 2 text)) refl
-code-plain code.Constant s text h k = plain s _ (constant-quiet (constant_at (drop 2 text)) s text) (constant-mode (constant_at (drop 2 text)) s text)
+code-plain code.AsciiConstant s text h k = plain s _ (constant-quiet (constant_at (drop 2 text)) s text) (constant-mode (constant_at (drop 2 text)) s text)
 code-plain _ s text h k = plain s _ (seen _ refl) refl
 
 abbrev IsCode : TokenKind → Type 0
@@ -176,7 +176,7 @@ module _ (width : ℕ → ℕ) (count : ℕ) where
       let e : c.column + n - c.column ≡ n = omega arith in
       rw (e, bytes-columns width count at n (c ∷ cs) is h, is.0.line, is.0.column) refl
 
-  -- The bytes that are kept of a lexeme are those of its tokens: by the code that it begins with, and by what begins there.
+  -- The bytes that are kept of a lexeme are those of its tokens: by the control code that it begins with, and by what begins there.
 
   abbrev CodeKeeps : ControlCode → ScanState → List Cell → Type 0
   CodeKeeps kind s text = token_points (c_code kind s text).tokens ≡ flat_map kept_points (code_segments kind (1 + (c_code kind s text).more) text)
@@ -185,11 +185,11 @@ module _ (width : ℕ → ℕ) (count : ℕ) where
   verbatim-kept text =
       let inside : ℕ = count_before region.Verbatim 0 (drop 2 text) in
       let behind : List Cell = drop inside (drop 2 text) in
-      flat_map-append kept_points (text_segments false (take inside (drop 2 text))) (if has_end_code behind then segment Code (take 2 behind) ∷ [] else [])
+      flat_map-append kept_points (text_segments false (take inside (drop 2 text))) (if has_end_code behind then segment ControlBytes (take 2 behind) ∷ [] else [])
       ∙ ap (λ ps. text_points false (take inside (drop 2 text)) ++ ps) (by (has_end_code behind) (take 2 behind))
       ∙ append-nil (text_points false (take inside (drop 2 text)))
     where
-      by : (b : Bool) (cells : List Cell) → flat_map kept_points (if b then segment Code cells ∷ [] else []) ≡ []
+      by : (b : Bool) (cells : List Cell) → flat_map kept_points (if b then segment ControlBytes cells ∷ [] else []) ≡ []
       by true cells = refl
       by false cells = refl
 
@@ -207,7 +207,7 @@ module _ (width : ℕ → ℕ) (count : ℕ) where
       white-points region.ControlText (drop 1 cs) (not (has_end_code behind)) fault.ControlText (line_at s.last behind)
   code-keeps code.Verbatim s at c cs is h =
       verbatim-keeps width count (walked at 2 (c ∷ cs)) (drop 1 cs) (text-walked width count at 2 (c ∷ cs) is) ∙ sym (verbatim-kept (c ∷ cs))
-  code-keeps code.Constant s at c cs is h = constant-points (constant_at (drop 1 cs)) s (c ∷ cs)
+  code-keeps code.AsciiConstant s at c cs is h = constant-points (constant_at (drop 1 cs)) s (c ∷ cs)
   code-keeps _ s at c cs is h = refl
 
   kind-keeps : (kind : TokenKind) (s : ScanState) (at : Point) (c : Cell) (cs : List Cell) → IsTextAt width count at (c ∷ cs)
@@ -234,7 +234,7 @@ module _ (width : ℕ → ℕ) (count : ℕ) where
   abbrev Keeps : Mode → Lexeme → List Segment → Type 0
   Keeps m here ss = (es : List Token) → part_points (in_part m) (here.tokens ++ es) ≡ flat_map kept_points ss ++ part_points (in_part here.after.mode) es
 
-  plain-within : (s : ScanState) (here : Lexeme) (ss : List Segment) → s.mode ≡ mode.Code → IsPlain s here → token_points here.tokens ≡ flat_map kept_points ss → Keeps mode.Code here ss
+  plain-within : (s : ScanState) (here : Lexeme) (ss : List Segment) → s.mode ≡ mode.CPart → IsPlain s here → token_points here.tokens ≡ flat_map kept_points ss → Keeps mode.CPart here ss
   plain-within s here ss m p e es =
       quiet-within here.tokens es p.quiet.none
       ∙ rw e (ap (λ x. flat_map kept_points ss ++ part_points (in_part x) es) (sym (p.mode ∙ m)))
@@ -246,17 +246,17 @@ module _ (width : ℕ → ℕ) (count : ℕ) where
   use-quiet : (s : ScanState) (text : List Cell) → AreQuiet (name_faults s.last text ++ fault_if (has_single_equals (behind_name text)) fault.NameEquals (line_at s.last text))
   use-quiet s text = quiet-append _ _ (fault_if-quiet _ fault.NameEnd _) (fault_if-quiet (has_single_equals (behind_name text)) fault.NameEquals (line_at s.last text))
 
-  code-within : (kind : ControlCode) (s : ScanState) (c : Cell) (cs : List Cell) → s.mode ≡ mode.Code → CodeKeeps kind s (c ∷ cs)
-      → Keeps mode.Code (c_code kind s (c ∷ cs)) (code_segments kind (1 + (c_code kind s (c ∷ cs)).more) (c ∷ cs))
+  code-within : (kind : ControlCode) (s : ScanState) (c : Cell) (cs : List Cell) → s.mode ≡ mode.CPart → CodeKeeps kind s (c ∷ cs)
+      → Keeps mode.CPart (c_code kind s (c ∷ cs)) (code_segments kind (1 + (c_code kind s (c ∷ cs)).more) (c ∷ cs))
   code-within code.SectionStart s c cs m e es = refl
   code-within code.Name s c cs m e es =
       quiet-within (name_faults s.last (c ∷ cs) ++ fault_if (has_single_equals (behind_name (c ∷ cs))) fault.NameEquals (line_at s.last (c ∷ cs))) es (use-quiet s (c ∷ cs)).none
       ∙ rw (e, m) refl
   code-within kind s c cs m e es = plain-within s (c_code kind s (c ∷ cs)) (code_segments kind (1 + (c_code kind s (c ∷ cs)).more) (c ∷ cs)) m (code-plain kind s (c ∷ cs) (λ k. cc) (λ k. cc)) e es
 
-  kind-within : (kind : TokenKind) (s : ScanState) (c : Cell) (cs : List Cell) → s.mode ≡ mode.Code
+  kind-within : (kind : TokenKind) (s : ScanState) (c : Cell) (cs : List Cell) → s.mode ≡ mode.CPart
       → token_points (c_lexeme kind s (c ∷ cs)).tokens ≡ flat_map kept_points (c_segments kind (1 + (c_lexeme kind s (c ∷ cs)).more) (c ∷ cs))
-      → Keeps mode.Code (c_lexeme kind s (c ∷ cs)) (c_segments kind (1 + (c_lexeme kind s (c ∷ cs)).more) (c ∷ cs))
+      → Keeps mode.CPart (c_lexeme kind s (c ∷ cs)) (c_segments kind (1 + (c_lexeme kind s (c ∷ cs)).more) (c ∷ cs))
   kind-within (token_kind.Control kind) s c cs m e = code-within kind s c cs m e
   kind-within kind s c cs m e = plain-within s (c_lexeme kind s (c ∷ cs)) (c_segments kind (1 + (c_lexeme kind s (c ∷ cs)).more) (c ∷ cs)) m (kind-plain kind s (c ∷ cs) (λ k. k)) e
 
@@ -282,7 +282,7 @@ module _ (width : ℕ → ℕ) (count : ℕ) where
   macro-code-leads code.UnnamedPart s text m es = refl
   macro-code-leads code.Name s text m es = name-leads (in_mode mode.Documentation s) text refl (head_count text) es
   macro-code-leads code.Format s text m es = refl
-  macro-code-leads code.Defs s text m es = rw m refl
+  macro-code-leads code.AllMacros s text m es = rw m refl
   macro-code-leads kind s text m es = plain-outside s (c_code kind s text) m (code-plain kind s text (λ k. cc) (λ k. cc)) es
 
   macro-leads : (kind : TokenKind) (s : ScanState) (text : List Cell) → in_part s.mode ≡ false → Leads (macro_lexeme kind s text)
@@ -307,7 +307,7 @@ module _ (width : ℕ → ℕ) (count : ℕ) where
           (if-leads (holds at_sign c.byte) (lexeme_of [] 1 s) (prose s (c ∷ cs)) (skip 1 (ap in_part e)) (skip (count_before region.Prose 0 cs) (ap in_part e)))
       by mode.Documentation e =
           if-leads (holds at_sign c.byte) _ (prose s (c ∷ cs)) (documentation-leads (code_at (byte_at 0 cs)) s (c ∷ cs) (ap in_part e)) (skip (count_before region.Prose 0 cs) (ap in_part e))
-      by mode.Code e =
+      by mode.CPart e =
           kind-within (kind_of s.include (c ∷ cs)) s c cs e
           (kind-keeps (kind_of s.include (c ∷ cs)) s at c cs is (kind-cells s.include c.byte (byte_at 0 cs)) (kind-no-sign s.include c.byte (byte_at 0 cs)))
       by mode.Macro e = macro-leads (kind_of s.include (c ∷ cs)) s (c ∷ cs) (ap in_part e)

@@ -18,12 +18,12 @@ use Rattle.tangle_lexer.specs.Lexemes.{fault_if}
 use Rattle.tangle_lexer.specs.Quoted.{cut_range, unit_tokens, next_start, cut_tokens, quote_end, one_if, quoted_text, verbatim_end, empty_end, verbatim_tokens}
 use Rattle.tangle_lexer.specs.Segments.{points_by, kept_points, byte_points, text_fate, text_segments}
 use Rattle.tangle_lexer.specs.Segments.Fate.{Kept, SecondSign, LineEnd}
-use Rattle.tangle_lexer.proofs.laws.Points.{Point, spot, IsByte, behind_by, IsCellAt, IsTextAt, behind-byte}
+use Rattle.tangle_lexer.proofs.laws.Points.{Point, point_at, IsByte, behind_by, IsCellAt, IsTextAt, behind-byte}
 use Rattle.tangle_lexer.proofs.laws.RegionOrder.{goes-byte, holds-byte}
 use Rattle.tangle_lexer.proofs.laws.QuotedOrder.{no-at_sign, quoted-takes, include-takes, verbatim-takes}
 use Rattle.tangle_lexer.proofs.laws.SegmentPoints.{columns_to, columns-next, columns-nothing, byte-point, token_points, cut-points}
 
--- where the bytes stand that are kept of such a text
+-- where the bytes are that are kept of such a text
 abbrev pub text_points : Bool → List Cell → List (ℕ × ℕ)
 text_points half cells = flat_map kept_points (text_segments half cells)
 
@@ -39,7 +39,7 @@ kept-fate half c h k = by c.byte h (half && holds at_sign c.byte) k
 kept-byte : (half : Bool) (c : Cell) → IsByte c.byte → (half && holds at_sign c.byte) ≡ false → points_by (text_fate half c) (c ∷ []) ≡ (c.line, c.column) ∷ []
 kept-byte half c h k = ap (λ f. points_by f (c ∷ [])) (kept-fate half c h k) ∙ ap (λ ps. ps ++ []) (byte-point c h)
 
--- where no @ stands, it doesn't matter what stood before
+-- where no @ is, it doesn't matter what was before
 half-off : (half : Bool) (text : List Cell) → holds at_sign (byte_at 0 text) ≡ false → text_points half text ≡ text_points false text
 half-off false text h = refl
 half-off true [] h = refl
@@ -50,7 +50,7 @@ front-take zero text h = refl
 front-take (suc n) [] h = refl
 front-take (suc n) (c ∷ cs) h = h
 
--- a text before some cells that give the same whatever stands before
+-- a text before some cells that give the same whatever is before
 points-before : (half : Bool) (xs ys : List Cell) (ps : List (ℕ × ℕ)) → ((h : Bool) → text_points h ys ≡ ps) → text_points half (xs ++ ys) ≡ text_points half xs ++ ps
 points-before half [] ys ps h = h half
 points-before half (x ∷ xs) ys ps h =
@@ -61,7 +61,7 @@ points-before half (x ∷ xs) ys ps h =
 abbrev PairsSigns : Region → Type 0
 PairsSigns r = (b n : Option ℕ) → unit_of r b n ≡ unit.Two → holds at_sign b ≡ holds at_sign n
 
--- an @ alone stands before no other
+-- an @ alone is before no other
 abbrev LeavesNoSign : Region → Type 0
 LeavesNoSign r = (b n : Option ℕ) → unit_of r b n ≡ unit.One → holds at_sign b ≡ true → holds at_sign n ≡ false
 
@@ -149,7 +149,7 @@ module _ (width : ℕ → ℕ) (count : ℕ) where
         let byte = goes-byte r stops c.byte (byte_at 0 cs) unit.One e (λ k. cc) in
         let text = subst (λ p. IsTextAt width count p cs) (behind-byte c byte) is.1 in
         let n : ℕ = count_before r 0 cs in
-        let kept = next (spot c.line (c.column + 1)) start (omega (arith, h, is.0.column)) text in
+        let kept = next (point_at c.line (c.column + 1)) start (omega (arith, h, is.0.column)) text in
         let tokens : cut_tokens ends r 0 start (c ∷ cs) ≡ fault_if (holds at_sign c.byte) fault.StringAt c.line ++ cut_tokens ends r 0 start cs = rw e refl in
         let counts : count_before r 0 (c ∷ cs) ≡ 1 + n = rw e refl in
         rw (tokens, counts, one-points c cs n byte (leaves c.byte (byte_at 0 cs) e), ← is.0.line, ← is.0.column)
@@ -183,7 +183,7 @@ module _ (width : ℕ → ℕ) (count : ℕ) where
         → ((p : Point) (s : ℕ) → s ≤ p.column → IsTextAt width count p cs → CutKeeps p s cs) → CutKeeps at start (c ∷ d ∷ cs)
     two-keeps at start c d cs h is e next =
         let byte = goes-byte r stops c.byte d.byte unit.Two e (λ k. cc) in
-        let after : IsTextAt width count (spot c.line (c.column + 1)) (d ∷ cs) = subst (λ p. IsTextAt width count p (d ∷ cs)) (behind-byte c byte) is.1 in
+        let after : IsTextAt width count (point_at c.line (c.column + 1)) (d ∷ cs) = subst (λ p. IsTextAt width count p (d ∷ cs)) (behind-byte c byte) is.1 in
         let n : ℕ = count_before r 0 cs in
         let tokens : cut_tokens ends r 0 start (c ∷ d ∷ cs) ≡ unit_tokens r unit.Two start c d.byte ++ cut_tokens ends r 0 (next_start unit.Two start c d.byte) cs = rw e refl in
         let counts : count_before r 0 (c ∷ d ∷ cs) ≡ 1 + (1 + n) = rw e refl in
@@ -205,9 +205,9 @@ module _ (width : ℕ → ℕ) (count : ℕ) where
             ≡ columns_to c.line start c.column ++ ((c.line, c.column) ∷ second_points sign d ++ kept_of (count_before r 0 cs) cs)
 
         -- both bytes are kept, in the range that was begun
-        simple : (b : ℕ) → d.byte ≡ Some b → IsCellAt width count (spot c.line (c.column + 1)) d → IsTextAt width count (spot d.line (d.column + 1)) cs → Goal false false (Some b)
+        simple : (b : ℕ) → d.byte ≡ Some b → IsCellAt width count (point_at c.line (c.column + 1)) d → IsTextAt width count (point_at d.line (d.column + 1)) cs → Goal false false (Some b)
         simple b e cell text =
-            let kept = next (spot d.line (d.column + 1)) start (omega (arith, low, cell.column)) text in
+            let kept = next (point_at d.line (d.column + 1)) start (omega (arith, low, cell.column)) text in
             let rest : List (ℕ × ℕ) = kept_of (count_before r 0 cs) cs in
             let there = kept-byte false d (rw e tt) refl in
             kept
@@ -215,12 +215,12 @@ module _ (width : ℕ → ℕ) (count : ℕ) where
             ∙ rw (there, cell.line, cell.column) (behind-range c.line start c.column ((c.line, c.column + 1) ∷ rest) low)
 
         by : (x : Option ℕ) → d.byte ≡ x → (sign back : Bool) → (IsByte x × (sign ≡ holds at_sign x)) ⊎ ((sign ≡ false) × (back ≡ true))
-            → IsCellAt width count (spot c.line (c.column + 1)) d → IsTextAt width count (behind_by x d) cs → Goal sign back x
+            → IsCellAt width count (point_at c.line (c.column + 1)) d → IsTextAt width count (behind_by x d) cs → Goal sign back x
         by None e sign back (inl k) cell text = absurd k.0
         by None e true back (inr k) cell text = absurd (let f = k.0 in cc)
         by None e false false (inr k) cell text = absurd (let f = k.1 in cc)
         by None e false true k cell text =
-            let kept = next (spot (d.line + 1) 0) 0 (omega arith) text in
+            let kept = next (point_at (d.line + 1) 0) 0 (omega arith) text in
             let rest : List (ℕ × ℕ) = kept_of (count_before r 0 cs) cs in
             let none : second_points false d ≡ [] = rw e refl in
             rw (append_assoc, none)
@@ -229,7 +229,7 @@ module _ (width : ℕ → ℕ) (count : ℕ) where
             ∙ behind-range c.line start c.column rest low)
         by (Some b) e true back (inr k) cell text = absurd (let f = k.0 in cc)
         by (Some b) e true back (inl k) cell text =
-            let kept = next (spot d.line (d.column + 1)) (c.column + 2) (omega (arith, cell.column)) text in
+            let kept = next (point_at d.line (d.column + 1)) (c.column + 2) (omega (arith, cell.column)) text in
             let rest : List (ℕ × ℕ) = kept_of (count_before r 0 cs) cs in
             let column : d.column + 1 ≡ c.column + 2 = omega (arith, cell.column) in
             let sign : holds at_sign d.byte ≡ true = rw e (sym k.1) in
@@ -251,7 +251,7 @@ module _ (width : ℕ → ℕ) (count : ℕ) where
         by unit.One e next = one-keeps at start c [] h is e next
         by unit.Two e next =
             let goes = behind-byte c (goes-byte r stops c.byte None unit.Two e (λ k. cc)) in
-            let end : IsTextAt width count (spot c.line (c.column + 1)) [] = subst (λ p. IsTextAt width count p []) goes is.1 in
+            let end : IsTextAt width count (point_at c.line (c.column + 1)) [] = subst (λ p. IsTextAt width count p []) goes is.1 in
             absurd (omega (arith, end))
     cut-keeps at start (c ∷ d ∷ cs) h is = by (unit_at r (c ∷ d ∷ cs)) refl (λ p s k t. cut-keeps p s (d ∷ cs) k t) (λ p s k t. cut-keeps p s cs k t)
       where
@@ -265,7 +265,7 @@ module _ (width : ℕ → ℕ) (count : ℕ) where
 
   -- quoted texts
 
-  -- the closing byte, if it stands there
+  -- the closing byte, if it is there
   abbrev close-points : ℕ → List Cell → List (ℕ × ℕ)
   close-points close text = byte_points (take (one_if (holds close (byte_at 0 text))) text)
 
@@ -291,7 +291,7 @@ module _ (width : ℕ → ℕ) (count : ℕ) where
           ∙ ap (λ ps. columns_to c.line start c.column ++ ps) (sym (ap (λ ps. ps ++ []) (byte-point c (byte refl))))
       by false byte = cut-points r c.line start c.column (token.Fault fault.StringEnd c.line ∷ [])
 
-  -- whatever stands before, it is kept
+  -- whatever is before, it is kept
   close-kept : (close : ℕ) (text : List Cell) → ((b : Option ℕ) → holds close b ≡ true → holds at_sign b ≡ false)
       → (h : Bool) → text_points h (take (one_if (holds close (byte_at 0 text))) text) ≡ close-points close text
   close-kept close [] other h = by (holds close None)
@@ -317,7 +317,7 @@ module _ (width : ℕ → ℕ) (count : ℕ) where
       → (s : ScanState) (at : Point) (c : Cell) (cs : List Cell) → IsTextAt width count at (c ∷ cs) → IsByte c.byte → holds at_sign c.byte ≡ false
       → token_points (quoted_text r close s (c ∷ cs)).tokens ≡ text_points false (take (1 + (quoted_text r close s (c ∷ cs)).more) (c ∷ cs))
   quoted-keeps r stops pairs leaves takes close other s at c cs is byte sign =
-      let front : Point = spot c.line (c.column + 1) in
+      let front : Point = point_at c.line (c.column + 1) in
       let text = subst (λ p. IsTextAt width count p cs) (behind-byte c byte) is.1 in
       let n : ℕ = count_before r 0 cs in
       let last : ℕ = one_if (holds close (byte_at 0 (drop n cs))) in

@@ -1,4 +1,4 @@
--- What begins at a place tells which of its first two cells are bytes.
+-- What begins at a place says which of its first two cells are bytes.
 use Rattle.std.proofs.Common.{◌≡◌, ℕ, Bool, true, false, ◌&&◌, ◌||◌, Option, Some, None, refl, if◌then◌else◌, ◌==◌}
 use Rattle.tangle_lines.specs.Bytes.{is_white}
 use Rattle.tangle_lexer.specs.declared.modes.IncludeState.{IncludeState}
@@ -16,7 +16,7 @@ abbrev pub IsLineEnd : Option ℕ → Type 0
 IsLineEnd None = Unit {0}
 IsLineEnd (Some b) = ⊥
 
--- which of the cells of a code are bytes
+-- which of the cells of a control code are bytes
 abbrev pub CodeCells : ControlCode → Option ℕ → Option ℕ → Type 0
 CodeCells code.SectionStart b next = Unit {0}
 CodeCells _ b next = IsByte b × IsByte next
@@ -49,8 +49,8 @@ code-cells b (Some n) = codes (lower n)
         (if-holds P (m == 94 || m == 46 || m == 58 || m == 116 || m == 113) code.ControlText _ (λ e. (tt, tt))
         (if-holds P (m == equals_sign) code.Verbatim _ (λ e. (tt, tt))
         (if-holds P (m == 38) code.Join _ (λ e. (tt, tt))
-        (if-holds P (m == 104) code.Defs _ (λ e. (tt, tt))
-        (if-holds P (m == apostrophe) code.Constant code.Other (λ e. (tt, tt)) (tt, tt)))))))))))
+        (if-holds P (m == 104) code.AllMacros _ (λ e. (tt, tt))
+        (if-holds P (m == apostrophe) code.AsciiConstant code.Other (λ e. (tt, tt)) (tt, tt)))))))))))
 
 less-cells : (inc : IncludeState) (b : ℕ) (next : Option ℕ) → Cells (less_kind inc) (Some b) next
 less-cells include.AtStart b next = tt

@@ -17,26 +17,26 @@ use Rattle.tangle_lexer.specs.Regions.{count_before}
 use Rattle.tangle_lexer.specs.Lexemes.{Lexeme, lexeme_of, in_mode}
 use Rattle.tangle_lexer.specs.Comments.{block_comment, line_comment, control_text, starts_section}
 use Rattle.tangle_lexer.specs.Quoted.{quoted_text, verbatim_text}
-use Rattle.tangle_lexer.specs.declared.constants.Constant.{Constant}
+use Rattle.tangle_lexer.specs.declared.constants.AsciiConstant.{AsciiConstant}
 use Rattle.tangle_lexer.specs.Constants.{constant_at, constant_lexeme, ascii_constant}
 use Rattle.tangle_lexer.specs.Names.{use_of_name, head_count, head_or_mention, name_in_documentation}
 use Rattle.tangle_lexer.specs.Steps.{code_at, kind_of, word, white_space, misplaced_code, section_start, prose, limbo_lexeme, documentation_code, documentation_lexeme, c_code, c_lexeme, macro_code, macro_lexeme, lexeme_in, lexeme, lexemes}
-use Rattle.tangle_lexer.proofs.laws.Points.{Point, spot, PrecedesOnLine, behind_by, behind, walked, HoldsBytes, IsTextAt, precedes-walked}
-use Rattle.tangle_lexer.proofs.laws.TokenOrder.{StandInOrder, jumped, in_order-append}
+use Rattle.tangle_lexer.proofs.laws.Points.{Point, point_at, PrecedesOnLine, behind_by, behind, walked, HoldsBytes, IsTextAt, precedes-walked}
+use Rattle.tangle_lexer.proofs.laws.TokenOrder.{AreInOrder, jumped, in_order-append}
 use Rattle.tangle_lexer.proofs.laws.RegionOrder.{two-bytes, walked-more, bytes-precede}
 use Rattle.tangle_lexer.proofs.laws.WhiteOrder.{white-in_order, block_comment-in_order, control_text-in_order, line_comment-in_order, misplaced_code-in_order, white_space-in_order, span-in_order, word-in_order}
 use Rattle.tangle_lexer.proofs.laws.QuotedOrder.{double_quoted-in_order, apostrophe-in_order, include_name-in_order, verbatim_text-in_order}
 use Rattle.tangle_lexer.proofs.laws.ConstantOrder.{ascii_constant-in_order}
-use Rattle.tangle_lexer.proofs.laws.NameOrder.{LexemeStandsInOrder, use_of_name-in_order, name-in_order, jumped-precedes}
+use Rattle.tangle_lexer.proofs.laws.NameOrder.{LexemeIsInOrder, use_of_name-in_order, name-in_order, jumped-precedes}
 use Rattle.tangle_lexer.proofs.laws.KindCells.{IsLineEnd, CodeCells, Cells, code-cells, kind-cells}
 
 -- C text and macros are read inside
 abbrev pub inside : Mode → Bool
-inside mode.Code = true
+inside mode.CPart = true
 inside mode.Macro = true
 inside _ = false
 
-line-goes : (c : Cell) (b : Option ℕ) → IsLineEnd b → PrecedesOnLine (spot (c.line + 1) 0) (behind_by b c)
+line-goes : (c : Cell) (b : Option ℕ) → IsLineEnd b → PrecedesOnLine (point_at (c.line + 1) 0) (behind_by b c)
 line-goes c None h = (refl, omega arith)
 line-goes c (Some b) h = absurd h
 
@@ -44,17 +44,17 @@ module _ (width : ℕ → ℕ) (count : ℕ) where
   -- a lexeme's tokens lie between its front and what is behind it, and the last line stays known
   pub record Law (s : ScanState) (at : Point) (text : List Cell) (here : Lexeme) : Type 0 where
     pub last : here.after.last ≡ s.last
-    pub ordered : LexemeStandsInOrder width count (inside s.mode) at text here (inside here.after.mode)
+    pub ordered : LexemeIsInOrder width count (inside s.mode) at text here (inside here.after.mode)
 
   -- inside, and so behind it
   stays-inside : (s : ScanState) (at : Point) (text : List Cell) (here : Lexeme) → inside s.mode ≡ true → here.after.mode ≡ s.mode → here.after.last ≡ s.last
-      → LexemeStandsInOrder width count true at text here true → Law s at text here
+      → LexemeIsInOrder width count true at text here true → Law s at text here
   stays-inside s at text here within m last ordered =
       let flag : true ≡ inside here.after.mode = sym (ap inside m ∙ within) in
       record { last = last; ordered = rw (within, ← flag) ordered }
 
   goes-inside : (s : ScanState) (at : Point) (text : List Cell) (here : Lexeme) → inside s.mode ≡ true → here.after.mode ≡ s.mode → here.after.last ≡ s.last
-      → StandInOrder width count true at here.tokens true (walked at (1 + here.more) text) → Law s at text here
+      → AreInOrder width count true at here.tokens true (walked at (1 + here.more) text) → Law s at text here
   goes-inside s at text here within m last ordered = stays-inside s at text here within m last (inl ordered)
 
   -- to a section start, from anywhere
@@ -74,11 +74,11 @@ module _ (width : ℕ → ℕ) (count : ℕ) where
       subst (λ l. (at.line ≤ l) × PrecedesOnLine (jumped at l) (walked at 2 (c ∷ cs))) (sym is.0.line) (omega arith, (goes.0, omega (arith, j.1, goes.1)))
 
   name-law : (from : Bool) (s : ScanState) (at : Point) (c : Cell) (cs : List Cell) → inside s.mode ≡ false → IsTextAt width count at (c ∷ cs)
-      → StandInOrder width count from at (name_in_documentation s (c ∷ cs)).tokens (inside (name_in_documentation s (c ∷ cs)).after.mode) (walked at (1 + (name_in_documentation s (c ∷ cs)).more) (c ∷ cs))
+      → AreInOrder width count from at (name_in_documentation s (c ∷ cs)).tokens (inside (name_in_documentation s (c ∷ cs)).after.mode) (walked at (1 + (name_in_documentation s (c ∷ cs)).more) (c ∷ cs))
   name-law from s at c cs out is = by (head_count (c ∷ cs)) (name-in_order width count from s at c cs is (inside s.mode) out)
     where
-      by : (o : Option ℕ) → StandInOrder width count from at (head_or_mention o s (c ∷ cs)).tokens (is_some o || inside s.mode) (walked at (1 + (head_or_mention o s (c ∷ cs)).more) (c ∷ cs))
-          → StandInOrder width count from at (head_or_mention o s (c ∷ cs)).tokens (inside (head_or_mention o s (c ∷ cs)).after.mode) (walked at (1 + (head_or_mention o s (c ∷ cs)).more) (c ∷ cs))
+      by : (o : Option ℕ) → AreInOrder width count from at (head_or_mention o s (c ∷ cs)).tokens (is_some o || inside s.mode) (walked at (1 + (head_or_mention o s (c ∷ cs)).more) (c ∷ cs))
+          → AreInOrder width count from at (head_or_mention o s (c ∷ cs)).tokens (inside (head_or_mention o s (c ∷ cs)).after.mode) (walked at (1 + (head_or_mention o s (c ∷ cs)).more) (c ∷ cs))
       by None ordered = ordered
       by (Some k) ordered = ordered
 
@@ -92,7 +92,7 @@ module _ (width : ℕ → ℕ) (count : ℕ) where
   constant-after : (s : ScanState) (text : List Cell) → ((ascii_constant s text).after.mode ≡ s.mode) × ((ascii_constant s text).after.last ≡ s.last)
   constant-after s text = by (constant_at (drop 2 text))
     where
-      by : (k : Option Constant) → ((constant_lexeme k s text).after.mode ≡ s.mode) × ((constant_lexeme k s text).after.last ≡ s.last)
+      by : (k : Option AsciiConstant) → ((constant_lexeme k s text).after.mode ≡ s.mode) × ((constant_lexeme k s text).after.last ≡ s.last)
       by None = (refl, refl)
       by (Some k) = (refl, refl)
 
@@ -116,9 +116,9 @@ module _ (width : ℕ → ℕ) (count : ℕ) where
       goes-inside s at (c ∷ cs) (verbatim_text s (c ∷ cs)) within refl refl (verbatim_text-in_order width count s at c cs is (two-bytes (c ∷ cs) h.0 h.1))
   c_code-law code.Join s at c cs within last is h =
       goes-inside s at (c ∷ cs) (c_code code.Join s (c ∷ cs)) within refl refl (bytes-precede width count at 2 (c ∷ cs) is (two-bytes (c ∷ cs) h.0 h.1))
-  c_code-law code.Defs s at c cs within last is h =
-      goes-inside s at (c ∷ cs) (c_code code.Defs s (c ∷ cs)) within refl refl (is.0.line, bytes-precede width count at 2 (c ∷ cs) is (two-bytes (c ∷ cs) h.0 h.1))
-  c_code-law code.Constant s at c cs within last is h =
+  c_code-law code.AllMacros s at c cs within last is h =
+      goes-inside s at (c ∷ cs) (c_code code.AllMacros s (c ∷ cs)) within refl refl (is.0.line, bytes-precede width count at 2 (c ∷ cs) is (two-bytes (c ∷ cs) h.0 h.1))
+  c_code-law code.AsciiConstant s at c cs within last is h =
       goes-inside s at (c ∷ cs) (ascii_constant s (c ∷ cs)) within (constant-after s (c ∷ cs)).0 (constant-after s (c ∷ cs)).1
       (ascii_constant-in_order width count s at c cs is (two-bytes (c ∷ cs) h.0 h.1))
   c_code-law code.Other s at c cs within last is h =
@@ -163,8 +163,8 @@ module _ (width : ℕ → ℕ) (count : ℕ) where
       record { last = name-last (in_mode mode.Documentation s) (c ∷ cs); ordered = inl (name-law (inside s.mode) (in_mode mode.Documentation s) at c cs refl is) }
   macro_code-law code.Format s at c cs within last is h =
       record { last = refl; ordered = inl (precedes-walked width count at 2 (c ∷ cs) is) }
-  macro_code-law code.Defs s at c cs within last is h =
-      goes-inside s at (c ∷ cs) (macro_code code.Defs s (c ∷ cs)) within refl refl
+  macro_code-law code.AllMacros s at c cs within last is h =
+      goes-inside s at (c ∷ cs) (macro_code code.AllMacros s (c ∷ cs)) within refl refl
       (white-in_order width count at 2 (c ∷ cs) true fault.MisplacedH c.line is (two-bytes (c ∷ cs) h.0 h.1))
   macro_code-law kind s at c cs within last is h = c_code-law kind s at c cs within last is h
 
@@ -201,7 +201,7 @@ module _ (width : ℕ → ℕ) (count : ℕ) where
       by : (m : Mode) → s.mode ≡ m → Law s at (c ∷ cs) (lexeme_in m s (c ∷ cs))
       by mode.Limbo e = limbo-law s at c cs (ap inside e) is
       by mode.Documentation e = documentation-law s at c cs (ap inside e) is
-      by mode.Code e = c-law (kind_of s.include (c ∷ cs)) s at c cs (ap inside e) last is (kind-cells s.include c.byte (byte_at 0 cs))
+      by mode.CPart e = c-law (kind_of s.include (c ∷ cs)) s at c cs (ap inside e) last is (kind-cells s.include c.byte (byte_at 0 cs))
       by mode.Macro e = macro-law (kind_of s.include (c ∷ cs)) s at c cs (ap inside e) last is (kind-cells s.include c.byte (byte_at 0 cs))
 
   -- all lexemes
@@ -212,17 +212,17 @@ module _ (width : ℕ → ℕ) (count : ℕ) where
   lexemes-drop (suc k) s (c ∷ cs) = lexemes-drop k s cs
 
   -- tokens lie from a place on, up to some other
-  pub record StandSomewhere (from : Bool) (at : Point) (es : List Token) : Type 0 where
+  pub record AreSomewhere (from : Bool) (at : Point) (es : List Token) : Type 0 where
     pub stays : Bool
     pub to : Point
-    pub ordered : StandInOrder width count from at es stays to
+    pub ordered : AreInOrder width count from at es stays to
 
-  in_order-nothing : (b : Bool) (at : Point) → StandInOrder width count b at [] b at
+  in_order-nothing : (b : Bool) (at : Point) → AreInOrder width count b at [] b at
   in_order-nothing true at = (refl, omega arith)
   in_order-nothing false at = (omega arith, λ e. omega arith)
 
   pub lexemes-in_order : (k : ℕ) (s : ScanState) (text : List Cell) (at : Point) → s.last ≡ count - 1 → IsTextAt width count at text
-      → StandSomewhere (inside s.mode) (walked at k text) (flat_map (λ l. l.tokens) (lexemes k s text))
+      → AreSomewhere (inside s.mode) (walked at k text) (flat_map (λ l. l.tokens) (lexemes k s text))
   lexemes-in_order k s [] at last is = record { stays = inside s.mode; to = walked at k []; ordered = in_order-nothing (inside s.mode) (walked at k []) }
   lexemes-in_order (suc k) s (c ∷ cs) at last is = lexemes-in_order k s cs (behind c) last is.1
   lexemes-in_order zero s (c ∷ cs) at last is =
@@ -236,7 +236,7 @@ module _ (width : ℕ → ℕ) (count : ℕ) where
           stays = rest.stays;
           to = rest.to;
           ordered = in_order-append width count (inside s.mode) at here.tokens (inside here.after.mode) (walked (behind c) here.more cs) others rest.stays rest.to
-              (subst (λ p. StandInOrder width count (inside s.mode) at here.tokens (inside here.after.mode) p) to ordered) rest.ordered;
+              (subst (λ p. AreInOrder width count (inside s.mode) at here.tokens (inside here.after.mode) p) to ordered) rest.ordered;
         }
         | inr ordered ↦
             let none : others ≡ [] = ap (flat_map (λ l. l.tokens)) (lexemes-drop here.more here.after cs ∙ ap (lexemes 0 here.after) ordered.0) in

@@ -9,8 +9,8 @@ pub record Point : Type 0 where
   pub line : ℕ
   pub column : ℕ
 
-abbrev pub spot : ℕ → ℕ → Point
-spot line column = record { line = line; column = column }
+abbrev pub point_at : ℕ → ℕ → Point
+point_at line column = record { line = line; column = column }
 
 -- not behind it
 abbrev pub Precedes : Point → Point → Type 0
@@ -25,8 +25,8 @@ IsByte None = ⊥
 IsByte (Some b) = Unit {0}
 
 abbrev pub behind_by : Option ℕ → Cell → Point
-behind_by None c = spot (c.line + 1) 0
-behind_by (Some b) c = spot c.line (c.column + 1)
+behind_by None c = point_at (c.line + 1) 0
+behind_by (Some b) c = point_at c.line (c.column + 1)
 
 -- where the text goes on behind a cell
 abbrev pub behind : Cell → Point
@@ -44,7 +44,7 @@ HoldsBytes zero text = Unit {0}
 HoldsBytes (suc k) [] = ⊥
 HoldsBytes (suc k) (c ∷ cs) = IsByte c.byte × HoldsBytes k cs
 
--- a cell stands at a place inside a line of the source
+-- a cell is at a place inside a line of the source
 pub record IsCellAt (width : ℕ → ℕ) (count : ℕ) (at : Point) (c : Cell) : Type 0 where
   pub line : c.line ≡ at.line
   pub column : c.column ≡ at.column
@@ -57,10 +57,10 @@ precedes-trans a b c h k = (omega (arith, h.0, k.0), λ e. let x : a.line ≡ b.
 pub precedes-refl : (a : Point) → Precedes a a
 precedes-refl a = (omega arith, λ e. omega arith)
 
-pub behind-byte : (c : Cell) → IsByte c.byte → behind c ≡ spot c.line (c.column + 1)
+pub behind-byte : (c : Cell) → IsByte c.byte → behind c ≡ point_at c.line (c.column + 1)
 behind-byte c h = by c.byte h
   where
-    by : (b : Option ℕ) → IsByte b → behind_by b c ≡ spot c.line (c.column + 1)
+    by : (b : Option ℕ) → IsByte b → behind_by b c ≡ point_at c.line (c.column + 1)
     by None h = absurd h
     by (Some b) h = refl
 
@@ -95,25 +95,25 @@ module _ (width : ℕ → ℕ) (count : ℕ) where
       precedes-trans at (behind c) (walked (behind c) n cs) (precedes-behind at c is.0) (precedes-walked (behind c) n cs is.1)
 
   -- behind bytes it goes on on the same line
-  pub walked-bytes : (at : Point) (n : ℕ) (text : List Cell) → IsTextAt at text → HoldsBytes n text → walked at n text ≡ spot at.line (at.column + n)
-  walked-bytes at zero text is h = λ i. spot at.line (sym (add-zero at.column) i)
+  pub walked-bytes : (at : Point) (n : ℕ) (text : List Cell) → IsTextAt at text → HoldsBytes n text → walked at n text ≡ point_at at.line (at.column + n)
+  walked-bytes at zero text is h = λ i. point_at at.line (sym (add-zero at.column) i)
   walked-bytes at (suc n) [] is h = absurd h
   walked-bytes at (suc n) (c ∷ cs) is h =
       let goes = behind-byte c h.0 in
       let column : c.column + 1 + n ≡ at.column + suc n = omega (arith, is.0.column) in
       walked-bytes (behind c) n cs is.1 h.1
-      ∙ ap (λ (p : Point). spot p.line (p.column + n)) goes
-      ∙ (λ i. spot (is.0.line i) (column i))
+      ∙ ap (λ (p : Point). point_at p.line (p.column + n)) goes
+      ∙ (λ i. point_at (is.0.line i) (column i))
 
   line-is : (line column : ℕ) (bytes : List ℕ) (rest : List Cell) → column + length bytes ≡ width line → line < count
-      → IsTextAt (spot (line + 1) 0) rest → IsTextAt (spot line column) (line_text line column bytes ++ rest)
+      → IsTextAt (point_at (line + 1) 0) rest → IsTextAt (point_at line column) (line_text line column bytes ++ rest)
   line-is line column [] rest h real is = (record { line = refl; column = refl; inside = omega (arith, h); real = real }, is)
   line-is line column (b ∷ bs) rest h real is =
       (record { line = refl; column = refl; inside = omega (arith, h); real = real }, line-is line (column + 1) bs rest (omega (arith, h)) real is)
 
   -- the text of lines is text, from its first line on
   pub text-is : (n : ℕ) (lines : List Line) → n + length lines ≡ count → ((k : ℕ) → k < length lines → length (get_or lines k no_line).bytes ≡ width (n + k))
-      → IsTextAt (spot n 0) (text_from n lines)
+      → IsTextAt (point_at n 0) (text_from n lines)
   text-is n [] all h = (refl, omega (arith, all))
   text-is n (l ∷ ls) all h =
       let first : length l.bytes ≡ width n = h 0 (omega arith) ∙ ap width (add-zero n) in

@@ -18,8 +18,8 @@ use Rattle.tangle_lexer.specs.Regions.{unit_by, quoted_unit, unit_of, unit_at, c
 use Rattle.tangle_lexer.specs.Lexemes.{fault_if}
 use Rattle.tangle_lexer.specs.Comments.{has_end_code, two_if}
 use Rattle.tangle_lexer.specs.Quoted.{range_token, cut_range, unit_tokens, next_start, cut_tokens, quote_stop, quote_end, one_if, quoted_text, verbatim_stop, verbatim_end, empty_end, verbatim_tokens, verbatim_text}
-use Rattle.tangle_lexer.proofs.laws.Points.{Point, spot, PrecedesOnLine, IsByte, behind_by, behind, walked, HoldsBytes, IsCellAt, IsTextAt, text-walked, text-within, behind-byte, walked-bytes}
-use Rattle.tangle_lexer.proofs.laws.TokenOrder.{StandInOrder, IsFrom, span_end, in_order-after}
+use Rattle.tangle_lexer.proofs.laws.Points.{Point, point_at, PrecedesOnLine, IsByte, behind_by, behind, walked, HoldsBytes, IsCellAt, IsTextAt, text-walked, text-within, behind-byte, walked-bytes}
+use Rattle.tangle_lexer.proofs.laws.TokenOrder.{AreInOrder, IsFrom, span_end, in_order-after}
 use Rattle.tangle_lexer.proofs.laws.RegionOrder.{walked-more, walked-add, holds-byte, are-bytes, goes-byte, faults-in_order, end-precedes}
 
 -- a backslash is no @
@@ -64,64 +64,64 @@ verbatim-takes (Some b) e = absurd (by (nat_eq b at_sign) e)
 
 module _ (width : ℕ → ℕ) (count : ℕ) where
   -- a range before other tokens
-  made-in_order : (r : Region) (at : Point) (s : Span) (es : List Token) (to : Point) → IsFrom width count at s → StandInOrder width count true (span_end s) es true to
-      → StandInOrder width count true at (range_token r s ∷ es) true to
+  made-in_order : (r : Region) (at : Point) (s : Span) (es : List Token) (to : Point) → IsFrom width count at s → AreInOrder width count true (span_end s) es true to
+      → AreInOrder width count true at (range_token r s ∷ es) true to
   made-in_order region.Verbatim at s es to is ordered = (is, ordered)
   made-in_order _ at s es to is ordered = (is, ordered)
 
   -- a range, from its start to where the text goes on
   range-in_order : (r : Region) (line start end : ℕ) (es : List Token) (to : Point) → line < count → start ≤ end → end ≤ width line
-      → StandInOrder width count true (spot line end) es true to → StandInOrder width count true (spot line start) (cut_range r line start end ++ es) true to
+      → AreInOrder width count true (point_at line end) es true to → AreInOrder width count true (point_at line start) (cut_range r line start end ++ es) true to
   range-in_order r line start end es to real h inside ordered = by (nat_lt start end)
     where
-      by : (b : Bool) → StandInOrder width count true (spot line start) (cond b (range_token r (record { line = line; start = start; end = end }) ∷ []) [] ++ es) true to
-      by true = made-in_order r (spot line start) (record { line = line; start = start; end = end }) es to (record { line = refl; real = real; start = omega arith; order = h; end = inside }) ordered
-      by false = in_order-after width count true true (spot line start) (spot line end) es true to (refl, h) ordered
+      by : (b : Bool) → AreInOrder width count true (point_at line start) (cond b (range_token r (record { line = line; start = start; end = end }) ∷ []) [] ++ es) true to
+      by true = made-in_order r (point_at line start) (record { line = line; start = start; end = end }) es to (record { line = refl; real = real; start = omega arith; order = h; end = inside }) ordered
+      by false = in_order-after width count true true (point_at line start) (point_at line end) es true to (refl, h) ordered
 
-  last-in_order : (r : Region) (line start end : ℕ) (to : Point) → line < count → start ≤ end → end ≤ width line → PrecedesOnLine (spot line end) to
-      → StandInOrder width count true (spot line start) (cut_range r line start end) true to
+  last-in_order : (r : Region) (line start end : ℕ) (to : Point) → line < count → start ≤ end → end ≤ width line → PrecedesOnLine (point_at line end) to
+      → AreInOrder width count true (point_at line start) (cut_range r line start end) true to
   last-in_order r line start end to real h inside goes =
-      subst (λ es. StandInOrder width count true (spot line start) es true to) (append-nil (cut_range r line start end))
+      subst (λ es. AreInOrder width count true (point_at line start) es true to) (append-nil (cut_range r line start end))
       (range-in_order r line start end [] to real h inside goes)
 
   -- a text that is cut, in a region; `ends` and `final` say what comes at its end
   module _ (r : Region) (stops : (n : Option ℕ) → unit_of r None n ≡ unit.Stop) (takes : (b : Option ℕ) → unit_of r b None ≡ unit.Two → holds backslash b ≡ true)
       (ends : ℕ → List Cell → List Token) (final : Point → List Cell → Point)
-      (nothing : (at : Point) (start : ℕ) → start ≤ at.column → StandInOrder width count true (spot at.line start) (ends start []) true (final at []))
-      (stop : (at : Point) (start : ℕ) (c : Cell) (cs : List Cell) → start ≤ at.column → IsTextAt width count at (c ∷ cs) → StandInOrder width count true (spot at.line start) (ends start (c ∷ cs)) true (final at (c ∷ cs))) where
+      (nothing : (at : Point) (start : ℕ) → start ≤ at.column → AreInOrder width count true (point_at at.line start) (ends start []) true (final at []))
+      (stop : (at : Point) (start : ℕ) (c : Cell) (cs : List Cell) → start ≤ at.column → IsTextAt width count at (c ∷ cs) → AreInOrder width count true (point_at at.line start) (ends start (c ∷ cs)) true (final at (c ∷ cs))) where
     abbrev reached : Point → ℕ → List Cell → Point
     reached at n text = final (walked at n text) (drop n text)
 
     reached-more : (at : Point) (c : Cell) (cs : List Cell) (n : ℕ) → reached at (1 + n) (c ∷ cs) ≡ reached (behind c) n cs
     reached-more at c cs n = let e : 1 + n ≡ suc n = omega arith in rw e refl
 
-    abbrev CutStandsInOrder : Point → ℕ → List Cell → Type 0
-    CutStandsInOrder at start text = StandInOrder width count true (spot at.line start) (cut_tokens ends r 0 start text) true (reached at (count_before r 0 text) text)
+    abbrev CutIsInOrder : Point → ℕ → List Cell → Type 0
+    CutIsInOrder at start text = AreInOrder width count true (point_at at.line start) (cut_tokens ends r 0 start text) true (reached at (count_before r 0 text) text)
 
     one-in_order : (at : Point) (start : ℕ) (c : Cell) (cs : List Cell) → start ≤ at.column → IsTextAt width count at (c ∷ cs) → unit_at r (c ∷ cs) ≡ unit.One
-        → ((p : Point) (s : ℕ) → s ≤ p.column → IsTextAt width count p cs → CutStandsInOrder p s cs) → CutStandsInOrder at start (c ∷ cs)
+        → ((p : Point) (s : ℕ) → s ≤ p.column → IsTextAt width count p cs → CutIsInOrder p s cs) → CutIsInOrder at start (c ∷ cs)
     one-in_order at start c cs h is e next =
         let goes = behind-byte c (goes-byte r stops c.byte (byte_at 0 cs) unit.One e (λ k. cc)) in
         let text = subst (λ p. IsTextAt width count p cs) goes is.1 in
         let n : ℕ = count_before r 0 cs in
-        let ordered = next (spot c.line (c.column + 1)) start (omega (arith, h, is.0.column)) text in
-        let to : reached at (1 + n) (c ∷ cs) ≡ reached (spot c.line (c.column + 1)) n cs = reached-more at c cs n ∙ ap (λ p. reached p n cs) goes in
+        let ordered = next (point_at c.line (c.column + 1)) start (omega (arith, h, is.0.column)) text in
+        let to : reached at (1 + n) (c ∷ cs) ≡ reached (point_at c.line (c.column + 1)) n cs = reached-more at c cs n ∙ ap (λ p. reached p n cs) goes in
         let tokens : cut_tokens ends r 0 start (c ∷ cs) ≡ fault_if (holds at_sign c.byte) fault.StringAt c.line ++ cut_tokens ends r 0 start cs = rw e refl in
         let counts : count_before r 0 (c ∷ cs) ≡ 1 + n = rw e refl in
         rw (tokens, counts, to)
-        (by (holds at_sign c.byte) (subst (λ l. StandInOrder width count true (spot l start) (cut_tokens ends r 0 start cs) true (reached (spot c.line (c.column + 1)) n cs)) is.0.line ordered))
+        (by (holds at_sign c.byte) (subst (λ l. AreInOrder width count true (point_at l start) (cut_tokens ends r 0 start cs) true (reached (point_at c.line (c.column + 1)) n cs)) is.0.line ordered))
       where
-        by : (b : Bool) → StandInOrder width count true (spot at.line start) (cut_tokens ends r 0 start cs) true (reached (spot c.line (c.column + 1)) (count_before r 0 cs) cs)
-            → StandInOrder width count true (spot at.line start) (fault_if b fault.StringAt c.line ++ cut_tokens ends r 0 start cs) true (reached (spot c.line (c.column + 1)) (count_before r 0 cs) cs)
+        by : (b : Bool) → AreInOrder width count true (point_at at.line start) (cut_tokens ends r 0 start cs) true (reached (point_at c.line (c.column + 1)) (count_before r 0 cs) cs)
+            → AreInOrder width count true (point_at at.line start) (fault_if b fault.StringAt c.line ++ cut_tokens ends r 0 start cs) true (reached (point_at c.line (c.column + 1)) (count_before r 0 cs) cs)
         by true ordered = ordered
         by false ordered = ordered
 
     -- both of @@, and a backslash with what it takes, a line end too
     two-in_order : (at : Point) (start : ℕ) (c d : Cell) (cs : List Cell) → start ≤ at.column → IsTextAt width count at (c ∷ d ∷ cs) → unit_at r (c ∷ d ∷ cs) ≡ unit.Two
-        → ((p : Point) (s : ℕ) → s ≤ p.column → IsTextAt width count p cs → CutStandsInOrder p s cs) → CutStandsInOrder at start (c ∷ d ∷ cs)
+        → ((p : Point) (s : ℕ) → s ≤ p.column → IsTextAt width count p cs → CutIsInOrder p s cs) → CutIsInOrder at start (c ∷ d ∷ cs)
     two-in_order at start c d cs h is e next =
         let goes = behind-byte c (goes-byte r stops c.byte d.byte unit.Two e (λ k. cc)) in
-        let after : IsTextAt width count (spot c.line (c.column + 1)) (d ∷ cs) = subst (λ p. IsTextAt width count p (d ∷ cs)) goes is.1 in
+        let after : IsTextAt width count (point_at c.line (c.column + 1)) (d ∷ cs) = subst (λ p. IsTextAt width count p (d ∷ cs)) goes is.1 in
         let n : ℕ = count_before r 0 cs in
         let to : reached at (1 + (1 + n)) (c ∷ d ∷ cs) ≡ reached (behind d) n cs = reached-more at c (d ∷ cs) (1 + n) ∙ reached-more (behind c) d cs n in
         let tokens : cut_tokens ends r 0 start (c ∷ d ∷ cs) ≡ unit_tokens r unit.Two start c d.byte ++ cut_tokens ends r 0 (next_start unit.Two start c d.byte) cs = rw e refl in
@@ -133,14 +133,14 @@ module _ (width : ℕ → ℕ) (count : ℕ) where
         second b (Some x) e = inl tt
         second b None e = inr (no-at_sign b (takes b e), takes b e)
 
-        simple : (b : ℕ) → IsCellAt width count (spot c.line (c.column + 1)) d → IsTextAt width count (spot d.line (d.column + 1)) cs
-            → StandInOrder width count true (spot c.line start) (cut_tokens ends r 0 start cs) true (reached (spot d.line (d.column + 1)) (count_before r 0 cs) cs)
+        simple : (b : ℕ) → IsCellAt width count (point_at c.line (c.column + 1)) d → IsTextAt width count (point_at d.line (d.column + 1)) cs
+            → AreInOrder width count true (point_at c.line start) (cut_tokens ends r 0 start cs) true (reached (point_at d.line (d.column + 1)) (count_before r 0 cs) cs)
         simple b cell text =
-            subst (λ l. StandInOrder width count true (spot l start) (cut_tokens ends r 0 start cs) true (reached (spot d.line (d.column + 1)) (count_before r 0 cs) cs)) cell.line
-            (next (spot d.line (d.column + 1)) start (omega (arith, h, is.0.column, cell.column)) text)
+            subst (λ l. AreInOrder width count true (point_at l start) (cut_tokens ends r 0 start cs) true (reached (point_at d.line (d.column + 1)) (count_before r 0 cs) cs)) cell.line
+            (next (point_at d.line (d.column + 1)) start (omega (arith, h, is.0.column, cell.column)) text)
 
-        by : (sign back : Bool) (x : Option ℕ) → (IsByte x) ⊎ ((sign ≡ false) × (back ≡ true)) → IsCellAt width count (spot c.line (c.column + 1)) d → IsTextAt width count (behind_by x d) cs
-            → StandInOrder width count true (spot c.line start)
+        by : (sign back : Bool) (x : Option ℕ) → (IsByte x) ⊎ ((sign ≡ false) × (back ≡ true)) → IsCellAt width count (point_at c.line (c.column + 1)) d → IsTextAt width count (behind_by x d) cs
+            → AreInOrder width count true (point_at c.line start)
             (cond sign (cut_range r c.line start (c.column + 1)) (cond (back && is_line_end x) (cut_range r c.line start (c.column + 1) ++ token.QuoteBreak ∷ []) [])
             ++ cut_tokens ends r 0 (cond sign (c.column + 2) (cond (back && is_line_end x) 0 start)) cs)
             true (reached (behind_by x d) (count_before r 0 cs) cs)
@@ -148,39 +148,39 @@ module _ (width : ℕ → ℕ) (count : ℕ) where
         by true back None (inr k) cell text = absurd (let e = k.0 in cc)
         by true back (Some b) k cell text =
             let es : List Token = cut_tokens ends r 0 (c.column + 2) cs in
-            let to : Point = reached (spot d.line (d.column + 1)) (count_before r 0 cs) cs in
-            let ordered = next (spot d.line (d.column + 1)) (c.column + 2) (omega (arith, cell.column)) text in
+            let to : Point = reached (point_at d.line (d.column + 1)) (count_before r 0 cs) cs in
+            let ordered = next (point_at d.line (d.column + 1)) (c.column + 2) (omega (arith, cell.column)) text in
             range-in_order r c.line start (c.column + 1) es to cell.real (omega (arith, h, is.0.column)) cell.inside
-            (in_order-after width count true true (spot c.line (c.column + 1)) (spot d.line (c.column + 2)) es true to (sym cell.line, omega arith) ordered)
+            (in_order-after width count true true (point_at c.line (c.column + 1)) (point_at d.line (c.column + 2)) es true to (sym cell.line, omega arith) ordered)
         by false false None (inl k) cell text = absurd k
         by false false None (inr k) cell text = absurd (let e = k.1 in cc)
         by false true None k cell text =
             let es : List Token = cut_tokens ends r 0 0 cs in
-            let to : Point = reached (spot (d.line + 1) 0) (count_before r 0 cs) cs in
-            let ordered = next (spot (d.line + 1) 0) 0 (omega arith) text in
+            let to : Point = reached (point_at (d.line + 1) 0) (count_before r 0 cs) cs in
+            let ordered = next (point_at (d.line + 1) 0) 0 (omega arith) text in
             rw append_assoc
             (range-in_order r c.line start (c.column + 1) (token.QuoteBreak ∷ es) to cell.real (omega (arith, h, is.0.column)) cell.inside
-            (subst (λ l. StandInOrder width count true (spot (l + 1) 0) es true to) cell.line ordered))
+            (subst (λ l. AreInOrder width count true (point_at (l + 1) 0) es true to) cell.line ordered))
         by false false (Some b) k cell text = simple b cell text
         by false true (Some b) k cell text = simple b cell text
 
-    pub cut-in_order : (at : Point) (start : ℕ) (text : List Cell) → start ≤ at.column → IsTextAt width count at text → CutStandsInOrder at start text
+    pub cut-in_order : (at : Point) (start : ℕ) (text : List Cell) → start ≤ at.column → IsTextAt width count at text → CutIsInOrder at start text
     cut-in_order at start [] h is = nothing at start h
     cut-in_order at start (c ∷ []) h is = by (unit_at r (c ∷ [])) refl (λ p s k t. cut-in_order p s [] k t)
       where
-        by : (u : Unit-of) → unit_at r (c ∷ []) ≡ u → ((p : Point) (s : ℕ) → s ≤ p.column → IsTextAt width count p [] → CutStandsInOrder p s []) → CutStandsInOrder at start (c ∷ [])
+        by : (u : Unit-of) → unit_at r (c ∷ []) ≡ u → ((p : Point) (s : ℕ) → s ≤ p.column → IsTextAt width count p [] → CutIsInOrder p s []) → CutIsInOrder at start (c ∷ [])
         by unit.Stop e next = rw e (stop at start c [] h is)
         by unit.One e next = one-in_order at start c [] h is e next
         by unit.Two e next =
             let goes = behind-byte c (goes-byte r stops c.byte None unit.Two e (λ k. cc)) in
-            let end : IsTextAt width count (spot c.line (c.column + 1)) [] = subst (λ p. IsTextAt width count p []) goes is.1 in
+            let end : IsTextAt width count (point_at c.line (c.column + 1)) [] = subst (λ p. IsTextAt width count p []) goes is.1 in
             absurd (omega (arith, end))
     cut-in_order at start (c ∷ d ∷ cs) h is = by (unit_at r (c ∷ d ∷ cs)) refl (λ p s k t. cut-in_order p s (d ∷ cs) k t) (λ p s k t. cut-in_order p s cs k t)
       where
         by : (u : Unit-of) → unit_at r (c ∷ d ∷ cs) ≡ u
-            → ((p : Point) (s : ℕ) → s ≤ p.column → IsTextAt width count p (d ∷ cs) → CutStandsInOrder p s (d ∷ cs))
-            → ((p : Point) (s : ℕ) → s ≤ p.column → IsTextAt width count p cs → CutStandsInOrder p s cs)
-            → CutStandsInOrder at start (c ∷ d ∷ cs)
+            → ((p : Point) (s : ℕ) → s ≤ p.column → IsTextAt width count p (d ∷ cs) → CutIsInOrder p s (d ∷ cs))
+            → ((p : Point) (s : ℕ) → s ≤ p.column → IsTextAt width count p cs → CutIsInOrder p s cs)
+            → CutIsInOrder at start (c ∷ d ∷ cs)
         by unit.Stop e one two = rw e (stop at start c (d ∷ cs) h is)
         by unit.One e one two = one-in_order at start c (d ∷ cs) h is e one
         by unit.Two e one two = two-in_order at start c d cs h is e two
@@ -191,28 +191,28 @@ module _ (width : ℕ → ℕ) (count : ℕ) where
   quote-final close at text = walked at (one_if (holds close (byte_at 0 text))) text
 
   quote_stop-in_order : (r : Region) (close : ℕ) (at : Point) (start : ℕ) (c : Cell) (cs : List Cell) → start ≤ at.column → IsTextAt width count at (c ∷ cs)
-      → StandInOrder width count true (spot at.line start) (quote_stop r close start c) true (quote-final close at (c ∷ cs))
+      → AreInOrder width count true (point_at at.line start) (quote_stop r close start c) true (quote-final close at (c ∷ cs))
   quote_stop-in_order r close at start c cs h is =
-      subst (λ l. StandInOrder width count true (spot l start) (quote_stop r close start c) true (quote-final close at (c ∷ cs))) is.0.line
+      subst (λ l. AreInOrder width count true (point_at l start) (quote_stop r close start c) true (quote-final close at (c ∷ cs))) is.0.line
       (by (holds close c.byte) (holds-byte close c.byte))
     where
       by : (b : Bool) → (b ≡ true → IsByte c.byte)
-          → StandInOrder width count true (spot c.line start) (cond b (cut_range r c.line start (c.column + 1)) (cut_range r c.line start c.column ++ token.Fault fault.StringEnd c.line ∷ [])) true (walked at (cond b 1 0) (c ∷ cs))
+          → AreInOrder width count true (point_at c.line start) (cond b (cut_range r c.line start (c.column + 1)) (cut_range r c.line start c.column ++ token.Fault fault.StringEnd c.line ∷ [])) true (walked at (cond b 1 0) (c ∷ cs))
       by true byte =
           let goes = behind-byte c (byte refl) in
           let within = subst (λ (p : Point). p.column ≤ width p.line) goes (text-within width count (behind c) cs is.1) in
           rw goes
-          (last-in_order r c.line start (c.column + 1) (spot c.line (c.column + 1)) (omega (arith, is.0.line, is.0.real)) (omega (arith, h, is.0.column)) within (refl, omega arith))
+          (last-in_order r c.line start (c.column + 1) (point_at c.line (c.column + 1)) (omega (arith, is.0.line, is.0.real)) (omega (arith, h, is.0.column)) within (refl, omega arith))
       by false byte =
           range-in_order r c.line start c.column (token.Fault fault.StringEnd c.line ∷ []) at
           (omega (arith, is.0.line, is.0.real)) (omega (arith, h, is.0.column)) (rw is.0.line (omega (arith, is.0.column, is.0.inside))) (is.0.line, omega (arith, is.0.column))
 
   quoted-in_order : (r : Region) → ((n : Option ℕ) → unit_of r None n ≡ unit.Stop) → ((b : Option ℕ) → unit_of r b None ≡ unit.Two → holds backslash b ≡ true) → (close : ℕ) (s : ScanState) (at : Point) (c : Cell) (cs : List Cell)
       → IsTextAt width count at (c ∷ cs) → IsByte c.byte
-      → StandInOrder width count true at (quoted_text r close s (c ∷ cs)).tokens true (walked at (1 + (quoted_text r close s (c ∷ cs)).more) (c ∷ cs))
+      → AreInOrder width count true at (quoted_text r close s (c ∷ cs)).tokens true (walked at (1 + (quoted_text r close s (c ∷ cs)).more) (c ∷ cs))
   quoted-in_order r stops takes close s at c cs is byte =
       let goes = behind-byte c byte in
-      let front : Point = spot c.line (c.column + 1) in
+      let front : Point = point_at c.line (c.column + 1) in
       let text = subst (λ p. IsTextAt width count p cs) goes is.1 in
       let n : ℕ = count_before r 0 cs in
       let last : ℕ = one_if (holds close (byte_at 0 (drop n cs))) in
@@ -220,19 +220,19 @@ module _ (width : ℕ → ℕ) (count : ℕ) where
       let ordered = cut-in_order r stops takes (quote_end r close s.last) (quote-final close) (λ p start h. (refl, h)) (quote_stop-in_order r close) front c.column cs (omega arith) text in
       let to : walked at (1 + (n + last)) (c ∷ cs) ≡ walked (walked front n cs) last (drop n cs) =
       walked-more at c cs (n + last) ∙ ap (λ p. walked p (n + last) cs) goes ∙ walked-add front n last cs in
-      subst (λ p. StandInOrder width count true at es true p) (sym to)
-      (in_order-after width count true true at (spot c.line c.column) es true (walked (walked front n cs) last (drop n cs)) (sym is.0.line, omega (arith, is.0.column)) ordered)
+      subst (λ p. AreInOrder width count true at es true p) (sym to)
+      (in_order-after width count true true at (point_at c.line c.column) es true (walked (walked front n cs) last (drop n cs)) (sym is.0.line, omega (arith, is.0.column)) ordered)
 
   pub double_quoted-in_order : (s : ScanState) (at : Point) (c : Cell) (cs : List Cell) → IsTextAt width count at (c ∷ cs) → IsByte c.byte
-      → StandInOrder width count true at (quoted_text region.DoubleQuote double_quote s (c ∷ cs)).tokens true (walked at (1 + (quoted_text region.DoubleQuote double_quote s (c ∷ cs)).more) (c ∷ cs))
+      → AreInOrder width count true at (quoted_text region.DoubleQuote double_quote s (c ∷ cs)).tokens true (walked at (1 + (quoted_text region.DoubleQuote double_quote s (c ∷ cs)).more) (c ∷ cs))
   double_quoted-in_order = quoted-in_order region.DoubleQuote (λ n. refl) (quoted-takes double_quote) double_quote
 
   pub apostrophe-in_order : (s : ScanState) (at : Point) (c : Cell) (cs : List Cell) → IsTextAt width count at (c ∷ cs) → IsByte c.byte
-      → StandInOrder width count true at (quoted_text region.Apostrophe apostrophe s (c ∷ cs)).tokens true (walked at (1 + (quoted_text region.Apostrophe apostrophe s (c ∷ cs)).more) (c ∷ cs))
+      → AreInOrder width count true at (quoted_text region.Apostrophe apostrophe s (c ∷ cs)).tokens true (walked at (1 + (quoted_text region.Apostrophe apostrophe s (c ∷ cs)).more) (c ∷ cs))
   apostrophe-in_order = quoted-in_order region.Apostrophe (λ n. refl) (quoted-takes apostrophe) apostrophe
 
   pub include_name-in_order : (s : ScanState) (at : Point) (c : Cell) (cs : List Cell) → IsTextAt width count at (c ∷ cs) → IsByte c.byte
-      → StandInOrder width count true at (quoted_text region.IncludeName greater_sign s (c ∷ cs)).tokens true (walked at (1 + (quoted_text region.IncludeName greater_sign s (c ∷ cs)).more) (c ∷ cs))
+      → AreInOrder width count true at (quoted_text region.IncludeName greater_sign s (c ∷ cs)).tokens true (walked at (1 + (quoted_text region.IncludeName greater_sign s (c ∷ cs)).more) (c ∷ cs))
   include_name-in_order = quoted-in_order region.IncludeName (λ n. refl) include-takes greater_sign
 
   -- verbatim texts
@@ -244,19 +244,19 @@ module _ (width : ℕ → ℕ) (count : ℕ) where
   final-precedes at text is = end-precedes width count (has_end_code text) at text is (are-bytes at_sign greater_sign text)
 
   verbatim_stop-in_order : (at : Point) (start : ℕ) (c : Cell) (cs : List Cell) → start ≤ at.column → IsTextAt width count at (c ∷ cs)
-      → StandInOrder width count true (spot at.line start) (verbatim_stop start c) true (verbatim-final at (c ∷ cs))
+      → AreInOrder width count true (point_at at.line start) (verbatim_stop start c) true (verbatim-final at (c ∷ cs))
   verbatim_stop-in_order at start c cs h is =
       let goes = final-precedes at (c ∷ cs) is in
       let to : Point = verbatim-final at (c ∷ cs) in
-      let from : PrecedesOnLine (spot c.line c.column) to = (is.0.line ∙ goes.0, omega (arith, is.0.column, goes.1)) in
-      subst (λ l. StandInOrder width count true (spot l start) (verbatim_stop start c) true to) is.0.line
+      let from : PrecedesOnLine (point_at c.line c.column) to = (is.0.line ∙ goes.0, omega (arith, is.0.column, goes.1)) in
+      subst (λ l. AreInOrder width count true (point_at l start) (verbatim_stop start c) true to) is.0.line
       (range-in_order region.Verbatim c.line start c.column (fault_if (is_line_end c.byte) fault.VerbatimEnd c.line) to
       (omega (arith, is.0.line, is.0.real)) (omega (arith, h, is.0.column)) (rw is.0.line (omega (arith, is.0.column, is.0.inside)))
-      (faults-in_order width count (is_line_end c.byte) fault.VerbatimEnd c.line (spot c.line c.column) to from))
+      (faults-in_order width count (is_line_end c.byte) fault.VerbatimEnd c.line (point_at c.line c.column) to from))
 
   -- an empty one
   empty-in_order : (at : Point) (text : List Cell) → IsTextAt width count at text → 0 < at.column
-      → StandInOrder width count true at (token.Text text_kind.Verbatim (span_at 0 text) ∷ empty_end text) true (verbatim-final at text)
+      → AreInOrder width count true at (token.Text text_kind.Verbatim (span_at 0 text) ∷ empty_end text) true (verbatim-final at text)
   empty-in_order at [] is h = absurd (omega (arith, is, h))
   empty-in_order at (c ∷ cs) is h =
       let goes = final-precedes at (c ∷ cs) is in (
@@ -267,11 +267,11 @@ module _ (width : ℕ → ℕ) (count : ℕ) where
           order = omega arith;
           end = omega (arith, is.0.column, is.0.inside);
         },
-        faults-in_order width count (is_line_end c.byte) fault.VerbatimEnd c.line (spot c.line (c.column + 0)) (verbatim-final at (c ∷ cs)) (is.0.line ∙ goes.0, omega (arith, is.0.column, goes.1)),
+        faults-in_order width count (is_line_end c.byte) fault.VerbatimEnd c.line (point_at c.line (c.column + 0)) (verbatim-final at (c ∷ cs)) (is.0.line ∙ goes.0, omega (arith, is.0.column, goes.1)),
       )
 
   verbatim_tokens-in_order : (at : Point) (text : List Cell) → 0 < at.column → IsTextAt width count at text
-      → StandInOrder width count true at (verbatim_tokens text) true (verbatim-final (walked at (count_before region.Verbatim 0 text) text) (drop (count_before region.Verbatim 0 text) text))
+      → AreInOrder width count true at (verbatim_tokens text) true (verbatim-final (walked at (count_before region.Verbatim 0 text) text) (drop (count_before region.Verbatim 0 text) text))
   verbatim_tokens-in_order at [] behind_code is = absurd (omega (arith, is.0, behind_code))
   verbatim_tokens-in_order at (c ∷ cs) behind_code is =
       elim (eqb_tells (count_before region.Verbatim 0 (c ∷ cs)) 0) [
@@ -280,26 +280,26 @@ module _ (width : ℕ → ℕ) (count : ℕ) where
             let text : List Cell = c ∷ cs in
             let to : Point = verbatim-final (walked at (count_before region.Verbatim 0 text) text) (drop (count_before region.Verbatim 0 text) text) in
             rw some.0
-            (subst (λ start. StandInOrder width count true at (cut_tokens verbatim_end region.Verbatim 0 start text) true to) (sym is.0.column)
+            (subst (λ start. AreInOrder width count true at (cut_tokens verbatim_end region.Verbatim 0 start text) true to) (sym is.0.column)
             (cut-in_order region.Verbatim (λ n. refl) verbatim-takes verbatim_end verbatim-final (λ p start h. (refl, h)) verbatim_stop-in_order at at.column text (omega arith) is))
       ]
 
   pub verbatim_text-in_order : (s : ScanState) (at : Point) (c : Cell) (cs : List Cell) → IsTextAt width count at (c ∷ cs) → HoldsBytes 2 (c ∷ cs)
-      → StandInOrder width count true at (verbatim_text s (c ∷ cs)).tokens true (walked at (1 + (verbatim_text s (c ∷ cs)).more) (c ∷ cs))
+      → AreInOrder width count true at (verbatim_text s (c ∷ cs)).tokens true (walked at (1 + (verbatim_text s (c ∷ cs)).more) (c ∷ cs))
   verbatim_text-in_order s at c cs is h =
       let rest : List Cell = drop 1 cs in
       let front : Point = walked at 2 (c ∷ cs) in
-      let there : front ≡ spot at.line (at.column + 2) = walked-bytes width count at 2 (c ∷ cs) is h in
+      let there : front ≡ point_at at.line (at.column + 2) = walked-bytes width count at 2 (c ∷ cs) is h in
       let text : IsTextAt width count front rest = text-walked width count at 2 (c ∷ cs) is in
       let n : ℕ = count_before region.Verbatim 0 rest in
       let last : ℕ = two_if (has_end_code (drop n rest)) in
       let es : List Token = verbatim_tokens rest in
       let line : at.line ≡ front.line = sym (ap (λ (p : Point). p.line) there) in
       let column : front.column ≡ at.column + 2 = ap (λ (p : Point). p.column) there in
-      let ordered : StandInOrder width count true front es true (walked (walked front n rest) last (drop n rest)) =
+      let ordered : AreInOrder width count true front es true (walked (walked front n rest) last (drop n rest)) =
       verbatim_tokens-in_order front rest (omega (arith, column)) text in
       let sum : 1 + (1 + n + last) ≡ 2 + (n + last) = omega arith in
       let to : walked at (1 + (1 + n + last)) (c ∷ cs) ≡ walked (walked front n rest) last (drop n rest) =
       ap (λ k. walked at k (c ∷ cs)) sum ∙ walked-add at 2 (n + last) (c ∷ cs) ∙ walked-add front n last rest in
-      subst (λ p. StandInOrder width count true at es true p) (sym to)
+      subst (λ p. AreInOrder width count true at es true p) (sym to)
       (in_order-after width count true true at front es true (walked (walked front n rest) last (drop n rest)) (line, omega (arith, column)) ordered)

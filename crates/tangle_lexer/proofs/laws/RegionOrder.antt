@@ -12,8 +12,8 @@ use Rattle.tangle_lexer.specs.Text.{Cell, byte_at}
 use Rattle.tangle_lexer.specs.Regions.{unit_of, unit_at, count_by, more_by, count_before, from_units, unless_stop}
 use Rattle.tangle_lexer.specs.Lexemes.{fault_if, line_end_by}
 use Rattle.tangle_lexer.specs.Comments.{unit_line_end, line_ends, two_if}
-use Rattle.tangle_lexer.proofs.laws.Points.{Point, spot, PrecedesOnLine, IsByte, behind_by, behind, walked, HoldsBytes, IsCellAt, IsTextAt, behind-byte, walked-bytes}
-use Rattle.tangle_lexer.proofs.laws.TokenOrder.{StandInOrder, in_order-after}
+use Rattle.tangle_lexer.proofs.laws.Points.{Point, point_at, PrecedesOnLine, IsByte, behind_by, behind, walked, HoldsBytes, IsCellAt, IsTextAt, behind-byte, walked-bytes}
+use Rattle.tangle_lexer.proofs.laws.TokenOrder.{AreInOrder, in_order-after}
 
 -- counting
 
@@ -41,9 +41,9 @@ drop-add (suc m) n (c ∷ cs) =
 
 -- bytes
 
-pub holds-byte : (wanted : ℕ) (b : Option ℕ) → holds wanted b ≡ true → IsByte b
-holds-byte wanted None h = cc
-holds-byte wanted (Some b) h = tt
+pub holds-byte : (expected : ℕ) (b : Option ℕ) → holds expected b ≡ true → IsByte b
+holds-byte expected None h = cc
+holds-byte expected (Some b) h = tt
 
 pub both : (a b : Bool) → (a && b) ≡ true → (a ≡ true) × (b ≡ true)
 both true true h = (refl, refl)
@@ -55,7 +55,7 @@ two-bytes [] h k = absurd h
 two-bytes (c ∷ []) h k = absurd k
 two-bytes (c ∷ d ∷ cs) h k = (h, (k, tt))
 
--- two bytes where two bytes are wanted
+-- two bytes where two bytes are needed
 pub are-bytes : (first second : ℕ) (text : List Cell) → are first second (byte_at 0 text) (byte_at 1 text) ≡ true → HoldsBytes 2 text
 are-bytes first second text h =
     let k = both (holds first (byte_at 0 text)) (holds second (byte_at 1 text)) h in
@@ -73,7 +73,7 @@ pub goes-byte : (r : Region) → ((n : Option ℕ) → unit_of r None n ≡ unit
 goes-byte r stops None n u e go = absurd (go (sym e ∙ stops n))
 goes-byte r stops (Some b) n u e go = tt
 
--- a region that line ends end stands on one line
+-- a region that line ends end is on one line
 pub region-bytes : (r : Region) → ((n : Option ℕ) → unit_of r None n ≡ unit.Stop) → ((b n : Option ℕ) → unit_of r b n ≡ unit.Two → IsByte n)
     → (text : List Cell) → HoldsBytes (count_before r 0 text) text
 region-bytes r stops stays [] = tt
@@ -96,7 +96,7 @@ region-bytes r stops stays (c ∷ d ∷ cs) = by (unit_at r (c ∷ d ∷ cs)) re
 
 module _ (width : ℕ → ℕ) (count : ℕ) where
   -- faults take no place
-  pub faults-in_order : (b : Bool) (kind : FaultKind) (line : ℕ) (at to : Point) → PrecedesOnLine at to → StandInOrder width count true at (fault_if b kind line) true to
+  pub faults-in_order : (b : Bool) (kind : FaultKind) (line : ℕ) (at to : Point) → PrecedesOnLine at to → AreInOrder width count true at (fault_if b kind line) true to
   faults-in_order true kind line at to h = h
   faults-in_order false kind line at to h = h
 
@@ -104,7 +104,7 @@ module _ (width : ℕ → ℕ) (count : ℕ) where
   pub bytes-precede : (at : Point) (n : ℕ) (text : List Cell) → IsTextAt width count at text → HoldsBytes n text → PrecedesOnLine at (walked at n text)
   bytes-precede at n text is h = rw (walked-bytes width count at n text is h) (refl, omega arith)
 
-  -- two bytes behind a region, if its end stands there
+  -- two bytes behind a region, if its end is there
   pub end-precedes : (b : Bool) (at : Point) (text : List Cell) → IsTextAt width count at text → (b ≡ true → HoldsBytes 2 text) → PrecedesOnLine at (walked at (two_if b) text)
   end-precedes true at text is h = bytes-precede at 2 text is (h refl)
   end-precedes false at text is h = (refl, omega arith)
@@ -112,24 +112,24 @@ module _ (width : ℕ → ℕ) (count : ℕ) where
   byte-goes : (at : Point) (c : Cell) → IsCellAt width count at c → IsByte c.byte → PrecedesOnLine at (behind c)
   byte-goes at c is h = rw (behind-byte c h) (sym is.line, omega (arith, is.column))
 
-  -- a byte, or a line end that tells itself
-  cell-in_order : (at : Point) (c : Cell) (es : List Token) (to : Point) → IsCellAt width count at c → StandInOrder width count true (behind c) es true to
-      → StandInOrder width count true at (line_end_by c.byte c.line ++ es) true to
+  -- a byte, or a line end that is passed on itself
+  cell-in_order : (at : Point) (c : Cell) (es : List Token) (to : Point) → IsCellAt width count at c → AreInOrder width count true (behind c) es true to
+      → AreInOrder width count true at (line_end_by c.byte c.line ++ es) true to
   cell-in_order at c es to is ordered = by c.byte (byte-goes at c is) ordered
     where
-      by : (b : Option ℕ) → (IsByte b → PrecedesOnLine at (behind_by b c)) → StandInOrder width count true (behind_by b c) es true to
-          → StandInOrder width count true at (cond (is_line_end b) (token.LineEnd c.line ∷ []) [] ++ es) true to
+      by : (b : Option ℕ) → (IsByte b → PrecedesOnLine at (behind_by b c)) → AreInOrder width count true (behind_by b c) es true to
+          → AreInOrder width count true at (cond (is_line_end b) (token.LineEnd c.line ∷ []) [] ++ es) true to
       by None goes ordered = (is.line, ordered)
-      by (Some b) goes ordered = in_order-after width count true true at (spot c.line (c.column + 1)) es true to (goes tt) ordered
+      by (Some b) goes ordered = in_order-after width count true true at (point_at c.line (c.column + 1)) es true to (goes tt) ordered
 
   -- The line ends of a region lie in it, where none is taken with a byte before it.
   pub line_ends-in_order : (r : Region) → ((b n : Option ℕ) → unit_of r b n ≡ unit.Two → IsByte n) → (at : Point) (text : List Cell) → IsTextAt width count at text
-      → StandInOrder width count true at (line_ends r text) true (walked at (count_before r 0 text) text)
+      → AreInOrder width count true at (line_ends r text) true (walked at (count_before r 0 text) text)
   line_ends-in_order r stays at [] is = (refl, omega arith)
   line_ends-in_order r stays at (c ∷ []) is = by (unit_at r (c ∷ [])) refl
     where
       by : (u : Unit-of) → unit_at r (c ∷ []) ≡ u
-          → StandInOrder width count true at (unless_stop u (unit_line_end u c None ++ from_units unit_line_end r (more_by u) [])) true (walked at (count_by u (count_before r (more_by u) [])) (c ∷ []))
+          → AreInOrder width count true at (unless_stop u (unit_line_end u c None ++ from_units unit_line_end r (more_by u) [])) true (walked at (count_by u (count_before r (more_by u) [])) (c ∷ []))
       by unit.Stop e = (refl, omega arith)
       by unit.One e = cell-in_order at c [] (behind c) is.0 (refl, omega arith)
       by unit.Two e = absurd (stays c.byte None e)
@@ -137,9 +137,9 @@ module _ (width : ℕ → ℕ) (count : ℕ) where
       by (unit_at r (c ∷ d ∷ cs)) refl (line_ends-in_order r stays (behind c) (d ∷ cs) is.1) (line_ends-in_order r stays (behind d) cs is.1.1)
     where
       by : (u : Unit-of) → unit_at r (c ∷ d ∷ cs) ≡ u
-          → StandInOrder width count true (behind c) (from_units unit_line_end r 0 (d ∷ cs)) true (walked (behind c) (count_before r 0 (d ∷ cs)) (d ∷ cs))
-          → StandInOrder width count true (behind d) (from_units unit_line_end r 0 cs) true (walked (behind d) (count_before r 0 cs) cs)
-          → StandInOrder width count true at (unless_stop u (unit_line_end u c d.byte ++ from_units unit_line_end r (more_by u) (d ∷ cs))) true (walked at (count_by u (count_before r (more_by u) (d ∷ cs))) (c ∷ d ∷ cs))
+          → AreInOrder width count true (behind c) (from_units unit_line_end r 0 (d ∷ cs)) true (walked (behind c) (count_before r 0 (d ∷ cs)) (d ∷ cs))
+          → AreInOrder width count true (behind d) (from_units unit_line_end r 0 cs) true (walked (behind d) (count_before r 0 cs) cs)
+          → AreInOrder width count true at (unless_stop u (unit_line_end u c d.byte ++ from_units unit_line_end r (more_by u) (d ∷ cs))) true (walked at (count_by u (count_before r (more_by u) (d ∷ cs))) (c ∷ d ∷ cs))
       by unit.Stop e one two = (refl, omega arith)
       by unit.One e one two =
           rw (walked-more at c (d ∷ cs) (count_before r 0 (d ∷ cs)))

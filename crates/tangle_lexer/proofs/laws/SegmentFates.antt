@@ -1,4 +1,4 @@
--- The segments of a text stand side by side and fill it, and each shows what it is.
+-- The segments of a text are side by side and fill it, and each shows what it is.
 use Rattle.std.proofs.Common.{◌≡◌, ◌<◌, ◌≤◌, ℕ, zero, suc, ◌+◌, Bool, true, false, not, ◌&&◌, ◌||◌, List, [], ◌∷◌, ◌++◌, length, take, drop, flat_map, Option, Some, None, inl, inr, refl, ap, sym, ◌∙◌, arith, append-nil, cond, ◌==◌, if◌then◌else◌, ◌-◌, subst}
 use Rattle.std.proofs.Math.Seq.{take-add}
 use Rattle.std.proofs.lemmas.Grind.{flat_map-append}
@@ -16,7 +16,7 @@ use Rattle.tangle_lexer.specs.declared.token_kinds.ControlCode.TheVariants as co
 use Rattle.tangle_lexer.specs.declared.token_kinds.TokenKind.{TokenKind}
 use Rattle.tangle_lexer.specs.declared.token_kinds.TokenKind.TheVariants as token_kind
 use Rattle.tangle_lexer.specs.declared.regions.Region.TheVariants as region
-use Rattle.tangle_lexer.specs.declared.constants.Constant.{Constant}
+use Rattle.tangle_lexer.specs.declared.constants.AsciiConstant.{AsciiConstant}
 use Rattle.tangle_lexer.specs.declared.regions.Unit.TheVariants as unit
 use Rattle.tangle_lexer.specs.Bytes.{at_sign, asterisk, slash, less_sign, left_parenthesis, equals_sign, double_quote, apostrophe, greater_sign, holds, is_line_end, is_space, is_word_byte, are, is_between, lower, is_blank, is_section_start}
 use Rattle.tangle_lexer.specs.Text.{Cell, byte_at}
@@ -26,7 +26,7 @@ use Rattle.tangle_lexer.specs.Comments.{has_end_code, two_if, ends_comment, bloc
 use Rattle.tangle_lexer.specs.Constants.{constant_at, constant_lexeme}
 use Rattle.tangle_lexer.specs.Steps.{code_at, less_kind, byte_kind, kind_by, kind_of, c_code, c_lexeme, lexeme_in, lexeme}
 use Rattle.tangle_lexer.specs.Segments.{Segment, segment, ShowsFate, OpensWith, text_segments, verbatim_segments, code_segments, c_segments, segments_in, segments, IsBlockComment, IsLineComment}
-use Rattle.tangle_lexer.specs.Segments.Fate.{Kept, SecondSign, LineEnd, WhiteSpace, Code}
+use Rattle.tangle_lexer.specs.Segments.Fate.{Kept, SecondSign, LineEnd, WhiteSpace, ControlBytes}
 use Rattle.tangle_lexer.proofs.laws.ConstantOrder.{byte_at-drop}
 use Rattle.tangle_lexer.specs.declared.regions.Unit.{Unit as Unit-of}
 use Rattle.tangle_lexer.proofs.laws.Points.{IsByte, HoldsBytes}
@@ -51,14 +51,14 @@ verbatim-fills text =
     let last : ℕ = two_if (has_end_code behind) in
     let sum : 1 + (1 + inside + last) ≡ 2 + (inside + last) = omega arith in
     ap (λ xs. take 2 text ++ xs)
-    (flat_map-append (λ s. s.cells) (text_segments false (take inside (drop 2 text))) (if has_end_code behind then segment Code (take 2 behind) ∷ [] else [])
-    ∙ ap (λ xs. xs ++ cells_of (if has_end_code behind then segment Code (take 2 behind) ∷ [] else [])) (text-fills false (take inside (drop 2 text)))
+    (flat_map-append (λ s. s.cells) (text_segments false (take inside (drop 2 text))) (if has_end_code behind then segment ControlBytes (take 2 behind) ∷ [] else [])
+    ∙ ap (λ xs. xs ++ cells_of (if has_end_code behind then segment ControlBytes (take 2 behind) ∷ [] else [])) (text-fills false (take inside (drop 2 text)))
     ∙ ap (λ xs. take inside (drop 2 text) ++ xs) (by (has_end_code behind) behind)
     ∙ sym (take-add inside last (drop 2 text)))
     ∙ sym (take-add 2 (inside + last) text)
     ∙ sym (ap (λ n. take n text) sum)
   where
-    by : (b : Bool) (cells : List Cell) → cells_of (if b then segment Code (take 2 cells) ∷ [] else []) ≡ take (two_if b) cells
+    by : (b : Bool) (cells : List Cell) → cells_of (if b then segment ControlBytes (take 2 cells) ∷ [] else []) ≡ take (two_if b) cells
     by true cells = append-nil (take 2 cells)
     by false cells = refl
 
@@ -83,7 +83,7 @@ lexeme-fills s text = by s.mode
     by : (m : Mode) → cells_of (segments_in m s (1 + (lexeme_in m s text).more) text) ≡ take (1 + (lexeme_in m s text).more) text
     by mode.Limbo = append-nil (take (1 + (lexeme_in mode.Limbo s text).more) text)
     by mode.Documentation = append-nil (take (1 + (lexeme_in mode.Documentation s text).more) text)
-    by mode.Code = c-fills (kind_of s.include text) s text
+    by mode.CPart = c-fills (kind_of s.include text) s text
     by mode.Macro = append-nil (take (1 + (lexeme_in mode.Macro s text).more) text)
 
 pub segments-fill : (k : ℕ) (s : ScanState) (text : List Cell) → cells_of (segments k s text) ≡ drop k text
@@ -156,8 +156,8 @@ second-sign (Some n) e =
     (either P (m == 94 || m == 46 || m == 58 || m == 116 || m == 113) code.ControlText _ (λ h k. cc)
     (either P (m == equals_sign) code.Verbatim _ (λ h k. cc)
     (either P (m == 38) code.Join _ (λ h k. cc)
-    (either P (m == 104) code.Defs _ (λ h k. cc)
-    (either P (m == apostrophe) code.Constant code.Other (λ h k. cc) (λ k. cc))))))))))) e)
+    (either P (m == 104) code.AllMacros _ (λ h k. cc)
+    (either P (m == apostrophe) code.AsciiConstant code.Other (λ h k. cc) (λ k. cc))))))))))) e)
   where
     small : (b : Bool) → is_between 65 90 n ≡ b → ((if b then n + 32 else n) == at_sign) ≡ true → (n == at_sign) ≡ true
     small false e h = h
@@ -185,7 +185,7 @@ length-taken (suc n) (c ∷ cs) = let h = length-taken n cs in omega (arith, h)
 opens-taken : (kind : ControlCode) (n : ℕ) (text : List Cell) → 1 < n → OpensWith kind text → OpensWith kind (take n text)
 opens-taken kind n text h o = rw (byte-take 0 n text (omega (arith, h)), byte-take 1 n text h) o
 
-code-taken : (n : ℕ) (text : List Cell) → 0 < n → n ≤ 2 → holds at_sign (byte_at 0 text) ≡ true → ShowsFate Code (take n text)
+code-taken : (n : ℕ) (text : List Cell) → 0 < n → n ≤ 2 → holds at_sign (byte_at 0 text) ≡ true → ShowsFate ControlBytes (take n text)
 code-taken n text h k sign =
     let l = length-taken n text in
     (ap (holds at_sign) (byte-take 0 n text h) ∙ sign, omega (arith, l, k))
@@ -210,7 +210,7 @@ comment-goes b n u e go = by (are asterisk slash b n) (is_section_start b n) (ho
     by true y s u e go = absurd (go (sym e))
     by false y s u e go = refl
 
--- a code in a comment does not hide its end
+-- a control code in a comment does not hide its end
 comment-second : (b n : Option ℕ) → unit_of region.Comment b n ≡ unit.Two → holds asterisk n ≡ false
 comment-second b n e = by (are asterisk slash b n) (holds at_sign b) (is_blank n) (holds asterisk n) e
   where
@@ -309,14 +309,14 @@ verbatim-shows text sign =
     let inside : ℕ = count_before region.Verbatim 0 (drop 2 text) in
     let behind : List Cell = drop inside (drop 2 text) in (
       code-taken 2 text (omega arith) (omega arith) sign,
-      shows-append (text_segments false (take inside (drop 2 text))) (if has_end_code behind then segment Code (take 2 behind) ∷ [] else []) (text-shows false (take inside (drop 2 text))) (by (has_end_code behind) behind refl),
+      shows-append (text_segments false (take inside (drop 2 text))) (if has_end_code behind then segment ControlBytes (take 2 behind) ∷ [] else []) (text-shows false (take inside (drop 2 text))) (by (has_end_code behind) behind refl),
     )
   where
-    by : (b : Bool) (cells : List Cell) → has_end_code cells ≡ b → AllShow (if b then segment Code (take 2 cells) ∷ [] else [])
+    by : (b : Bool) (cells : List Cell) → has_end_code cells ≡ b → AllShow (if b then segment ControlBytes (take 2 cells) ∷ [] else [])
     by true cells e = (code-taken 2 cells (omega arith) (omega arith) (both (holds at_sign (byte_at 0 cells)) (holds greater_sign (byte_at 1 cells)) e).0, tt)
     by false cells e = tt
 
-constant-long : (k : Option Constant) (s : ScanState) (text : List Cell) → 1 < 1 + (constant_lexeme k s text).more
+constant-long : (k : Option AsciiConstant) (s : ScanState) (text : List Cell) → 1 < 1 + (constant_lexeme k s text).more
 constant-long None s text = omega arith
 constant-long (Some k) s text = omega arith
 
@@ -334,8 +334,8 @@ code-shows code.DoubleAt s c cs o = signs-shows c cs o
 code-shows code.Verbatim s c cs o = verbatim-shows (c ∷ cs) o.0
 code-shows code.ControlText s c cs o = (opens-taken code.ControlText (1 + (c_code code.ControlText s (c ∷ cs)).more) (c ∷ cs) (omega arith) o, tt)
 code-shows code.Name s c cs o = (opens-taken code.Name (1 + (c_code code.Name s (c ∷ cs)).more) (c ∷ cs) (omega arith) o, tt)
-code-shows code.Constant s c cs o =
-    (opens-taken code.Constant (1 + (c_code code.Constant s (c ∷ cs)).more) (c ∷ cs) (constant-long (constant_at (drop 1 cs)) s (c ∷ cs)) o, tt)
+code-shows code.AsciiConstant s c cs o =
+    (opens-taken code.AsciiConstant (1 + (c_code code.AsciiConstant s (c ∷ cs)).more) (c ∷ cs) (constant-long (constant_at (drop 1 cs)) s (c ∷ cs)) o, tt)
 code-shows kind s c cs o = (code-taken (1 + (c_code kind s (c ∷ cs)).more) (c ∷ cs) (omega arith) (omega arith) o.0, tt)
 
 kind-shows : (kind : TokenKind) (s : ScanState) (c : Cell) (cs : List Cell) → Cells kind c.byte (byte_at 0 cs) → Opens kind c.byte (byte_at 0 cs)
@@ -362,7 +362,7 @@ lexeme-shows s c cs = by s.mode
     by : (m : Mode) → AllShow (segments_in m s (1 + (lexeme_in m s (c ∷ cs)).more) (c ∷ cs))
     by mode.Limbo = (tt, tt)
     by mode.Documentation = (tt, tt)
-    by mode.Code =
+    by mode.CPart =
         kind-shows (kind_of s.include (c ∷ cs)) s c cs (kind-cells s.include c.byte (byte_at 0 cs)) (kind-opens s.include c.byte (byte_at 0 cs))
     by mode.Macro = (tt, tt)
 

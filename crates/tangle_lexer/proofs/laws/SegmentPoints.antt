@@ -1,4 +1,4 @@
--- The bytes of cells and of ranges: where they stand.
+-- The bytes of cells and of ranges: where they are.
 use Rattle.std.proofs.Common.{◌≡◌, ℕ, zero, suc, ◌+◌, ◌-◌, ◌≤◌, Bool, true, false, List, [], ◌∷◌, ◌++◌, take, Option, Some, None, refl, ap, sym, ◌∙◌, arith, append_assoc, cond}
 use Rattle.std.specs.Prelude.{nat_lt}
 use Rattle.std.proofs.lemmas.Bool.{ltb-false}
@@ -68,7 +68,7 @@ cut-points r line start end es = by (nat_lt start end) refl
         sym (ap (λ n. columns_from line start n ++ token_points es) none)
 
 module _ (width : ℕ → ℕ) (count : ℕ) where
-  -- bytes of a line stand in its columns
+  -- bytes of a line are in its columns
   pub bytes-columns : (at : Point) (n : ℕ) (text : List Cell) → IsTextAt width count at text → HoldsBytes n text
       → byte_points (take n text) ≡ columns_from at.line at.column n
   bytes-columns at zero text is h = refl

@@ -1,10 +1,10 @@
--- The tokens of a text lie in it: each between what stands before and behind it.
+-- The tokens of a text lie in it: each between what is before and behind it.
 use Rattle.std.proofs.Common.{◌≡◌, ℕ, ◌+◌, ◌<◌, ◌≤◌, Bool, true, false, List, [], ◌∷◌, ◌++◌, inl, inr, refl, sym, ◌∙◌, arith, subst, if◌then◌else◌, ◌==◌}
 use Rattle.std.proofs.lemmas.Bool.Decides.{eqb_tells}
 use Rattle.tangle_lexer.specs.declared.spans.Span.{Span}
 use Rattle.tangle_lexer.specs.declared.tokens.Token.{Token}
 use Rattle.tangle_lexer.specs.declared.tokens.Token.TheVariants as token
-use Rattle.tangle_lexer.proofs.laws.Points.{Point, spot, Precedes, PrecedesOnLine, precedes-trans}
+use Rattle.tangle_lexer.proofs.laws.Points.{Point, point_at, Precedes, PrecedesOnLine, precedes-trans}
 
 -- C text and macros are read inside; the text between them, which has heads and faults alone, outside.
 
@@ -20,11 +20,11 @@ GoesOn false true at to = ⊥
 GoesOn from false at to = Precedes at to
 
 abbrev pub span_end : Span → Point
-span_end s = spot s.line s.end
+span_end s = point_at s.line s.end
 
 -- at a line that is read further on; on the same line the column stays
 abbrev pub jumped : Point → ℕ → Point
-jumped at line = spot line (if line == at.line then at.column else 0)
+jumped at line = point_at line (if line == at.line then at.column else 0)
 
 -- a range of a line of the source, on the line of a place and not before it
 pub record IsFrom (width : ℕ → ℕ) (count : ℕ) (at : Point) (s : Span) : Type 0 where
@@ -36,20 +36,20 @@ pub record IsFrom (width : ℕ → ℕ) (count : ℕ) (at : Point) (s : Span) : 
 
 module _ (width : ℕ → ℕ) (count : ℕ) where
   -- The tokens lie between two places, in this order; the flags say whether the text at these places is read inside. Inside, line ends
-  -- alone go on to another line, and names, which may stand over lines.
-  abbrev pub StandInOrder : Bool → Point → List Token → Bool → Point → Type 0
-  StandInOrder from at [] stays to = GoesOn from stays at to
-  StandInOrder from at (token.Section ∷ es) stays to = StandInOrder false at es stays to
-  StandInOrder from at (token.MacroStart line ∷ es) stays to = (at.line ≤ line) × StandInOrder true (jumped at line) es stays to
-  StandInOrder from at (token.UnnamedPart line ∷ es) stays to = (at.line ≤ line) × StandInOrder true (jumped at line) es stays to
-  StandInOrder from at (token.NamedPart name line ∷ es) stays to = (at.line ≤ line) × StandInOrder true (jumped at line) es stays to
-  StandInOrder from at (token.Text kind s ∷ es) stays to = Inside from (IsFrom width count at s × StandInOrder true (span_end s) es stays to)
-  StandInOrder from at (token.Constant value line ∷ es) stays to = Inside from ((line ≡ at.line) × ((at.line < count) × StandInOrder true at es stays to))
-  StandInOrder from at (token.LineEnd line ∷ es) stays to = Inside from ((line ≡ at.line) × StandInOrder true (spot (line + 1) 0) es stays to)
-  StandInOrder from at (token.QuoteBreak ∷ es) stays to = Inside from (StandInOrder true (spot (at.line + 1) 0) es stays to)
-  StandInOrder from at (token.UseOf name line ∷ es) stays to = Inside from ((at.line ≤ line) × StandInOrder true (jumped at line) es stays to)
-  StandInOrder from at (token.Defs line ∷ es) stays to = Inside from ((line ≡ at.line) × StandInOrder true at es stays to)
-  StandInOrder from at (_ ∷ es) stays to = StandInOrder from at es stays to
+  -- alone go on to another line, and names, which may be over lines.
+  abbrev pub AreInOrder : Bool → Point → List Token → Bool → Point → Type 0
+  AreInOrder from at [] stays to = GoesOn from stays at to
+  AreInOrder from at (token.Section ∷ es) stays to = AreInOrder false at es stays to
+  AreInOrder from at (token.MacroStart line ∷ es) stays to = (at.line ≤ line) × AreInOrder true (jumped at line) es stays to
+  AreInOrder from at (token.UnnamedPart line ∷ es) stays to = (at.line ≤ line) × AreInOrder true (jumped at line) es stays to
+  AreInOrder from at (token.NamedPart name line ∷ es) stays to = (at.line ≤ line) × AreInOrder true (jumped at line) es stays to
+  AreInOrder from at (token.Text kind s ∷ es) stays to = Inside from (IsFrom width count at s × AreInOrder true (span_end s) es stays to)
+  AreInOrder from at (token.AsciiConstant value line ∷ es) stays to = Inside from ((line ≡ at.line) × ((at.line < count) × AreInOrder true at es stays to))
+  AreInOrder from at (token.LineEnd line ∷ es) stays to = Inside from ((line ≡ at.line) × AreInOrder true (point_at (line + 1) 0) es stays to)
+  AreInOrder from at (token.QuoteBreak ∷ es) stays to = Inside from (AreInOrder true (point_at (at.line + 1) 0) es stays to)
+  AreInOrder from at (token.UseOf name line ∷ es) stays to = Inside from ((at.line ≤ line) × AreInOrder true (jumped at line) es stays to)
+  AreInOrder from at (token.AllMacros line ∷ es) stays to = Inside from ((line ≡ at.line) × AreInOrder true at es stays to)
+  AreInOrder from at (_ ∷ es) stays to = AreInOrder from at es stays to
 
   inside-after : (from to : Bool) (a at : Point) (A B : Type 0) → GoesOn from to a at → Inside to A → (PrecedesOnLine a at → A → B) → Inside from B
   inside-after true true a at A B near x f = f near x
@@ -95,7 +95,7 @@ module _ (width : ℕ → ℕ) (count : ℕ) where
   }
 
   -- tokens behind a part of the text that has none
-  pub in_order-after : (from mid : Bool) (a at : Point) (es : List Token) (stays : Bool) (to : Point) → GoesOn from mid a at → StandInOrder mid at es stays to → StandInOrder from a es stays to
+  pub in_order-after : (from mid : Bool) (a at : Point) (es : List Token) (stays : Bool) (to : Point) → GoesOn from mid a at → AreInOrder mid at es stays to → AreInOrder from a es stays to
   in_order-after from mid a at [] stays to near ordered = goes-trans from mid stays a at to near ordered
   in_order-after from mid a at (token.Section ∷ es) stays to near ordered = in_order-after false false a at es stays to (goes-precedes from mid a at near) ordered
   in_order-after from mid a at (token.MacroStart line ∷ es) stays to near ordered =
@@ -108,17 +108,17 @@ module _ (width : ℕ → ℕ) (count : ℕ) where
       let p = goes-precedes from mid a at near in
       (omega (arith, p.0, ordered.0), in_order-after true true (jumped a line) (jumped at line) es stays to (jump-goes a at line p ordered.0) ordered.1)
   in_order-after from mid a at (token.Text kind s ∷ es) stays to near ordered = inside-after from mid a at _ _ near ordered (λ n l. (is-from a at s n l.0, l.1))
-  in_order-after from mid a at (token.Constant value line ∷ es) stays to near ordered =
+  in_order-after from mid a at (token.AsciiConstant value line ∷ es) stays to near ordered =
       inside-after from mid a at _ _ near ordered (λ n l. (l.0 ∙ sym n.0, (omega (arith, n.0, l.1.0), in_order-after true true a at es stays to n l.1.1)))
   in_order-after from mid a at (token.LineEnd line ∷ es) stays to near ordered = inside-after from mid a at _ _ near ordered (λ n l. (l.0 ∙ sym n.0, l.1))
   in_order-after from mid a at (token.QuoteBreak ∷ es) stays to near ordered =
-      inside-after from mid a at _ _ near ordered (λ n l. subst (λ x. StandInOrder true (spot (x + 1) 0) es stays to) (sym n.0) l)
+      inside-after from mid a at _ _ near ordered (λ n l. subst (λ x. AreInOrder true (point_at (x + 1) 0) es stays to) (sym n.0) l)
   in_order-after from mid a at (token.UseOf name line ∷ es) stays to near ordered =
       inside-after from mid a at _ _ near ordered (λ n l. (
         omega (arith, n.0, l.0),
         in_order-after true true (jumped a line) (jumped at line) es stays to (jump-goes a at line (goes-precedes true true a at n) l.0) l.1,
       ))
-  in_order-after from mid a at (token.Defs line ∷ es) stays to near ordered =
+  in_order-after from mid a at (token.AllMacros line ∷ es) stays to near ordered =
       inside-after from mid a at _ _ near ordered (λ n l. (l.0 ∙ sym n.0, in_order-after true true a at es stays to n l.1))
   in_order-after from mid a at (_ ∷ es) stays to near ordered = in_order-after from mid a at es stays to near ordered
 
@@ -128,16 +128,16 @@ module _ (width : ℕ → ℕ) (count : ℕ) where
 
   -- tokens after tokens
   pub in_order-append : (from : Bool) (at : Point) (es : List Token) (mid : Bool) (p : Point) (fs : List Token) (stays : Bool) (to : Point)
-      → StandInOrder from at es mid p → StandInOrder mid p fs stays to → StandInOrder from at (es ++ fs) stays to
+      → AreInOrder from at es mid p → AreInOrder mid p fs stays to → AreInOrder from at (es ++ fs) stays to
   in_order-append from at [] mid p fs stays to ordered rest = in_order-after from mid at p fs stays to ordered rest
   in_order-append from at (token.Section ∷ es) mid p fs stays to ordered rest = in_order-append false at es mid p fs stays to ordered rest
   in_order-append from at (token.MacroStart line ∷ es) mid p fs stays to ordered rest = (ordered.0, in_order-append true (jumped at line) es mid p fs stays to ordered.1 rest)
   in_order-append from at (token.UnnamedPart line ∷ es) mid p fs stays to ordered rest = (ordered.0, in_order-append true (jumped at line) es mid p fs stays to ordered.1 rest)
   in_order-append from at (token.NamedPart name line ∷ es) mid p fs stays to ordered rest = (ordered.0, in_order-append true (jumped at line) es mid p fs stays to ordered.1 rest)
   in_order-append from at (token.Text kind s ∷ es) mid p fs stays to ordered rest = inside-map from _ _ ordered (λ l. (l.0, in_order-append true (span_end s) es mid p fs stays to l.1 rest))
-  in_order-append from at (token.Constant value line ∷ es) mid p fs stays to ordered rest = inside-map from _ _ ordered (λ l. (l.0, (l.1.0, in_order-append true at es mid p fs stays to l.1.1 rest)))
-  in_order-append from at (token.LineEnd line ∷ es) mid p fs stays to ordered rest = inside-map from _ _ ordered (λ l. (l.0, in_order-append true (spot (line + 1) 0) es mid p fs stays to l.1 rest))
-  in_order-append from at (token.QuoteBreak ∷ es) mid p fs stays to ordered rest = inside-map from _ _ ordered (λ l. in_order-append true (spot (at.line + 1) 0) es mid p fs stays to l rest)
+  in_order-append from at (token.AsciiConstant value line ∷ es) mid p fs stays to ordered rest = inside-map from _ _ ordered (λ l. (l.0, (l.1.0, in_order-append true at es mid p fs stays to l.1.1 rest)))
+  in_order-append from at (token.LineEnd line ∷ es) mid p fs stays to ordered rest = inside-map from _ _ ordered (λ l. (l.0, in_order-append true (point_at (line + 1) 0) es mid p fs stays to l.1 rest))
+  in_order-append from at (token.QuoteBreak ∷ es) mid p fs stays to ordered rest = inside-map from _ _ ordered (λ l. in_order-append true (point_at (at.line + 1) 0) es mid p fs stays to l rest)
   in_order-append from at (token.UseOf name line ∷ es) mid p fs stays to ordered rest = inside-map from _ _ ordered (λ l. (l.0, in_order-append true (jumped at line) es mid p fs stays to l.1 rest))
-  in_order-append from at (token.Defs line ∷ es) mid p fs stays to ordered rest = inside-map from _ _ ordered (λ l. (l.0, in_order-append true at es mid p fs stays to l.1 rest))
+  in_order-append from at (token.AllMacros line ∷ es) mid p fs stays to ordered rest = inside-map from _ _ ordered (λ l. (l.0, in_order-append true at es mid p fs stays to l.1 rest))
   in_order-append from at (_ ∷ es) mid p fs stays to ordered rest = in_order-append from at es mid p fs stays to ordered rest

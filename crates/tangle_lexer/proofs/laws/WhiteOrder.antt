@@ -14,8 +14,8 @@ use Rattle.tangle_lexer.specs.Lexemes.{fault_if}
 use Rattle.tangle_lexer.specs.Comments.{line_ends, ends_comment, has_end_code, two_if, block_comment, line_comment, control_text}
 use Rattle.tangle_lexer.specs.Constants.{bad_constant}
 use Rattle.tangle_lexer.specs.Steps.{word, white_space, misplaced_code}
-use Rattle.tangle_lexer.proofs.laws.Points.{Point, spot, PrecedesOnLine, IsByte, walked, HoldsBytes, IsTextAt, text-walked, text-within, walked-bytes}
-use Rattle.tangle_lexer.proofs.laws.TokenOrder.{StandInOrder, IsFrom, in_order-append}
+use Rattle.tangle_lexer.proofs.laws.Points.{Point, point_at, PrecedesOnLine, IsByte, walked, HoldsBytes, IsTextAt, text-walked, text-within, walked-bytes}
+use Rattle.tangle_lexer.proofs.laws.TokenOrder.{AreInOrder, IsFrom, in_order-append}
 use Rattle.tangle_lexer.proofs.laws.RegionOrder.{walked-add, holds-byte, are-bytes, more-bytes, region-bytes, faults-in_order, bytes-precede, end-precedes, line_ends-in_order}
 
 never-two : (ends : Bool) → unit_by ends false ≡ unit.Two → ⊥
@@ -65,10 +65,10 @@ constant-bytes text = region-bytes region.BadConstant (λ n. refl) (λ b n h. ab
 pub line_comment-bytes : (text : List Cell) → HoldsBytes (count_before region.LineComment 0 text) text
 line_comment-bytes text = region-bytes region.LineComment (λ n. refl) line_comment-stays text
 
--- one byte more, where it stands there
-one-byte : (wanted : ℕ) (text : List Cell) → HoldsBytes (if holds wanted (byte_at 0 text) then 1 else 0) text
-one-byte wanted [] = tt
-one-byte wanted (c ∷ cs) = by (holds wanted c.byte) (holds-byte wanted c.byte)
+-- one byte more, where it is there
+one-byte : (expected : ℕ) (text : List Cell) → HoldsBytes (if holds expected (byte_at 0 text) then 1 else 0) text
+one-byte expected [] = tt
+one-byte expected (c ∷ cs) = by (holds expected c.byte) (holds-byte expected c.byte)
   where
     by : (b : Bool) → (b ≡ true → IsByte c.byte) → HoldsBytes (cond b 1 0) (c ∷ cs)
     by true h = (h refl, tt)
@@ -78,7 +78,7 @@ module _ (width : ℕ → ℕ) (count : ℕ) where
   -- a text with line ends in it, behind two bytes, perhaps with two bytes at its end
   region-in_order : (r : Region) → ((b n : Option ℕ) → unit_of r b n ≡ unit.Two → IsByte n) → (at : Point) (text : List Cell) (closed is_fault : Bool) (kind : FaultKind) (line : ℕ)
       → IsTextAt width count at text → HoldsBytes 2 text → (closed ≡ true → HoldsBytes 2 (drop (count_before r 0 (drop 2 text)) (drop 2 text)))
-      → StandInOrder width count true at (token.White ∷ line_ends r (drop 2 text) ++ fault_if is_fault kind line) true (walked at (1 + (1 + count_before r 0 (drop 2 text) + two_if closed)) text)
+      → AreInOrder width count true at (token.White ∷ line_ends r (drop 2 text) ++ fault_if is_fault kind line) true (walked at (1 + (1 + count_before r 0 (drop 2 text) + two_if closed)) text)
   region-in_order r stays at text closed is_fault kind line is front-bytes end =
       let rest : List Cell = drop 2 text in
       let inside : ℕ = count_before r 0 rest in
@@ -87,7 +87,7 @@ module _ (width : ℕ → ℕ) (count : ℕ) where
       let to : Point = walked back (two_if closed) (drop inside rest) in
       let is2 = text-walked width count at 2 text is in
       let is3 = text-walked width count front inside rest is2 in
-      let opened : StandInOrder width count true at (token.White ∷ []) true front = bytes-precede width count at 2 text is front-bytes in
+      let opened : AreInOrder width count true at (token.White ∷ []) true front = bytes-precede width count at 2 text is front-bytes in
       let lines = line_ends-in_order width count r stays front rest is2 in
       let faults = faults-in_order width count is_fault kind line back to (end-precedes width count closed back (drop inside rest) is3 end) in
       let all = in_order-append width count true at (token.White ∷ []) true front (line_ends r rest ++ fault_if is_fault kind line) true to opened
@@ -95,34 +95,34 @@ module _ (width : ℕ → ℕ) (count : ℕ) where
       let count_all : 1 + (1 + inside + two_if closed) ≡ 2 + (inside + two_if closed) = omega arith in
       let goes : walked at (1 + (1 + inside + two_if closed)) text ≡ to =
       ap (λ n. walked at n text) count_all ∙ walked-add at 2 (inside + two_if closed) text ∙ walked-add front inside (two_if closed) rest in
-      subst (λ p. StandInOrder width count true at (token.White ∷ line_ends r rest ++ fault_if is_fault kind line) true p) (sym goes) all
+      subst (λ p. AreInOrder width count true at (token.White ∷ line_ends r rest ++ fault_if is_fault kind line) true p) (sym goes) all
 
   pub block_comment-in_order : (s : ScanState) (at : Point) (text : List Cell) → IsTextAt width count at text → HoldsBytes 2 text
-      → StandInOrder width count true at (block_comment s text).tokens true (walked at (1 + (block_comment s text).more) text)
+      → AreInOrder width count true at (block_comment s text).tokens true (walked at (1 + (block_comment s text).more) text)
   block_comment-in_order s at text is h =
       let behind : List Cell = drop (count_before region.Comment 0 (drop 2 text)) (drop 2 text) in
       region-in_order region.Comment comment-stays at text (ends_comment behind) (not (ends_comment behind)) fault.CommentEnd (line_at s.last behind) is h (are-bytes asterisk slash behind)
 
   pub control_text-in_order : (s : ScanState) (at : Point) (text : List Cell) → IsTextAt width count at text → HoldsBytes 2 text
-      → StandInOrder width count true at (control_text s text).tokens true (walked at (1 + (control_text s text).more) text)
+      → AreInOrder width count true at (control_text s text).tokens true (walked at (1 + (control_text s text).more) text)
   control_text-in_order s at text is h =
       let behind : List Cell = drop (count_before region.ControlText 0 (drop 2 text)) (drop 2 text) in
       region-in_order region.ControlText control-stays at text (has_end_code behind) (not (has_end_code behind)) fault.ControlText (line_at s.last behind) is h (are-bytes at_sign greater_sign behind)
 
   -- white space on one line, with a fault
   pub white-in_order : (at : Point) (n : ℕ) (text : List Cell) (b : Bool) (kind : FaultKind) (line : ℕ) → IsTextAt width count at text → HoldsBytes n text
-      → StandInOrder width count true at (token.White ∷ fault_if b kind line) true (walked at n text)
+      → AreInOrder width count true at (token.White ∷ fault_if b kind line) true (walked at n text)
   white-in_order at n text b kind line is h = faults-in_order width count b kind line at (walked at n text) (bytes-precede width count at n text is h)
 
   pub line_comment-in_order : (s : ScanState) (at : Point) (text : List Cell) → IsTextAt width count at text → HoldsBytes 2 text
-      → StandInOrder width count true at (line_comment s text).tokens true (walked at (1 + (line_comment s text).more) text)
+      → AreInOrder width count true at (line_comment s text).tokens true (walked at (1 + (line_comment s text).more) text)
   line_comment-in_order s at text is h =
       let inside : ℕ = count_before region.LineComment 0 (drop 2 text) in
       let sum : 2 + inside ≡ 1 + (1 + inside) = omega arith in
       white-in_order at (1 + (1 + inside)) text _ fault.CommentEnd _ is (subst (λ n. HoldsBytes n text) sum (more-bytes 2 inside text h (line_comment-bytes (drop 2 text))))
 
   pub bad_constant-in_order : (s : ScanState) (at : Point) (text : List Cell) → IsTextAt width count at text → HoldsBytes 2 text
-      → StandInOrder width count true at (bad_constant s text).tokens true (walked at (1 + (bad_constant s text).more) text)
+      → AreInOrder width count true at (bad_constant s text).tokens true (walked at (1 + (bad_constant s text).more) text)
   bad_constant-in_order s at text is h =
       let rest : List Cell = drop 2 text in
       let inside : ℕ = count_before region.BadConstant 0 rest in
@@ -132,18 +132,18 @@ module _ (width : ℕ → ℕ) (count : ℕ) where
       (subst (λ n. HoldsBytes n text) sum (more-bytes 2 (inside + last) text h (more-bytes inside last rest (constant-bytes rest) (one-byte apostrophe (drop inside rest)))))
 
   pub misplaced_code-in_order : (s : ScanState) (at : Point) (text : List Cell) → IsTextAt width count at text → HoldsBytes 2 text
-      → StandInOrder width count true at (misplaced_code s text).tokens true (walked at (1 + (misplaced_code s text).more) text)
+      → AreInOrder width count true at (misplaced_code s text).tokens true (walked at (1 + (misplaced_code s text).more) text)
   misplaced_code-in_order s at text is h = white-in_order at 2 text true fault.CodeInC (line_at s.last text) is h
 
   pub white_space-in_order : (s : ScanState) (at : Point) (text : List Cell) → IsTextAt width count at text → HoldsBytes 1 text
-      → StandInOrder width count true at (white_space s text).tokens true (walked at (1 + (white_space s text).more) text)
+      → AreInOrder width count true at (white_space s text).tokens true (walked at (1 + (white_space s text).more) text)
   white_space-in_order s at text is h =
       let n : ℕ = count_before region.White 0 (drop 1 text) in
       bytes-precede width count at (1 + n) text is (more-bytes 1 n text h (white-bytes (drop 1 text)))
 
   -- bytes of a line are a range of it, and the text goes on behind them
   pub span-in_order : (at : Point) (n m : ℕ) (c : Cell) (cs : List Cell) → IsTextAt width count at (c ∷ cs) → HoldsBytes n (c ∷ cs) → HoldsBytes m (c ∷ cs) → n ≤ m
-      → IsFrom width count at (span_at n (c ∷ cs)) × PrecedesOnLine (spot c.line (c.column + n)) (walked at m (c ∷ cs))
+      → IsFrom width count at (span_at n (c ∷ cs)) × PrecedesOnLine (point_at c.line (c.column + n)) (walked at m (c ∷ cs))
   span-in_order at n m c cs is h k more =
       let within = text-within width count (walked at n (c ∷ cs)) (drop n (c ∷ cs)) (text-walked width count at n (c ∷ cs) is) in
       let inside = subst (λ (p : Point). p.column ≤ width p.line) (walked-bytes width count at n (c ∷ cs) is h) within in (
@@ -158,7 +158,7 @@ module _ (width : ℕ → ℕ) (count : ℕ) where
       )
 
   pub word-in_order : (s : ScanState) (at : Point) (c : Cell) (cs : List Cell) → IsTextAt width count at (c ∷ cs) → IsByte c.byte
-      → StandInOrder width count true at (word s (c ∷ cs)).tokens true (walked at (1 + (word s (c ∷ cs)).more) (c ∷ cs))
+      → AreInOrder width count true at (word s (c ∷ cs)).tokens true (walked at (1 + (word s (c ∷ cs)).more) (c ∷ cs))
   word-in_order s at c cs is h =
       let n : ℕ = 1 + count_before region.Word 0 cs in
       let bytes : HoldsBytes n (c ∷ cs) = more-bytes 1 (count_before region.Word 0 cs) (c ∷ cs) (h, tt) (word-bytes cs) in

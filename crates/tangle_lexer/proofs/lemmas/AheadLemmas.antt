@@ -56,7 +56,7 @@ column_at-rest lines text line column done is =
       | inr past ↦ rw is (ap column_at (rest_of-line_end lines text line column past.0))
     ]
 
--- something stands at a place of a line
+-- something is at a place of a line
 pub rest-inside : (lines : List Line) (text : List ℕ) (line column : ℕ) (done : Bool) → done ≡ false → 0 < length (rest_of lines text line column done)
 rest-inside lines text line column done is =
     elim ((slice_get_cases text column).1) [
@@ -100,7 +100,7 @@ advance-byte lines text line column false h =
 none-some : IsSome {T = ℕ} None → ⊥
 none-some h = cc
 
--- where a byte stands, the column lies inside its line
+-- where a byte is, the column lies inside its line
 pub byte-inside : (lines : List Line) (text : List ℕ) (line column : ℕ) (done : Bool) → IsSome (byte_at 0 (rest_of lines text line column done)) →
     (done ≡ false) × (column < length text)
 byte-inside lines text line column true h = absurd (none-some h)

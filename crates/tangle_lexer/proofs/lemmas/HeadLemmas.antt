@@ -15,7 +15,7 @@ use Rattle.tangle_lexer.specs.declared.token_kinds.TokenKind.{TokenKind}
 use Rattle.tangle_lexer.specs.declared.token_kinds.TokenKind.TheVariants as token_kind
 use Rattle.tangle_lexer.specs.declared.tokens.Token.{Token}
 use Rattle.tangle_lexer.specs.declared.tokens.Token.TheVariants as token
-use Rattle.tangle_lexer.specs.declared.constants.Constant.{Constant}
+use Rattle.tangle_lexer.specs.declared.constants.AsciiConstant.{AsciiConstant}
 use Rattle.tangle_lexer.specs.Bytes.{holds, at_sign, backslash, is_line_end}
 use Rattle.tangle_lexer.specs.Text.{Cell, byte_at}
 use Rattle.tangle_lexer.specs.Regions.{unit_at, more_by, unless_stop, from_units}
@@ -118,7 +118,7 @@ verbatim-none : (text : List Cell) → HasNoHead (verbatim_tokens text)
 verbatim-none text =
     choose-none (ends_at_once region.Verbatim text) _ _ (empty-none text) (cut-none verbatim_end verbatim_end-none region.Verbatim 0 _ text)
 
-constant-none : (found : Option Constant) (s : ScanState) (text : List Cell) → HasNoHead (constant_lexeme found s text).tokens
+constant-none : (found : Option AsciiConstant) (s : ScanState) (text : List Cell) → HasNoHead (constant_lexeme found s text).tokens
 constant-none None s text = refl
 constant-none (Some constant) s text = refl
 
@@ -139,8 +139,8 @@ documentation-alone code.Format s text = inl refl
 documentation-alone code.ControlText s text = inl refl
 documentation-alone code.Verbatim s text = inl refl
 documentation-alone code.Join s text = inl refl
-documentation-alone code.Defs s text = inl refl
-documentation-alone code.Constant s text = inl refl
+documentation-alone code.AllMacros s text = inl refl
+documentation-alone code.AsciiConstant s text = inl refl
 documentation-alone code.Other s text = inl refl
 
 c_code-alone : (c : ControlCode) (s : ScanState) (text : List Cell) → IsHeadAlone (c_code c s text).tokens
@@ -153,8 +153,8 @@ c_code-alone code.Name s text = inl (no_head-append (fault_if (not (is_ended tex
 c_code-alone code.ControlText s text = inl (white-none region.ControlText (drop 2 text) _ _ _)
 c_code-alone code.Verbatim s text = inl (verbatim-none (drop 2 text))
 c_code-alone code.Join s text = inl refl
-c_code-alone code.Defs s text = inl refl
-c_code-alone code.Constant s text = inl (constant-none (constant_at (drop 2 text)) s text)
+c_code-alone code.AllMacros s text = inl refl
+c_code-alone code.AsciiConstant s text = inl (constant-none (constant_at (drop 2 text)) s text)
 c_code-alone code.Other s text = inl refl
 
 quoted-alone : (r : Region) (close : ℕ) (s : ScanState) (text : List Cell) → IsHeadAlone (quoted_text r close s text).tokens
@@ -178,12 +178,12 @@ macro_code-alone code.Macro s text = inr (_, refl, refl)
 macro_code-alone code.UnnamedPart s text = inr (_, refl, refl)
 macro_code-alone code.Name s text = head-alone (head_count text) (in_mode mode.Documentation s) text
 macro_code-alone code.Format s text = inl refl
-macro_code-alone code.Defs s text = inl refl
+macro_code-alone code.AllMacros s text = inl refl
 macro_code-alone code.DoubleAt s text = c_code-alone code.DoubleAt s text
 macro_code-alone code.ControlText s text = c_code-alone code.ControlText s text
 macro_code-alone code.Verbatim s text = c_code-alone code.Verbatim s text
 macro_code-alone code.Join s text = c_code-alone code.Join s text
-macro_code-alone code.Constant s text = c_code-alone code.Constant s text
+macro_code-alone code.AsciiConstant s text = c_code-alone code.AsciiConstant s text
 macro_code-alone code.Other s text = c_code-alone code.Other s text
 
 macro-alone : (k : TokenKind) (s : ScanState) (text : List Cell) → IsHeadAlone (macro_lexeme k s text).tokens
@@ -210,7 +210,7 @@ documentation_lexeme-alone false s text j = rw j (inl refl)
 lexeme_in-alone : (m : Mode) (s : ScanState) (text : List Cell) → IsHeadAlone (lexeme_in m s text).tokens
 lexeme_in-alone mode.Limbo s text = limbo-alone _ _ s text refl refl
 lexeme_in-alone mode.Documentation s text = documentation_lexeme-alone _ s text refl
-lexeme_in-alone mode.Code s text = c_lexeme-alone (kind_of s.include text) s text
+lexeme_in-alone mode.CPart s text = c_lexeme-alone (kind_of s.include text) s text
 lexeme_in-alone mode.Macro s text = macro-alone (kind_of s.include text) s text
 
 pub lexeme-alone : (s : ScanState) (text : List Cell) → IsHeadAlone (lexeme s text).tokens

@@ -1,4 +1,4 @@
--- Names: where they end, and what stands behind them.
+-- Names: where they end, and what is behind them.
 use Rattle.std.proofs.Common.{◌≡◌, ℕ, ◌+◌, zero, suc, Bool, true, false, not, List, [], ◌∷◌, drop, Option, Some, None, refl, ap, sym, ◌∙◌, arith, drop-drop, subst, if◌then◌else◌}
 use Rattle.tangle_lexer.specs.declared.names.Equals.{Equals}
 use Rattle.tangle_lexer.specs.declared.names.Equals.TheVariants as equals

@@ -17,10 +17,10 @@ use Rattle.tangle_lexer.specs.Text.{Cell, byte_at, column_at, line_at}
 use Rattle.tangle_lexer.specs.Lexemes.{Lexeme, lexeme_of, in_mode}
 use Rattle.tangle_lexer.specs.Comments.{starts_section}
 use Rattle.tangle_lexer.specs.Quoted.{quote_end}
-use Rattle.tangle_lexer.specs.declared.constants.Constant.{Constant}
+use Rattle.tangle_lexer.specs.declared.constants.AsciiConstant.{AsciiConstant}
 use Rattle.tangle_lexer.specs.Constants.{constant_lexeme, constant_at}
 use Rattle.tangle_lexer.specs.Names.{head_or_mention, head_count, has_single_equals, behind_name}
-use Rattle.tangle_lexer.specs.Steps.{documentation_code, c_code, c_lexeme, macro_code, macro_lexeme, lexeme_in, lexeme, lexemes, tokens_from, names_from, kind_of, code_at, prose}
+use Rattle.tangle_lexer.specs.Steps.{documentation_code, c_code, c_lexeme, macro_code, macro_lexeme, lexeme_in, lexeme, lexemes, tokens_from, occurrences_from, kind_of, code_at, prose}
 use Rattle.tangle_lexer.proofs.lemmas.QuietTokens.{AreQuiet, is_loud, seen, quiet-append, fault_if-quiet, white-quiet, line_ends-quiet, verbatim_tokens-quiet, cut_tokens-quiet, quote_end-quiet, constant-quiet}
 
 -- a token that names no occurrence, or one of so many
@@ -38,8 +38,8 @@ below-append count (e ∷ es) fs h k = (h.0, below-append count es fs h.1 k)
 
 -- a lexeme counts its name, and its tokens name what was counted
 pub record Keeps (s : ScanState) (l : Lexeme) : Type 0 where
-  pub count : l.after.names ≡ s.names + length (option_to_list l.name)
-  pub below : AreBelow (s.names + length (option_to_list l.name)) l.tokens
+  pub count : l.after.occurrences ≡ s.occurrences + length (option_to_list l.name)
+  pub below : AreBelow (s.occurrences + length (option_to_list l.name)) l.tokens
 
 quiet-below : (count : ℕ) (es : List Token) → list_any is_loud es ≡ false → AreBelow count es
 quiet-below count [] h = tt
@@ -54,13 +54,13 @@ quiet-below count (e ∷ es) h = both e (λ k. quiet-below count es k) h
     both _ more h = (tt, more h)
 
 -- a lexeme without a name
-quiet-keeps : (s : ScanState) (l : Lexeme) → l.name ≡ None → l.after.names ≡ s.names → AreQuiet l.tokens → Keeps s l
+quiet-keeps : (s : ScanState) (l : Lexeme) → l.name ≡ None → l.after.occurrences ≡ s.occurrences → AreQuiet l.tokens → Keeps s l
 quiet-keeps s l none same q = record {
   count = omega (arith, same, ap (λ n. length (option_to_list n)) none);
   below = quiet-below _ l.tokens q.none;
 }
 
-head-keeps : (s : ScanState) (l : Lexeme) (h : Token) → l.name ≡ None → l.after.names ≡ s.names → l.tokens ≡ h ∷ [] → IsBelow (s.names + length (option_to_list l.name)) h → Keeps s l
+head-keeps : (s : ScanState) (l : Lexeme) (h : Token) → l.name ≡ None → l.after.occurrences ≡ s.occurrences → l.tokens ≡ h ∷ [] → IsBelow (s.occurrences + length (option_to_list l.name)) h → Keeps s l
 head-keeps s l h none same is below = record {
   count = omega (arith, same, ap (λ n. length (option_to_list n)) none);
   below = rw is (below, tt);
@@ -70,12 +70,12 @@ if-keeps : (b : Bool) (s : ScanState) (x y : Lexeme) → Keeps s x → Keeps s y
 if-keeps true s x y h k = h
 if-keeps false s x y h k = k
 
-constant-keeps : (constant : Option Constant) (s : ScanState) (text : List Cell) → Keeps s (constant_lexeme constant s text)
+constant-keeps : (constant : Option AsciiConstant) (s : ScanState) (text : List Cell) → Keeps s (constant_lexeme constant s text)
 constant-keeps None s text = quiet-keeps s _ refl refl (constant-quiet None s text)
 constant-keeps (Some constant) s text = quiet-keeps s _ refl refl (constant-quiet (Some constant) s text)
 
 name-keeps : (count : Option ℕ) (s : ScanState) (text : List Cell) → Keeps s (head_or_mention count s text)
-name-keeps None s text = record { count = refl; below = quiet-below (s.names + 1) _ (fault_if-quiet _ fault.NameEnd _).none }
+name-keeps None s text = record { count = refl; below = quiet-below (s.occurrences + 1) _ (fault_if-quiet _ fault.NameEnd _).none }
 name-keeps (Some count) s text = record { count = refl; below = (omega arith, tt) }
 
 documentation-keeps : (kind : ControlCode) (s : ScanState) (text : List Cell) → Keeps s (documentation_code kind s text)
@@ -91,13 +91,13 @@ code-keeps code.Name s text = record {
   count = refl;
   below = (
     omega arith,
-    quiet-below (s.names + 1) _
+    quiet-below (s.occurrences + 1) _
         (quiet-append _ _ (fault_if-quiet _ fault.NameEnd _) (fault_if-quiet (has_single_equals (behind_name text)) fault.NameEquals (line_at s.last text))).none,
   );
 }
 code-keeps code.ControlText s text = quiet-keeps s _ refl refl (white-quiet _ _ (line_ends-quiet region.ControlText 0 (drop 2 text)) (fault_if-quiet _ fault.ControlText _))
 code-keeps code.Verbatim s text = quiet-keeps s _ refl refl (verbatim_tokens-quiet (drop 2 text))
-code-keeps code.Constant s text = constant-keeps (constant_at (drop 2 text)) s text
+code-keeps code.AsciiConstant s text = constant-keeps (constant_at (drop 2 text)) s text
 code-keeps _ s text = quiet-keeps s _ refl refl (seen _ refl)
 
 c-keeps : (kind : TokenKind) (s : ScanState) (text : List Cell) → Keeps s (c_lexeme kind s text)
@@ -119,7 +119,7 @@ macro_code-keeps code.Name s text =
     let there = documentation-keeps code.Name (in_mode mode.Documentation s) text in
     record { count = there.count; below = there.below }
 macro_code-keeps code.Format s text = quiet-keeps s _ refl refl (seen _ refl)
-macro_code-keeps code.Defs s text = quiet-keeps s _ refl refl (seen _ refl)
+macro_code-keeps code.AllMacros s text = quiet-keeps s _ refl refl (seen _ refl)
 macro_code-keeps kind s text = code-keeps kind s text
 
 macro-keeps : (kind : TokenKind) (s : ScanState) (text : List Cell) → Keeps s (macro_lexeme kind s text)
@@ -132,7 +132,7 @@ mode-keeps mode.Limbo s text =
     (if-keeps (holds at_sign (byte_at 0 text)) s (lexeme_of [] 1 s) (prose s text) (quiet-keeps s _ refl refl (seen _ refl)) (quiet-keeps s _ refl refl (seen _ refl)))
 mode-keeps mode.Documentation s text =
     if-keeps (holds at_sign (byte_at 0 text)) s _ _ (documentation-keeps (code_at (byte_at 1 text)) s text) (quiet-keeps s _ refl refl (seen _ refl))
-mode-keeps mode.Code s text = c-keeps (kind_of s.include text) s text
+mode-keeps mode.CPart s text = c-keeps (kind_of s.include text) s text
 mode-keeps mode.Macro s text = macro-keeps (kind_of s.include text) s text
 
 pub lexeme-keeps : (s : ScanState) (text : List Cell) → Keeps s (lexeme s text)
@@ -151,7 +151,7 @@ below-more few many [] h k = tt
 below-more few many (e ∷ es) h k = (token-more few many e h k.0, below-more few many es h k.1)
 
 lexemes-below : (k : ℕ) (s : ScanState) (text : List Cell) (count : ℕ) →
-    count ≡ s.names + length (flat_map (λ l. option_to_list l.name) (lexemes k s text)) → AreBelow count (flat_map (λ l. l.tokens) (lexemes k s text))
+    count ≡ s.occurrences + length (flat_map (λ l. option_to_list l.name) (lexemes k s text)) → AreBelow count (flat_map (λ l. l.tokens) (lexemes k s text))
 lexemes-below zero s [] count is = tt
 lexemes-below (suc k) s [] count is = tt
 lexemes-below (suc k) s (c ∷ cs) count is = lexemes-below k s cs count is
@@ -164,6 +164,6 @@ lexemes-below zero s (c ∷ cs) count is =
     (below-more _ count here.tokens (omega (arith, is, names)) keeps.below)
     (lexemes-below here.more here.after cs count (omega (arith, is, names, keeps.count)))
 
-pub tokens-below : (s : ScanState) (text : List Cell) → AreBelow (s.names + length (names_from s text)) (tokens_from s text)
-unfolding tokens_from names_from
+pub tokens-below : (s : ScanState) (text : List Cell) → AreBelow (s.occurrences + length (occurrences_from s text)) (tokens_from s text)
+unfolding tokens_from occurrences_from
 tokens-below s text = lexemes-below 0 s text _ refl

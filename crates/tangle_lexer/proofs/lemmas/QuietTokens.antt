@@ -17,7 +17,7 @@ use Rattle.tangle_lexer.specs.Regions.{unit_at, more_by, from_units, unless_stop
 use Rattle.tangle_lexer.specs.Lexemes.{fault_if}
 use Rattle.tangle_lexer.specs.Comments.{unit_line_end}
 use Rattle.tangle_lexer.specs.Quoted.{range_token, cut_range, unit_tokens, next_start, at_stop, cut_tokens, quote_end, verbatim_end, verbatim_tokens, empty_end, ends_at_once}
-use Rattle.tangle_lexer.specs.declared.constants.Constant.{Constant}
+use Rattle.tangle_lexer.specs.declared.constants.AsciiConstant.{AsciiConstant}
 use Rattle.tangle_lexer.specs.Constants.{constant_lexeme}
 use Rattle.tangle_lexer.specs.Heads.{is_head}
 
@@ -118,6 +118,6 @@ pub verbatim_tokens-quiet : (text : List Cell) → AreQuiet (verbatim_tokens tex
 verbatim_tokens-quiet text =
     quiet-if (ends_at_once region.Verbatim text) _ _ (seen _ (empty_end-quiet text).none) (cut_tokens-quiet verbatim_end region.Verbatim 0 (column_at text) text verbatim_end-quiet)
 
-pub constant-quiet : (constant : Option Constant) (s : ScanState) (text : List Cell) → AreQuiet (constant_lexeme constant s text).tokens
+pub constant-quiet : (constant : Option AsciiConstant) (s : ScanState) (text : List Cell) → AreQuiet (constant_lexeme constant s text).tokens
 constant-quiet None s text = seen _ refl
 constant-quiet (Some constant) s text = seen _ refl

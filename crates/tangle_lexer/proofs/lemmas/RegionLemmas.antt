@@ -40,7 +40,7 @@ region_end-go r text unit.Stop h go = absurd (go refl)
 region_end-go r text unit.One h go = region_end-one r text h
 region_end-go r text unit.Two h go = region_end-two r text h
 
--- the unit at the front of a text, by what stands there
+-- the unit at the front of a text, by what is there
 pub unit_at-front : (r : Region) (text : List Cell) (front : Front) (u : Unit-of) → IsFront text front → u ≡ unit_of r front.byte front.next → unit_at r text ≡ u
 unit_at-front r text front u here is = rw (here.byte, here.next) (sym is)
 

@@ -12,12 +12,12 @@ use Rattle.tangle_lexer.specs.declared.simple.Simple.{Simple}
 use Rattle.tangle_lexer.specs.declared.simple.Simple.TheVariants as simple
 use Rattle.tangle_lexer.specs.Text.{Cell, byte_at}
 use Rattle.tangle_lexer.specs.Lexemes.{with_include}
-use Rattle.tangle_lexer.specs.Steps.{kind_by, names_from, lexeme, lexeme_in, c_lexeme, macro_lexeme}
+use Rattle.tangle_lexer.specs.Steps.{kind_by, occurrences_from, lexeme, lexeme_in, c_lexeme, macro_lexeme}
 use Rattle.tangle_lexer.specs.Simple.{IsSimple, is_opener, simple_of, simple_kind, is_c_text}
 use Rattle.tangle_lexer.specs.declared.tokens.Token.{Token}
 use Rattle.tangle_lexer.specs.Ahead.{IsRead}
 use Rattle.tangle_lexer.specs.Heads.{HasNoHead}
-use Rattle.tangle_lexer.proofs.lemmas.StepLemmas.{names_from-step}
+use Rattle.tangle_lexer.proofs.lemmas.StepLemmas.{occurrences_from-step}
 
 -- what opens nothing reads alike in C parts and in macros
 pub lexeme-simple : (s : ScanState) (text : List Cell) (p : Simple) → IsSimple text p → is_c_text s.mode ≡ true → lexeme s text ≡ c_lexeme (simple_kind p) s text
@@ -36,7 +36,7 @@ lexeme-simple s text p here h = go s.mode h
     go : (m : Mode) → is_c_text m ≡ true → lexeme_in m s text ≡ c_lexeme (simple_kind p) s text
     go mode.Limbo h = absurd (not-true h)
     go mode.Documentation h = absurd (not-true h)
-    go mode.Code h = ap (λ k. c_lexeme k s text) (here.token_kind s.include)
+    go mode.CPart h = ap (λ k. c_lexeme k s text) (here.token_kind s.include)
     go mode.Macro h = ap (λ k. macro_lexeme k s text) (here.token_kind s.include) ∙ alike p
 
 -- the mode stays, no head comes and no name
@@ -46,7 +46,7 @@ simple-mode simple.White s text = refl
 simple-mode simple.Sign s text = refl
 simple-mode simple.LineEnd s text = refl
 
-pub simple-names : (p : Simple) (s : ScanState) (text : List Cell) → (c_lexeme (simple_kind p) s text).after.names ≡ s.names
+pub simple-names : (p : Simple) (s : ScanState) (text : List Cell) → (c_lexeme (simple_kind p) s text).after.occurrences ≡ s.occurrences
 simple-names simple.Word s text = refl
 simple-names simple.White s text = refl
 simple-names simple.Sign s text = refl
@@ -87,12 +87,12 @@ pub simple-read : (old new : List Token) (s after : ScanState) (text rest : List
     IsRead old new text rest after (c_lexeme (simple_kind p) s text) → IsRead old new text rest after (lexeme s text)
 simple-read old new s after text rest p here h read = subst (λ l. IsRead old new text rest after l) (sym (lexeme-simple s text p here h)) read
 
-pub simple-names_from : (old new : List Token) (s after : ScanState) (text rest : List Cell) (p : Simple) → IsSimple text p → is_c_text s.mode ≡ true →
-    IsRead old new text rest after (c_lexeme (simple_kind p) s text) → names_from after rest ≡ names_from s text
-simple-names_from old new s after text rest p here h read =
+pub simple-occurrences_from : (old new : List Token) (s after : ScanState) (text rest : List Cell) (p : Simple) → IsSimple text p → is_c_text s.mode ≡ true →
+    IsRead old new text rest after (c_lexeme (simple_kind p) s text) → occurrences_from after rest ≡ occurrences_from s text
+simple-occurrences_from old new s after text rest p here h read =
     let is = lexeme-simple s text p here h in
     let none : (lexeme s text).name ≡ None = ap (λ l. l.name) is ∙ simple-none p s text in
-    rw (read.ahead, read.state, ← is) (sym (names_from-step s text here.inside ∙ ap (λ n. option_to_list n ++ names_from (lexeme s text).after (drop (lexeme s text).more (drop 1 text))) none))
+    rw (read.ahead, read.state, ← is) (sym (occurrences_from-step s text here.inside ∙ ap (λ n. option_to_list n ++ occurrences_from (lexeme s text).after (drop (lexeme s text).more (drop 1 text))) none))
 
 -- what begins with a byte that opens nothing longer
 

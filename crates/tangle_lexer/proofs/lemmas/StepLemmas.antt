@@ -10,17 +10,17 @@ use Rattle.tangle_lexer.specs.declared.token_kinds.ControlCode.TheVariants as co
 use Rattle.tangle_lexer.specs.declared.token_kinds.TokenKind.{TokenKind}
 use Rattle.tangle_lexer.specs.declared.token_kinds.TokenKind.TheVariants as token_kind
 use Rattle.tangle_lexer.specs.declared.tokens.Token.{Token}
-use Rattle.tangle_lexer.specs.declared.constants.Constant.{Constant}
+use Rattle.tangle_lexer.specs.declared.constants.AsciiConstant.{AsciiConstant}
 use Rattle.tangle_lexer.specs.Bytes.{holds, at_sign}
 use Rattle.tangle_lexer.specs.Text.{Cell, byte_at}
-use Rattle.tangle_lexer.specs.Lexemes.{Lexeme, NameRead, in_mode}
+use Rattle.tangle_lexer.specs.Lexemes.{Lexeme, ReadOccurrence, in_mode}
 use Rattle.tangle_lexer.specs.Comments.{starts_section}
 use Rattle.tangle_lexer.specs.Constants.{constant_at, constant_lexeme}
 use Rattle.tangle_lexer.specs.Names.{head_or_mention, head_count}
-use Rattle.tangle_lexer.specs.Steps.{lexeme, lexemes, lexeme_in, limbo_lexeme, documentation_lexeme, documentation_code, c_code, c_lexeme, macro_code, macro_lexeme, kind_of, code_at, tokens_from, names_from}
+use Rattle.tangle_lexer.specs.Steps.{lexeme, lexemes, lexeme_in, limbo_lexeme, documentation_lexeme, documentation_code, c_code, c_lexeme, macro_code, macro_lexeme, kind_of, code_at, tokens_from, occurrences_from}
 use Rattle.tangle_lexer.specs.Occurrences.{OccurrenceRead, occurrence_of}
 use Rattle.tangle_lexer.specs.Heads.{is_head}
-use Rattle.tangle_lexer.specs.Ahead.{IsRead, AddsName}
+use Rattle.tangle_lexer.specs.Ahead.{IsRead, AddsOccurrence}
 use Rattle.tangle_lexer.specs.Heads.{HasNoHead, IsHeadAlone}
 use Rattle.tangle_lexer.proofs.lemmas.HeadLemmas.{no_head-append}
 
@@ -37,11 +37,11 @@ tokens_from-step s (c ∷ cs) h =
     let here : Lexeme = lexeme s (c ∷ cs) in
     ap (λ rest. here.tokens ++ flat_map (λ l. l.tokens) rest) (lexemes-skip here.more here.after cs)
 
-pub names_from-step : (s : ScanState) (text : List Cell) → 0 < length text →
-    names_from s text ≡ option_to_list (lexeme s text).name ++ names_from (lexeme s text).after (drop (lexeme s text).more (drop 1 text))
-unfolding names_from
-names_from-step s [] h = absurd (omega (arith, h))
-names_from-step s (c ∷ cs) h =
+pub occurrences_from-step : (s : ScanState) (text : List Cell) → 0 < length text →
+    occurrences_from s text ≡ option_to_list (lexeme s text).name ++ occurrences_from (lexeme s text).after (drop (lexeme s text).more (drop 1 text))
+unfolding occurrences_from
+occurrences_from-step s [] h = absurd (omega (arith, h))
+occurrences_from-step s (c ∷ cs) h =
     let here : Lexeme = lexeme s (c ∷ cs) in
     ap (λ rest. option_to_list here.name ++ flat_map (λ l. option_to_list l.name) rest) (lexemes-skip here.more here.after cs)
 
@@ -54,18 +54,18 @@ step-tokens old new s after text rest h read =
 
 -- so do the occurrences
 pub step-names : (lines : List Line) (old new : List OccurrenceRead) (from to : List Token) (s after : ScanState) (text rest : List Cell) → 0 < length text →
-    IsRead from to text rest after (lexeme s text) → AddsName lines old new (lexeme s text).name →
-    new ++ map (occurrence_of lines) (names_from after rest) ≡ old ++ map (occurrence_of lines) (names_from s text)
+    IsRead from to text rest after (lexeme s text) → AddsOccurrence lines old new (lexeme s text).name →
+    new ++ map (occurrence_of lines) (occurrences_from after rest) ≡ old ++ map (occurrence_of lines) (occurrences_from s text)
 step-names lines old new from to s after text rest h read adds =
-    rw (read.ahead, read.state, names_from-step s text h) (go (lexeme s text).name adds)
+    rw (read.ahead, read.state, occurrences_from-step s text h) (go (lexeme s text).name adds)
   where
-    go : (name : Option NameRead) → AddsName lines old new name →
-        new ++ map (occurrence_of lines) (names_from (lexeme s text).after (drop (lexeme s text).more (drop 1 text)))
-        ≡ old ++ map (occurrence_of lines) (option_to_list name ++ names_from (lexeme s text).after (drop (lexeme s text).more (drop 1 text)))
-    go None adds = ap (λ xs. xs ++ map (occurrence_of lines) (names_from (lexeme s text).after (drop (lexeme s text).more (drop 1 text)))) adds
+    go : (name : Option ReadOccurrence) → AddsOccurrence lines old new name →
+        new ++ map (occurrence_of lines) (occurrences_from (lexeme s text).after (drop (lexeme s text).more (drop 1 text)))
+        ≡ old ++ map (occurrence_of lines) (option_to_list name ++ occurrences_from (lexeme s text).after (drop (lexeme s text).more (drop 1 text)))
+    go None adds = ap (λ xs. xs ++ map (occurrence_of lines) (occurrences_from (lexeme s text).after (drop (lexeme s text).more (drop 1 text)))) adds
     go (Some name) adds =
-        ap (λ xs. xs ++ map (occurrence_of lines) (names_from (lexeme s text).after (drop (lexeme s text).more (drop 1 text)))) adds
-        ∙ append_assoc old (occurrence_of lines name ∷ []) (map (occurrence_of lines) (names_from (lexeme s text).after (drop (lexeme s text).more (drop 1 text))))
+        ap (λ xs. xs ++ map (occurrence_of lines) (occurrences_from (lexeme s text).after (drop (lexeme s text).more (drop 1 text)))) adds
+        ∙ append_assoc old (occurrence_of lines name ∷ []) (map (occurrence_of lines) (occurrences_from (lexeme s text).after (drop (lexeme s text).more (drop 1 text))))
 
 -- the text ahead grows shorter
 pub step-shorter : (old new : List Token) (s after : ScanState) (text rest : List Cell) → 0 < length text → IsRead old new text rest after (lexeme s text) →
@@ -75,19 +75,19 @@ step-shorter old new s after text rest h read =
 
 -- the number of names that were read before grows by one with each name
 
-abbrev Counts : Option NameRead → ℕ → ℕ → Type 0
+abbrev Counts : Option ReadOccurrence → ℕ → ℕ → Type 0
 Counts None before after = after ≡ before
 Counts (Some name) before after = after ≡ before + 1
 
-constant-counts : (found : Option Constant) (s : ScanState) (text : List Cell) → Counts (constant_lexeme found s text).name s.names (constant_lexeme found s text).after.names
+constant-counts : (found : Option AsciiConstant) (s : ScanState) (text : List Cell) → Counts (constant_lexeme found s text).name s.occurrences (constant_lexeme found s text).after.occurrences
 constant-counts None s text = refl
 constant-counts (Some constant) s text = refl
 
-head-counts : (found : Option ℕ) (s : ScanState) (text : List Cell) → Counts (head_or_mention found s text).name s.names (head_or_mention found s text).after.names
+head-counts : (found : Option ℕ) (s : ScanState) (text : List Cell) → Counts (head_or_mention found s text).name s.occurrences (head_or_mention found s text).after.occurrences
 head-counts None s text = refl
 head-counts (Some count) s text = refl
 
-documentation-counts : (c : ControlCode) (s : ScanState) (text : List Cell) → Counts (documentation_code c s text).name s.names (documentation_code c s text).after.names
+documentation-counts : (c : ControlCode) (s : ScanState) (text : List Cell) → Counts (documentation_code c s text).name s.occurrences (documentation_code c s text).after.occurrences
 documentation-counts code.SectionStart s text = refl
 documentation-counts code.Macro s text = refl
 documentation-counts code.UnnamedPart s text = refl
@@ -97,11 +97,11 @@ documentation-counts code.Format s text = refl
 documentation-counts code.ControlText s text = refl
 documentation-counts code.Verbatim s text = refl
 documentation-counts code.Join s text = refl
-documentation-counts code.Defs s text = refl
-documentation-counts code.Constant s text = refl
+documentation-counts code.AllMacros s text = refl
+documentation-counts code.AsciiConstant s text = refl
 documentation-counts code.Other s text = refl
 
-c_code-counts : (c : ControlCode) (s : ScanState) (text : List Cell) → Counts (c_code c s text).name s.names (c_code c s text).after.names
+c_code-counts : (c : ControlCode) (s : ScanState) (text : List Cell) → Counts (c_code c s text).name s.occurrences (c_code c s text).after.occurrences
 c_code-counts code.SectionStart s text = refl
 c_code-counts code.DoubleAt s text = refl
 c_code-counts code.Macro s text = refl
@@ -111,11 +111,11 @@ c_code-counts code.Name s text = refl
 c_code-counts code.ControlText s text = refl
 c_code-counts code.Verbatim s text = refl
 c_code-counts code.Join s text = refl
-c_code-counts code.Defs s text = refl
-c_code-counts code.Constant s text = constant-counts (constant_at (drop 2 text)) s text
+c_code-counts code.AllMacros s text = refl
+c_code-counts code.AsciiConstant s text = constant-counts (constant_at (drop 2 text)) s text
 c_code-counts code.Other s text = refl
 
-c_lexeme-counts : (k : TokenKind) (s : ScanState) (text : List Cell) → Counts (c_lexeme k s text).name s.names (c_lexeme k s text).after.names
+c_lexeme-counts : (k : TokenKind) (s : ScanState) (text : List Cell) → Counts (c_lexeme k s text).name s.occurrences (c_lexeme k s text).after.occurrences
 c_lexeme-counts (token_kind.Control c) s text = c_code-counts c s text
 c_lexeme-counts token_kind.BlockComment s text = refl
 c_lexeme-counts token_kind.LineComment s text = refl
@@ -127,21 +127,21 @@ c_lexeme-counts token_kind.White s text = refl
 c_lexeme-counts token_kind.Word s text = refl
 c_lexeme-counts token_kind.Other s text = refl
 
-macro_code-counts : (c : ControlCode) (s : ScanState) (text : List Cell) → Counts (macro_code c s text).name s.names (macro_code c s text).after.names
+macro_code-counts : (c : ControlCode) (s : ScanState) (text : List Cell) → Counts (macro_code c s text).name s.occurrences (macro_code c s text).after.occurrences
 macro_code-counts code.SectionStart s text = refl
 macro_code-counts code.Macro s text = refl
 macro_code-counts code.UnnamedPart s text = refl
 macro_code-counts code.Name s text = head-counts (head_count text) (in_mode mode.Documentation s) text
 macro_code-counts code.Format s text = refl
-macro_code-counts code.Defs s text = refl
+macro_code-counts code.AllMacros s text = refl
 macro_code-counts code.DoubleAt s text = refl
 macro_code-counts code.ControlText s text = refl
 macro_code-counts code.Verbatim s text = refl
 macro_code-counts code.Join s text = refl
-macro_code-counts code.Constant s text = constant-counts (constant_at (drop 2 text)) s text
+macro_code-counts code.AsciiConstant s text = constant-counts (constant_at (drop 2 text)) s text
 macro_code-counts code.Other s text = refl
 
-macro-counts : (k : TokenKind) (s : ScanState) (text : List Cell) → Counts (macro_lexeme k s text).name s.names (macro_lexeme k s text).after.names
+macro-counts : (k : TokenKind) (s : ScanState) (text : List Cell) → Counts (macro_lexeme k s text).name s.occurrences (macro_lexeme k s text).after.occurrences
 macro-counts (token_kind.Control c) s text = macro_code-counts c s text
 macro-counts token_kind.BlockComment s text = refl
 macro-counts token_kind.LineComment s text = refl
@@ -154,23 +154,23 @@ macro-counts token_kind.Word s text = refl
 macro-counts token_kind.Other s text = refl
 
 limbo-counts : (a b : Bool) (s : ScanState) (text : List Cell) → starts_section text ≡ a → holds at_sign (byte_at 0 text) ≡ b →
-    Counts (limbo_lexeme s text).name s.names (limbo_lexeme s text).after.names
+    Counts (limbo_lexeme s text).name s.occurrences (limbo_lexeme s text).after.occurrences
 limbo-counts true b s text h j = rw h refl
 limbo-counts false true s text h j = rw (h, j) refl
 limbo-counts false false s text h j = rw (h, j) refl
 
 documentation_lexeme-counts : (b : Bool) (s : ScanState) (text : List Cell) → holds at_sign (byte_at 0 text) ≡ b →
-    Counts (documentation_lexeme s text).name s.names (documentation_lexeme s text).after.names
+    Counts (documentation_lexeme s text).name s.occurrences (documentation_lexeme s text).after.occurrences
 documentation_lexeme-counts true s text j = rw j (documentation-counts (code_at (byte_at 1 text)) s text)
 documentation_lexeme-counts false s text j = rw j refl
 
-lexeme_in-counts : (m : Mode) (s : ScanState) (text : List Cell) → Counts (lexeme_in m s text).name s.names (lexeme_in m s text).after.names
+lexeme_in-counts : (m : Mode) (s : ScanState) (text : List Cell) → Counts (lexeme_in m s text).name s.occurrences (lexeme_in m s text).after.occurrences
 lexeme_in-counts mode.Limbo s text = limbo-counts _ _ s text refl refl
 lexeme_in-counts mode.Documentation s text = documentation_lexeme-counts _ s text refl
-lexeme_in-counts mode.Code s text = c_lexeme-counts (kind_of s.include text) s text
+lexeme_in-counts mode.CPart s text = c_lexeme-counts (kind_of s.include text) s text
 lexeme_in-counts mode.Macro s text = macro-counts (kind_of s.include text) s text
 
-lexeme-counts : (s : ScanState) (text : List Cell) → Counts (lexeme s text).name s.names (lexeme s text).after.names
+lexeme-counts : (s : ScanState) (text : List Cell) → Counts (lexeme s text).name s.occurrences (lexeme s text).after.occurrences
 unfolding lexeme
 lexeme-counts s text = lexeme_in-counts s.mode s text
 
@@ -179,11 +179,11 @@ length-snoc [] x = refl
 length-snoc (y ∷ ys) x = omega (arith, length-snoc ys x)
 
 pub step-count : (lines : List Line) (old new : List OccurrenceRead) (from to : List Token) (s after : ScanState) (text rest : List Cell) →
-    IsRead from to text rest after (lexeme s text) → AddsName lines old new (lexeme s text).name → s.names ≡ length old → after.names ≡ length new
+    IsRead from to text rest after (lexeme s text) → AddsOccurrence lines old new (lexeme s text).name → s.occurrences ≡ length old → after.occurrences ≡ length new
 step-count lines old new from to s after text rest read adds before =
-    ap (λ t. t.names) read.state ∙ go (lexeme s text).name adds (lexeme-counts s text)
+    ap (λ t. t.occurrences) read.state ∙ go (lexeme s text).name adds (lexeme-counts s text)
   where
-    go : (name : Option NameRead) → AddsName lines old new name → Counts name s.names (lexeme s text).after.names → (lexeme s text).after.names ≡ length new
+    go : (name : Option ReadOccurrence) → AddsOccurrence lines old new name → Counts name s.occurrences (lexeme s text).after.occurrences → (lexeme s text).after.occurrences ≡ length new
     go None adds counts = counts ∙ (before ∙ sym (ap length adds))
     go (Some name) adds counts = counts ∙ (ap (λ n. n + 1) before ∙ sym (ap length adds ∙ length-snoc old (occurrence_of lines name)))
 

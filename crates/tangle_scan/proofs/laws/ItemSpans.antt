@@ -101,7 +101,7 @@ items_by_place-spans lines count [] = refl
 items_by_place-spans lines count (token.LineEnd line ∷ es) =
     line_item-spans lines count line _ _ (items_by_place-spans lines (count_behind lines count line) es)
 items_by_place-spans lines count (token.UseOf name line ∷ es) = items_by_place-spans lines _ es
-items_by_place-spans lines count (token.Defs line ∷ es) = items_by_place-spans lines _ es
+items_by_place-spans lines count (token.AllMacros line ∷ es) = items_by_place-spans lines _ es
 items_by_place-spans lines count (token.QuoteBreak ∷ es) = items_by_place-spans lines _ es
 items_by_place-spans lines count (token.Text text_kind.Word s ∷ es) = ap (λ ss. s ∷ ss) (items_by_place-spans lines count es)
 items_by_place-spans lines count (token.Text text_kind.Sign s ∷ es) = ap (λ ss. s ∷ ss) (items_by_place-spans lines count es)

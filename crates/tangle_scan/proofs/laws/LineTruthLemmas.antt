@@ -1,4 +1,4 @@
--- Tokens that follow one another by lines give items that stand at their lines.
+-- Tokens that follow one another by lines give items that are at their lines.
 use Rattle.std.proofs.Common.{◌≡◌, ℕ, ◌+◌, ◌<◌, Bool, true, false, List, [], ◌∷◌, ◌++◌, length, cond, Some, refl, ap, sym, ◌∙◌, arith, subst, append_assoc, append-nil, if◌then◌else◌, ◌&&◌}
 use Rattle.std.proofs.Common.{inl, inr}
 use Rattle.std.specs.List.{AllZip}
@@ -11,18 +11,18 @@ use Rattle.tangle_scan.specs.declared.items.Item.{Item}
 use Rattle.tangle_scan.specs.declared.items.Item.TheVariants as item
 use Rattle.tangle_lines.specs.Reading.{Line, place_at}
 use Rattle.tangle_scan.specs.Rules.{next_line, count_behind, goes_on, same_place, items_by_place, text_item, blanks, without_joins, left_of_run, has_join, is_gap, with_spaces, would_merge, without_faults, part_items}
-use Rattle.tangle_scan.specs.LineTruth.{Placed, placed_items, Standing, standings, is_on, IsOwn, StandsAtItsLine, part_standings}
+use Rattle.tangle_scan.specs.LineTruth.{Placed, placed_items, Location, locations, is_on, IsOwn, IsAtItsLine, part_locations}
 use Rattle.tangle_scan.proofs.lemmas.Gaps.{AreGaps, gaps-append}
 
--- The texts among the tokens stand on the lines that are reached, from a line on; all are lines of the source.
+-- The texts among the tokens are on the lines that are reached, from a line on; all are lines of the source.
 abbrev pub Flows : ℕ → ℕ → List Token → Type 0
 Flows count line [] = Unit {0}
 Flows count line (token.LineEnd at ∷ es) = (at ≡ line) × Flows count (line + 1) es
 Flows count line (token.QuoteBreak ∷ es) = Flows count (line + 1) es
 Flows count line (token.UseOf name at ∷ es) = Flows count at es
-Flows count line (token.Defs at ∷ es) = (at ≡ line) × Flows count line es
+Flows count line (token.AllMacros at ∷ es) = (at ≡ line) × Flows count line es
 Flows count line (token.Text kind s ∷ es) = (s.line ≡ line) × ((line < count) × Flows count line es)
-Flows count line (token.Constant b at ∷ es) = (at ≡ line) × ((line < count) × Flows count line es)
+Flows count line (token.AsciiConstant b at ∷ es) = (at ≡ line) × ((line < count) × Flows count line es)
 Flows count line (_ ∷ es) = Flows count line es
 
 -- faults and the white space of rule 1 change nothing
@@ -32,9 +32,9 @@ flows-first : (count : ℕ) (e : Token) (es fs : List Token) → ((line : ℕ) �
 flows-first count (token.LineEnd at) es fs h line f = (f.0, h (line + 1) f.1)
 flows-first count token.QuoteBreak es fs h line f = h (line + 1) f
 flows-first count (token.UseOf name at) es fs h line f = h at f
-flows-first count (token.Defs at) es fs h line f = (f.0, h line f.1)
+flows-first count (token.AllMacros at) es fs h line f = (f.0, h line f.1)
 flows-first count (token.Text kind s) es fs h line f = (f.0, (f.1.0, h line f.1.1))
-flows-first count (token.Constant b at) es fs h line f = (f.0, (f.1.0, h line f.1.1))
+flows-first count (token.AsciiConstant b at) es fs h line f = (f.0, (f.1.0, h line f.1.1))
 flows-first count _ es fs h line f = h line f
 
 without_faults-flows : (count : ℕ) (es : List Token) (line : ℕ) → Flows count line es → Flows count line (without_faults es)
@@ -53,22 +53,22 @@ with_spaces-flows count (e ∷ g ∷ es) line f =
     flows-first count e (g ∷ es) ((if would_merge e g then token.White ∷ [] else []) ++ with_spaces (g ∷ es))
     (λ l h. white-flows count (would_merge e g) l (with_spaces (g ∷ es)) (with_spaces-flows count (g ∷ es) l h)) line f
 
-same-first : (e : Token) (es fs : List Token) → ((s j b : Bool) → standings s j b es ≡ standings s j b fs) → (s j b : Bool) → standings s j b (e ∷ es) ≡ standings s j b (e ∷ fs)
+same-first : (e : Token) (es fs : List Token) → ((s j b : Bool) → locations s j b es ≡ locations s j b fs) → (s j b : Bool) → locations s j b (e ∷ es) ≡ locations s j b (e ∷ fs)
 same-first token.Join es fs h s j b = h s true b
 same-first token.White es fs h s j b = h s j b
 same-first (token.LineEnd line) es fs h s j b = h s j true
 same-first token.QuoteBreak es fs h s j b = h true false false
 same-first (token.UseOf name line) es fs h s j b = h false false false
-same-first (token.Defs line) es fs h s j b = h false false false
+same-first (token.AllMacros line) es fs h s j b = h false false false
 same-first (token.Text kind span) es fs h s j b = ap (λ ts. record { item = text_item kind span; line = span.line; in_stretch = is_on s j b } ∷ ts) (h (is_on s j b) false false)
-same-first (token.Constant v line) es fs h s j b = ap (λ ts. record { item = item.Code v; line = line; in_stretch = is_on s j b } ∷ ts) (h (is_on s j b) false false)
+same-first (token.AsciiConstant v line) es fs h s j b = ap (λ ts. record { item = item.Code v; line = line; in_stretch = is_on s j b } ∷ ts) (h (is_on s j b) false false)
 same-first _ es fs h s j b = h (is_on s j b) false false
 
-white-same : (w : Bool) (es : List Token) (s j b : Bool) → standings s j b ((if w then token.White ∷ [] else []) ++ es) ≡ standings s j b es
+white-same : (w : Bool) (es : List Token) (s j b : Bool) → locations s j b ((if w then token.White ∷ [] else []) ++ es) ≡ locations s j b es
 white-same true es s j b = refl
 white-same false es s j b = refl
 
-with_spaces-same : (es : List Token) (s j b : Bool) → standings s j b (with_spaces es) ≡ standings s j b es
+with_spaces-same : (es : List Token) (s j b : Bool) → locations s j b (with_spaces es) ≡ locations s j b es
 with_spaces-same [] s j b = refl
 with_spaces-same (e ∷ []) s j b = refl
 with_spaces-same (e ∷ f ∷ es) s j b =
@@ -122,11 +122,11 @@ flows-behind count line (token.LineEnd at ∷ run) es g f = flows-behind count (
 flows-behind count line (_ ∷ run) es g f = absurd g
 
 -- a token that is no gap closes the run before it
-standings-closed : (e : Token) (es : List Token) (s j b : Bool) → is_gap e ≡ false → standings s j b (e ∷ es) ≡ standings (is_on s j b) false false (e ∷ es)
-standings-closed token.Join es s j b h = cc
-standings-closed token.White es s j b h = cc
-standings-closed (token.LineEnd line) es s j b h = cc
-standings-closed _ es s j b h = refl
+locations-closed : (e : Token) (es : List Token) (s j b : Bool) → is_gap e ≡ false → locations s j b (e ∷ es) ≡ locations (is_on s j b) false false (e ∷ es)
+locations-closed token.Join es s j b h = cc
+locations-closed token.White es s j b h = cc
+locations-closed (token.LineEnd line) es s j b h = cc
+locations-closed _ es s j b h = refl
 
 -- of two places that are the same either may be taken
 same_place-either : (p q : Origin) → (if same_place p q then q else p) ≡ p
@@ -164,13 +164,13 @@ module _ (lines : List Line) where
   seen-first : (e : Token) (es fs : List Token) → ((count : Origin) → seen count es ≡ seen count fs) → (count : Origin) → seen count (e ∷ es) ≡ seen count (e ∷ fs)
   seen-first (token.LineEnd line) es fs h count = seen-break count line es ∙ h (count_behind lines count line) ∙ sym (seen-break count line fs)
   seen-first (token.UseOf name line) es fs h count = h (place_at lines line)
-  seen-first (token.Defs line) es fs h count = h (place_at lines line)
+  seen-first (token.AllMacros line) es fs h count = h (place_at lines line)
   seen-first token.QuoteBreak es fs h count = h (next_line count)
   seen-first (token.Text text_kind.Word s) es fs h count = ap (λ ps. record { item = item.Word s; place = Some count } ∷ ps) (h count)
   seen-first (token.Text text_kind.Sign s) es fs h count = ap (λ ps. record { item = item.Sign s; place = Some count } ∷ ps) (h count)
   seen-first (token.Text text_kind.Quoted s) es fs h count = ap (λ ps. record { item = item.Quoted s; place = Some count } ∷ ps) (h count)
   seen-first (token.Text text_kind.Verbatim s) es fs h count = ap (λ ps. record { item = item.Verbatim s; place = Some count } ∷ ps) (h count)
-  seen-first (token.Constant b line) es fs h count = ap (λ ps. record { item = item.Code b; place = Some count } ∷ ps) (h count)
+  seen-first (token.AsciiConstant b line) es fs h count = ap (λ ps. record { item = item.Code b; place = Some count } ∷ ps) (h count)
   seen-first _ es fs h count = h count
 
   -- rule 3 moves no text
@@ -186,27 +186,27 @@ module _ (lines : List Line) where
       blank false = refl
 
   -- outside a stretch the count is the place of the line that is reached
-  abbrev Stands : Origin → Bool → ℕ → Type 0
-  Stands count stretch line = stretch ≡ false → line < length lines → count ≡ place_at lines line
+  abbrev IsCounted : Origin → Bool → ℕ → Type 0
+  IsCounted count stretch line = stretch ≡ false → line < length lines → count ≡ place_at lines line
 
-  -- the texts among tokens stand where they should, after rules 4 and 5
-  abbrev True : Origin → List Token → List Standing → Type 0
+  -- the texts among tokens are where they should, after rules 4 and 5
+  abbrev True : Origin → List Token → List Location → Type 0
   True count es ts = AllZip (IsOwn lines) (seen count es) ts
 
-  own : (count : Origin) (stretch : Bool) (line at : ℕ) (i : Item) → at ≡ line → Stands count stretch line → line < length lines
+  own : (count : Origin) (stretch : Bool) (line at : ℕ) (i : Item) → at ≡ line → IsCounted count stretch line → line < length lines
       → IsOwn lines (record { item = i; place = Some count }) (record { item = i; line = at; in_stretch = stretch })
   own count stretch line at i e here inside = record { item = refl; line = omega (arith, e, inside); place = λ out. ap Some (here out inside ∙ ap (place_at lines) (sym e)) }
 
   -- one token that is no gap, and what follows it
-  true-first : (e : Token) (es fs : List Token) (count : Origin) (stretch : Bool) (line : ℕ) → is_gap e ≡ false → Stands count stretch line → Flows (length lines) line (e ∷ es)
-      → ((c : Origin) (s : Bool) (l : ℕ) → Stands c s l → Flows (length lines) l es → True c fs (standings s false false es))
-      → True count (e ∷ fs) (standings stretch false false (e ∷ es))
+  true-first : (e : Token) (es fs : List Token) (count : Origin) (stretch : Bool) (line : ℕ) → is_gap e ≡ false → IsCounted count stretch line → Flows (length lines) line (e ∷ es)
+      → ((c : Origin) (s : Bool) (l : ℕ) → IsCounted c s l → Flows (length lines) l es → True c fs (locations s false false es))
+      → True count (e ∷ fs) (locations stretch false false (e ∷ es))
   true-first token.Join es fs count stretch line gap here flows next = cc
   true-first token.White es fs count stretch line gap here flows next = cc
   true-first (token.LineEnd at) es fs count stretch line gap here flows next = cc
   true-first token.QuoteBreak es fs count stretch line gap here flows next = next (next_line count) true (line + 1) (λ e. absurd cc) flows
   true-first (token.UseOf name at) es fs count stretch line gap here flows next = next (place_at lines at) false at (λ e i. refl) flows
-  true-first (token.Defs at) es fs count stretch line gap here flows next = next (place_at lines at) false line (λ e i. ap (place_at lines) flows.0) flows.1
+  true-first (token.AllMacros at) es fs count stretch line gap here flows next = next (place_at lines at) false line (λ e i. ap (place_at lines) flows.0) flows.1
   true-first (token.Text text_kind.Word s) es fs count stretch line gap here flows next =
       (own count stretch line s.line (item.Word s) flows.0 here flows.1.0, next count stretch line here flows.1.1)
   true-first (token.Text text_kind.Sign s) es fs count stretch line gap here flows next =
@@ -215,19 +215,19 @@ module _ (lines : List Line) where
       (own count stretch line s.line (item.Quoted s) flows.0 here flows.1.0, next count stretch line here flows.1.1)
   true-first (token.Text text_kind.Verbatim s) es fs count stretch line gap here flows next =
       (own count stretch line s.line (item.Verbatim s) flows.0 here flows.1.0, next count stretch line here flows.1.1)
-  true-first (token.Constant b at) es fs count stretch line gap here flows next =
+  true-first (token.AsciiConstant b at) es fs count stretch line gap here flows next =
       (own count stretch line at (item.Code b) flows.0 here flows.1.0, next count stretch line here flows.1.1)
   true-first _ es fs count stretch line gap here flows next = next count stretch line here flows
 
   -- a run that stays
-  kept-true : (run es fs : List Token) (ts : Bool → List Standing) (count : Origin) (stretch : Bool) (line : ℕ) → AreGaps run → Stands count stretch line → Flows (length lines) line (run ++ es)
-      → ((c : Origin) (s : Bool) (l : ℕ) → Stands c s l → Flows (length lines) l es → True c fs (ts s))
+  kept-true : (run es fs : List Token) (ts : Bool → List Location) (count : Origin) (stretch : Bool) (line : ℕ) → AreGaps run → IsCounted count stretch line → Flows (length lines) line (run ++ es)
+      → ((c : Origin) (s : Bool) (l : ℕ) → IsCounted c s l → Flows (length lines) l es → True c fs (ts s))
       → True count (run ++ fs) (ts (is_on stretch false (has_break run)))
   kept-true [] es fs ts count stretch line gaps here flows next = next count stretch line here flows
   kept-true (token.Join ∷ run) es fs ts count stretch line gaps here flows next = kept-true run es fs ts count stretch line gaps here flows next
   kept-true (token.White ∷ run) es fs ts count stretch line gaps here flows next = kept-true run es fs ts count stretch line gaps here flows next
   kept-true (token.LineEnd at ∷ run) es fs ts count stretch line gaps here flows next =
-      let behind : Stands (count_behind lines count at) false (line + 1) =
+      let behind : IsCounted (count_behind lines count at) false (line + 1) =
       λ out inside. sym (ap (λ l. place_at lines (l + 1)) (sym flows.0) ∙ count_behind-next lines count at (omega (arith, flows.0, inside))) in
       let rest : True (count_behind lines count at) (run ++ fs) (ts (is_on false false (has_break run))) =
       kept-true run es fs ts (count_behind lines count at) false (line + 1) gaps behind flows.1 next in
@@ -239,44 +239,44 @@ module _ (lines : List Line) where
   kept-true (_ ∷ run) es fs ts count stretch line gaps here flows next = absurd gaps
 
   -- a run of joins, white space and line ends, before what follows it
-  run-true : (run es fs : List Token) (ts : Bool → List Standing) (count : Origin) (stretch : Bool) (line : ℕ) → AreGaps run → Stands count stretch line → Flows (length lines) line (run ++ es)
-      → ((c : Origin) (s : Bool) (l : ℕ) → Stands c s l → Flows (length lines) l es → True c fs (ts s))
+  run-true : (run es fs : List Token) (ts : Bool → List Location) (count : Origin) (stretch : Bool) (line : ℕ) → AreGaps run → IsCounted count stretch line → Flows (length lines) line (run ++ es)
+      → ((c : Origin) (s : Bool) (l : ℕ) → IsCounted c s l → Flows (length lines) l es → True c fs (ts s))
       → True count (left_of_run run ++ fs) (ts (is_on stretch (has_join run) (has_break run)))
   run-true run es fs ts count stretch line gaps here flows next = by (has_join run)
     where
-      removed : (b : Bool) → has_break run ≡ b → Stands count (is_on stretch true b) (line_behind line run)
+      removed : (b : Bool) → has_break run ≡ b → IsCounted count (is_on stretch true b) (line_behind line run)
       removed true e = λ out. absurd cc
-      removed false e = subst (Stands count stretch) (sym (line_behind-same line run gaps e)) here
+      removed false e = subst (IsCounted count stretch) (sym (line_behind-same line run gaps e)) here
 
       by : (j : Bool) → True count (cond j [] run ++ fs) (ts (is_on stretch j (has_break run)))
       by true = next count (is_on stretch true (has_break run)) (line_behind line run) (removed (has_break run) refl) (flows-behind (length lines) line run es gaps flows)
       by false = kept-true run es fs ts count stretch line gaps here flows next
 
   -- rule 2, and all that follow it
-  without_joins-true : (run es : List Token) (count : Origin) (stretch : Bool) (line : ℕ) → AreGaps run → Stands count stretch line → Flows (length lines) line (run ++ es)
-      → True count (without_joins run es) (standings stretch (has_join run) (has_break run) es)
+  without_joins-true : (run es : List Token) (count : Origin) (stretch : Bool) (line : ℕ) → AreGaps run → IsCounted count stretch line → Flows (length lines) line (run ++ es)
+      → True count (without_joins run es) (locations stretch (has_join run) (has_break run) es)
   without_joins-true run [] count stretch line gaps here flows =
       subst (λ es. True count es []) (append-nil (left_of_run run))
       (run-true run [] [] (λ s. []) count stretch line gaps here flows (λ c s l h f. tt))
   without_joins-true run (token.Join ∷ es) count stretch line gaps here flows =
-      subst (λ j. True count (without_joins (run ++ token.Join ∷ []) es) (standings stretch j (has_break run) es)) (join-append run)
-      (subst (λ b. True count (without_joins (run ++ token.Join ∷ []) es) (standings stretch (has_join (run ++ token.Join ∷ [])) b es)) (no_break-append run token.Join refl)
+      subst (λ j. True count (without_joins (run ++ token.Join ∷ []) es) (locations stretch j (has_break run) es)) (join-append run)
+      (subst (λ b. True count (without_joins (run ++ token.Join ∷ []) es) (locations stretch (has_join (run ++ token.Join ∷ [])) b es)) (no_break-append run token.Join refl)
       (without_joins-true (run ++ token.Join ∷ []) es count stretch line (gaps-append run token.Join gaps tt) here (rw append_assoc flows)))
   without_joins-true run (token.White ∷ es) count stretch line gaps here flows =
-      subst (λ j. True count (without_joins (run ++ token.White ∷ []) es) (standings stretch j (has_break run) es)) (no_join-append run token.White refl)
-      (subst (λ b. True count (without_joins (run ++ token.White ∷ []) es) (standings stretch (has_join (run ++ token.White ∷ [])) b es)) (no_break-append run token.White refl)
+      subst (λ j. True count (without_joins (run ++ token.White ∷ []) es) (locations stretch j (has_break run) es)) (no_join-append run token.White refl)
+      (subst (λ b. True count (without_joins (run ++ token.White ∷ []) es) (locations stretch (has_join (run ++ token.White ∷ [])) b es)) (no_break-append run token.White refl)
       (without_joins-true (run ++ token.White ∷ []) es count stretch line (gaps-append run token.White gaps tt) here (rw append_assoc flows)))
   without_joins-true run (token.LineEnd at ∷ es) count stretch line gaps here flows =
-      subst (λ j. True count (without_joins (run ++ token.LineEnd at ∷ []) es) (standings stretch j true es)) (no_join-append run (token.LineEnd at) refl)
-      (subst (λ b. True count (without_joins (run ++ token.LineEnd at ∷ []) es) (standings stretch (has_join (run ++ token.LineEnd at ∷ [])) b es)) (break-append run at)
+      subst (λ j. True count (without_joins (run ++ token.LineEnd at ∷ []) es) (locations stretch j true es)) (no_join-append run (token.LineEnd at) refl)
+      (subst (λ b. True count (without_joins (run ++ token.LineEnd at ∷ []) es) (locations stretch (has_join (run ++ token.LineEnd at ∷ [])) b es)) (break-append run at)
       (without_joins-true (run ++ token.LineEnd at ∷ []) es count stretch line (gaps-append run (token.LineEnd at) gaps tt) here (rw append_assoc flows)))
   without_joins-true run (e ∷ es) count stretch line gaps here flows =
-      subst (True count (left_of_run run ++ e ∷ without_joins [] es)) (sym (standings-closed e es stretch (has_join run) (has_break run) refl))
-      (run-true run (e ∷ es) (e ∷ without_joins [] es) (λ s. standings s false false (e ∷ es)) count stretch line gaps here flows
+      subst (True count (left_of_run run ++ e ∷ without_joins [] es)) (sym (locations-closed e es stretch (has_join run) (has_break run) refl))
+      (run-true run (e ∷ es) (e ∷ without_joins [] es) (λ s. locations s false false (e ∷ es)) count stretch line gaps here flows
       (λ c s l h f. true-first e es (without_joins [] es) c s l refl h f (λ d t k g i. without_joins-true [] es d t k tt g i)))
 
   -- the items of a part whose tokens follow one another from its opening mark on
-  pub part-true : (line : ℕ) (es : List Token) → Flows (length lines) line es → StandsAtItsLine lines (place_at lines line) (part_items lines line es) (part_standings es)
+  pub part-true : (line : ℕ) (es : List Token) → Flows (length lines) line es → IsAtItsLine lines (place_at lines line) (part_items lines line es) (part_locations es)
   part-true line es flows =
       let clean : List Token = without_faults es in
       let with_white_space : List Token = with_spaces clean in

@@ -16,7 +16,7 @@ use Rattle.tangle_scan.specs.Web.{PieceRead, body, block_at, blocks, section_beh
 use Rattle.tangle_lexer.specs.Heads.{is_head}
 use Rattle.tangle_scan.specs.WellFormed.{IsUseBelow, NamesAreInRange}
 use Rattle.tangle_lexer.specs.Text.{text_from}
-use Rattle.tangle_lexer.specs.Steps.{all_tokens, all_names, at_first}
+use Rattle.tangle_lexer.specs.Steps.{all_tokens, all_occurrences, at_first}
 use Rattle.tangle_lexer.specs.Occurrences.{occurrence_of}
 use Rattle.tangle_lexer.proofs.lemmas.NamesKept.{IsBelow, AreBelow, below-append, tokens-below}
 use Rattle.std.proofs.lemmas.List.{length-map}
@@ -77,10 +77,10 @@ items_by_place-below count lines place (token.Text text_kind.Word s ∷ es) h = 
 items_by_place-below count lines place (token.Text text_kind.Sign s ∷ es) h = (tt, items_by_place-below count lines place es h.1)
 items_by_place-below count lines place (token.Text text_kind.Quoted s ∷ es) h = (tt, items_by_place-below count lines place es h.1)
 items_by_place-below count lines place (token.Text text_kind.Verbatim s ∷ es) h = (tt, items_by_place-below count lines place es h.1)
-items_by_place-below count lines place (token.Constant value line ∷ es) h = (tt, items_by_place-below count lines place es h.1)
+items_by_place-below count lines place (token.AsciiConstant value line ∷ es) h = (tt, items_by_place-below count lines place es h.1)
 items_by_place-below count lines place (token.White ∷ es) h = (tt, items_by_place-below count lines place es h.1)
 items_by_place-below count lines place (token.UseOf name line ∷ es) h = (h.0, (tt, items_by_place-below count lines (place_at lines line) es h.1))
-items_by_place-below count lines place (token.Defs line ∷ es) h = (tt, (tt, items_by_place-below count lines (place_at lines line) es h.1))
+items_by_place-below count lines place (token.AllMacros line ∷ es) h = (tt, (tt, items_by_place-below count lines (place_at lines line) es h.1))
 items_by_place-below count lines place (_ ∷ es) h = items_by_place-below count lines place es h.1
 
 part_items-below : (count : ℕ) (lines : List Line) (line : ℕ) (es : List Token) → AreBelow count es → AreUsesBelow count (part_items lines line es)
@@ -97,7 +97,7 @@ unmarked_items-none (token.Text text_kind.Word s ∷ es) = (tt, unmarked_items-n
 unmarked_items-none (token.Text text_kind.Sign s ∷ es) = (tt, unmarked_items-none es)
 unmarked_items-none (token.Text text_kind.Quoted s ∷ es) = (tt, unmarked_items-none es)
 unmarked_items-none (token.Text text_kind.Verbatim s ∷ es) = (tt, unmarked_items-none es)
-unmarked_items-none (token.Constant value line ∷ es) = (tt, unmarked_items-none es)
+unmarked_items-none (token.AsciiConstant value line ∷ es) = (tt, unmarked_items-none es)
 unmarked_items-none (token.White ∷ es) = (tt, unmarked_items-none es)
 unmarked_items-none (_ ∷ es) = unmarked_items-none es
 
@@ -117,7 +117,7 @@ body-below count (e ∷ es) h = by (is_head e) (body-below count es h.1)
 
 pub record IsPieceBelow (count : ℕ) (p : PieceRead) : Type 0 where
   pub uses : All (IsUseBelow count) p.items
-  pub name : IfSome p.name (λ name. name < count)
+  pub name : IfSome p.occurrence (λ occurrence. occurrence < count)
 
 pieces-append : {X : Type 0} (P : X → Type 0) (xs ys : List X) → AllByRecursion P xs → AllByRecursion P ys → AllByRecursion P (xs ++ ys)
 pieces-append P [] ys h k = k
@@ -160,13 +160,13 @@ macros-none lines n (e ∷ es) =
 pub names-in-range : (source : SourceRead) → NamesAreInRange (web_of source)
 names-in-range source =
     let lines = source.lines in
-    let count : ℕ = length (map (occurrence_of lines) (all_names lines)) in
-    let same : 0 + length (all_names lines) ≡ count = omega (arith, length-map (all_names lines) (occurrence_of lines)) in
+    let count : ℕ = length (map (occurrence_of lines) (all_occurrences lines)) in
+    let same : 0 + length (all_occurrences lines) ≡ count = omega (arith, length-map (all_occurrences lines) (occurrence_of lines)) in
     let P : ℕ → Type 0 = λ n. AreBelow n (all_tokens lines) in
     let below : AreBelow count (all_tokens lines) = subst P same (tokens-below (at_first (length lines)) (text_from 0 lines)) in
     let pieces = All-from_recursion (IsPieceBelow count) (flat_map (piece_of lines) (blocks 0 (all_tokens lines))) (pieces-below count lines 0 (all_tokens lines) below) in
     record {
       uses = All-weaker (IsPieceBelow count) (λ p. All (IsUseBelow count) p.items) (λ p h. h.uses) _ pieces;
-      names = All-weaker (IsPieceBelow count) (λ p. IfSome p.name (λ name. name < count)) (λ p h. h.name) _ pieces;
+      names = All-weaker (IsPieceBelow count) (λ p. IfSome p.occurrence (λ occurrence. occurrence < count)) (λ p h. h.name) _ pieces;
       macros = All-from_recursion (All (IsUseBelow 0)) _ (macros-none lines 0 (all_tokens lines));
     }

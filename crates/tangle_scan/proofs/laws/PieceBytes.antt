@@ -15,7 +15,7 @@ use Rattle.tangle_scan.specs.Web.BlockKind.{OfPiece}
 use Rattle.tangle_scan.specs.Rules.{part_items}
 use Rattle.tangle_scan.specs.SourceOrder.{item_spans}
 use Rattle.tangle_scan.specs.KeptBytes.{IsEarlier, KeepsEachByte}
-use Rattle.tangle_lexer.proofs.laws.Points.{Point, spot, text-is}
+use Rattle.tangle_lexer.proofs.laws.Points.{Point, point_at, text-is}
 use Rattle.tangle_lexer.proofs.laws.TokenOrder.{span_end}
 use Rattle.tangle_lexer.proofs.laws.KeptBytes.{part_points, segments-keep}
 use Rattle.tangle_lexer.proofs.laws.SegmentFates.{segments-fill, segments-shows}
@@ -27,7 +27,7 @@ abbrev points_of : List Span → List (ℕ × ℕ)
 points_of ss = flat_map span_points ss
 
 module _ (lines : List Line) where
-  -- where the bytes of the spans of a block stand, if it is a piece
+  -- where the bytes of the spans of a block are, if it is a piece
   abbrev block_points : Block → List (ℕ × ℕ)
   block_points b = points_of (flat_map (λ p. item_spans p.items) (piece_of lines b))
 
@@ -74,11 +74,11 @@ pieces-kept source =
     ap points_of (flat_map-twice (λ p. item_spans p.items) (piece_of lines) (blocks 0 (all_tokens lines)))
     ∙ flat_map-twice span_points (λ b. flat_map (λ p. item_spans p.items) (piece_of lines b)) (blocks 0 (all_tokens lines))
     ∙ sym (split-blocks lines 0 (all_tokens lines)).outside
-    ∙ segments-keep (width lines) (length lines) 0 (at_first (length lines)) (text_from 0 lines) (spot 0 0) is
+    ∙ segments-keep (width lines) (length lines) 0 (at_first (length lines)) (text_from 0 lines) (point_at 0 0) is
 
 -- the bytes of spans that follow one another follow one another
 
--- a byte stands at a point or behind it
+-- a byte is at a point or behind it
 abbrev IsFromOn : Point → ℕ × ℕ → Type 0
 IsFromOn a q = (a.line ≤ q.0) × (a.line ≡ q.0 → a.column ≤ q.1)
 
@@ -92,24 +92,24 @@ spans-from-on : (a : Point) (ss : List Span) → AreBehind a ss → All (IsFromO
 spans-from-on a [] h = All-nil (IsFromOn a)
 spans-from-on a (s ∷ ss) h = columns-from-on a s.line s.start (s.end - s.start) (points_of ss) h.0 (spans-from-on a ss h.1)
 
-columns-once : (line column n : ℕ) (qs : List (ℕ × ℕ)) → All (IsFromOn (spot line (column + n))) qs → AllPairs IsEarlier qs → AllPairs IsEarlier (columns_from line column n ++ qs)
+columns-once : (line column n : ℕ) (qs : List (ℕ × ℕ)) → All (IsFromOn (point_at line (column + n))) qs → AllPairs IsEarlier qs → AllPairs IsEarlier (columns_from line column n ++ qs)
 columns-once line column zero qs h k = k
 columns-once line column (suc n) qs h k =
     let sum : column + suc n ≡ column + 1 + n = omega arith in
-    let behind : All (IsFromOn (spot line (column + 1))) qs =
-    All-weaker (IsFromOn (spot line (column + suc n))) (IsFromOn (spot line (column + 1))) (λ q l. (l.0, λ e. let m = l.1 e in omega (arith, m))) qs h in
-    let later : All (IsFromOn (spot line (column + 1))) (columns_from line (column + 1) n ++ qs) =
-    columns-from-on (spot line (column + 1)) line (column + 1) n qs (omega arith, λ e. omega arith) behind in
+    let behind : All (IsFromOn (point_at line (column + 1))) qs =
+    All-weaker (IsFromOn (point_at line (column + suc n))) (IsFromOn (point_at line (column + 1))) (λ q l. (l.0, λ e. let m = l.1 e in omega (arith, m))) qs h in
+    let later : All (IsFromOn (point_at line (column + 1))) (columns_from line (column + 1) n ++ qs) =
+    columns-from-on (point_at line (column + 1)) line (column + 1) n qs (omega arith, λ e. omega arith) behind in
     AllPairs-cons IsEarlier (line, column) (columns_from line (column + 1) n ++ qs)
-    (All-weaker (IsFromOn (spot line (column + 1))) (IsEarlier (line, column)) (λ q l. (l.0, λ e. let m = l.1 e in omega (arith, m))) (columns_from line (column + 1) n ++ qs) later)
-    (columns-once line (column + 1) n qs (subst (λ x. All (IsFromOn (spot line x)) qs) sum h) k)
+    (All-weaker (IsFromOn (point_at line (column + 1))) (IsEarlier (line, column)) (λ q l. (l.0, λ e. let m = l.1 e in omega (arith, m))) (columns_from line (column + 1) n ++ qs) later)
+    (columns-once line (column + 1) n qs (subst (λ x. All (IsFromOn (point_at line x)) qs) sum h) k)
 
 spans-once : (width : ℕ → ℕ) (count : ℕ) (ss : List Span) → AreOrdered width count ss → AllPairs IsEarlier (points_of ss)
 spans-once width count [] h = λ i j d k l. absurd (omega (arith, l))
 spans-once width count (s ∷ ss) h =
     let end : s.end ≡ s.start + (s.end - s.start) = omega (arith, h.0.1.0) in
     columns-once s.line s.start (s.end - s.start) (points_of ss)
-    (subst (λ x. All (IsFromOn (spot s.line x)) (points_of ss)) end (spans-from-on (span_end s) ss h.1.0)) (spans-once width count ss h.1.1)
+    (subst (λ x. All (IsFromOn (point_at s.line x)) (points_of ss)) end (spans-from-on (span_end s) ss h.1.0)) (spans-once width count ss h.1.1)
 
 -- No byte of a C part is lost: the law.
 pub web-keeps-bytes : (source : SourceRead) → KeepsEachByte source (web_of source)

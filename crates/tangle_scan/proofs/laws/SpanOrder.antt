@@ -10,11 +10,11 @@ use Rattle.tangle_lexer.specs.declared.tokens.Token.TheVariants as token
 use Rattle.tangle_scan.specs.SourceOrder.{IsBefore}
 use Rattle.tangle_scan.specs.Web.{Block, blocks, body}
 use Rattle.tangle_scan.specs.Web.BlockKind.{OfMacro, OfPiece}
-use Rattle.tangle_lexer.proofs.laws.Points.{Point, spot, Precedes}
-use Rattle.tangle_lexer.proofs.laws.TokenOrder.{Inside, StandInOrder, IsFrom, span_end, jumped}
+use Rattle.tangle_lexer.proofs.laws.Points.{Point, point_at, Precedes}
+use Rattle.tangle_lexer.proofs.laws.TokenOrder.{Inside, AreInOrder, IsFrom, span_end, jumped}
 use Rattle.tangle_scan.proofs.laws.ItemSpans.{token_spans}
 
--- a span stands behind a place
+-- a span is behind a place
 abbrev pub IsBehind : Point → Span → Type 0
 IsBehind at s = (at.line ≤ s.line) × (at.line ≡ s.line → at.column ≤ s.start)
 
@@ -55,11 +55,11 @@ module _ (width : ℕ → ℕ) (count : ℕ) where
     ],
   )
 
-  line-behind : (a at : Point) (line : ℕ) → Precedes a at → line ≡ at.line + 1 → Precedes a (spot line 0)
+  line-behind : (a at : Point) (line : ℕ) → Precedes a at → line ≡ at.line + 1 → Precedes a (point_at line 0)
   line-behind a at line h e = (omega (arith, h.0, e), λ same. absurd (omega (arith, h.0, e, same)))
 
-  -- the spans stand behind what is before the tokens
-  in_order-behind : (from : Bool) (a at : Point) (es : List Token) (stays : Bool) (to : Point) → Precedes a at → StandInOrder width count from at es stays to → AreBehind a (token_spans es)
+  -- the spans are behind what is before the tokens
+  in_order-behind : (from : Bool) (a at : Point) (es : List Token) (stays : Bool) (to : Point) → Precedes a at → AreInOrder width count from at es stays to → AreBehind a (token_spans es)
   in_order-behind from a at [] stays to h ordered = tt
   in_order-behind from a at (token.Section ∷ es) stays to h ordered = in_order-behind false a at es stays to h ordered
   in_order-behind from a at (token.MacroStart line ∷ es) stays to h ordered = in_order-behind true a (jumped at line) es stays to (jump-behind a at line h ordered.0) ordered.1
@@ -67,21 +67,21 @@ module _ (width : ℕ → ℕ) (count : ℕ) where
   in_order-behind from a at (token.NamedPart name line ∷ es) stays to h ordered = in_order-behind true a (jumped at line) es stays to (jump-behind a at line h ordered.0) ordered.1
   in_order-behind from a at (token.Text kind s ∷ es) stays to h ordered =
       let l = from-inside from _ ordered in (is-behind a at s h l.0, in_order-behind true a (span_end s) es stays to (end-behind a at s h l.0) l.1)
-  in_order-behind from a at (token.Constant value line ∷ es) stays to h ordered = let l = from-inside from _ ordered in in_order-behind true a at es stays to h l.1.1
+  in_order-behind from a at (token.AsciiConstant value line ∷ es) stays to h ordered = let l = from-inside from _ ordered in in_order-behind true a at es stays to h l.1.1
   in_order-behind from a at (token.LineEnd line ∷ es) stays to h ordered =
-      let l = from-inside from _ ordered in in_order-behind true a (spot (line + 1) 0) es stays to (line-behind a at (line + 1) h (omega (arith, l.0))) l.1
+      let l = from-inside from _ ordered in in_order-behind true a (point_at (line + 1) 0) es stays to (line-behind a at (line + 1) h (omega (arith, l.0))) l.1
   in_order-behind from a at (token.QuoteBreak ∷ es) stays to h ordered =
-      let l = from-inside from _ ordered in in_order-behind true a (spot (at.line + 1) 0) es stays to (line-behind a at (at.line + 1) h refl) l
+      let l = from-inside from _ ordered in in_order-behind true a (point_at (at.line + 1) 0) es stays to (line-behind a at (at.line + 1) h refl) l
   in_order-behind from a at (token.UseOf name line ∷ es) stays to h ordered =
       let l = from-inside from _ ordered in in_order-behind true a (jumped at line) es stays to (jump-behind a at line h l.0) l.1
-  in_order-behind from a at (token.Defs line ∷ es) stays to h ordered = let l = from-inside from _ ordered in in_order-behind true a at es stays to h l.1
+  in_order-behind from a at (token.AllMacros line ∷ es) stays to h ordered = let l = from-inside from _ ordered in in_order-behind true a at es stays to h l.1
   in_order-behind from a at (_ ∷ es) stays to h ordered = in_order-behind from a at es stays to h ordered
 
   end-same : (s : Span) → Precedes (span_end s) (span_end s)
   end-same s = (omega arith, λ e. omega arith)
 
-  -- each span stands behind those before it
-  pub in_order-ordered : (from : Bool) (at : Point) (es : List Token) (stays : Bool) (to : Point) → StandInOrder width count from at es stays to → AreOrdered width count (token_spans es)
+  -- each span is behind those before it
+  pub in_order-ordered : (from : Bool) (at : Point) (es : List Token) (stays : Bool) (to : Point) → AreInOrder width count from at es stays to → AreOrdered width count (token_spans es)
   in_order-ordered from at [] stays to ordered = tt
   in_order-ordered from at (token.Section ∷ es) stays to ordered = in_order-ordered false at es stays to ordered
   in_order-ordered from at (token.MacroStart line ∷ es) stays to ordered = in_order-ordered true (jumped at line) es stays to ordered.1
@@ -89,11 +89,11 @@ module _ (width : ℕ → ℕ) (count : ℕ) where
   in_order-ordered from at (token.NamedPart name line ∷ es) stays to ordered = in_order-ordered true (jumped at line) es stays to ordered.1
   in_order-ordered from at (token.Text kind s ∷ es) stays to ordered =
       let l = from-inside from _ ordered in (is-range at s l.0, (in_order-behind true (span_end s) (span_end s) es stays to (end-same s) l.1, in_order-ordered true (span_end s) es stays to l.1))
-  in_order-ordered from at (token.Constant value line ∷ es) stays to ordered = in_order-ordered true at es stays to (from-inside from _ ordered).1.1
-  in_order-ordered from at (token.LineEnd line ∷ es) stays to ordered = in_order-ordered true (spot (line + 1) 0) es stays to (from-inside from _ ordered).1
-  in_order-ordered from at (token.QuoteBreak ∷ es) stays to ordered = in_order-ordered true (spot (at.line + 1) 0) es stays to (from-inside from _ ordered)
+  in_order-ordered from at (token.AsciiConstant value line ∷ es) stays to ordered = in_order-ordered true at es stays to (from-inside from _ ordered).1.1
+  in_order-ordered from at (token.LineEnd line ∷ es) stays to ordered = in_order-ordered true (point_at (line + 1) 0) es stays to (from-inside from _ ordered).1
+  in_order-ordered from at (token.QuoteBreak ∷ es) stays to ordered = in_order-ordered true (point_at (at.line + 1) 0) es stays to (from-inside from _ ordered)
   in_order-ordered from at (token.UseOf name line ∷ es) stays to ordered = in_order-ordered true (jumped at line) es stays to (from-inside from _ ordered).1
-  in_order-ordered from at (token.Defs line ∷ es) stays to ordered = in_order-ordered true at es stays to (from-inside from _ ordered).1
+  in_order-ordered from at (token.AllMacros line ∷ es) stays to ordered = in_order-ordered true at es stays to (from-inside from _ ordered).1
   in_order-ordered from at (_ ∷ es) stays to ordered = in_order-ordered from at es stays to ordered
 
   -- so do the spans of some of the parts
@@ -108,7 +108,7 @@ module _ (width : ℕ → ℕ) (count : ℕ) where
 
   -- `f` takes all spans of a part or none
   module _ (f : Block → List Span) (picks : (p : Block) → (f p ≡ []) ⊎ (f p ≡ token_spans p.tokens)) where
-    -- a property that what stands behind keeps
+    -- a property that what is behind keeps
     picked : (P : List Span → Type 0) (p : Block) (ss : List Span) → P (token_spans p.tokens ++ ss) → P ss → P (f p ++ ss)
     picked P p ss all none = elim (picks p) [
       | inl e ↦ subst (λ ts. P (ts ++ ss)) (sym e) none

@@ -1,4 +1,4 @@
--- The laws of a web: its spans are in range and in order, and its texts stand at their lines.
+-- The laws of a web: its spans are in range and in order, and its texts are at their lines.
 use Rattle.std.proofs.Common.{◌≡◌, ◌≤◌, ℕ, Bool, true, false, List, [], ◌∷◌, ◌++◌, length, get_or, flat_map, cond, inl, inr, ◌⊎◌, refl, ap, sym, ◌∙◌, arith, subst, append-nil, zero-add}
 use Rattle.std.specs.List.{All, AllZip}
 use Rattle.std.proofs.lemmas.List.Elements.{All-nil, All-cons}
@@ -15,9 +15,9 @@ use Rattle.tangle_lexer.specs.Steps.{at_first, tokens_from, all_tokens}
 use Rattle.tangle_scan.specs.Web.{web_of, PieceRead, Block, BlockKind, blocks, piece_of, kind_piece, macro_of, kind_macro, texts_of}
 use Rattle.tangle_scan.specs.Web.BlockKind.{OfMacro, OfPiece}
 use Rattle.tangle_scan.specs.SourceOrder.{IsSpan, IsInRange, SpansAreInRange, item_spans, SpansAreInOrder}
-use Rattle.tangle_scan.specs.LineTruth.{StandsAtItsLine, kind_standings, PiecesStandAtTheirLines}
-use Rattle.tangle_lexer.proofs.laws.Points.{spot, text-is}
-use Rattle.tangle_lexer.proofs.laws.LexemeOrder.{StandSomewhere, lexemes-in_order}
+use Rattle.tangle_scan.specs.LineTruth.{IsAtItsLine, kind_locations, PiecesAreAtTheirLines}
+use Rattle.tangle_lexer.proofs.laws.Points.{point_at, text-is}
+use Rattle.tangle_lexer.proofs.laws.LexemeOrder.{AreSomewhere, lexemes-in_order}
 use Rattle.tangle_scan.proofs.laws.ItemSpans.{token_spans, part-spans, macro-spans}
 use Rattle.tangle_scan.proofs.laws.SpanOrder.{AreOrdered, IsRange, in_order-ordered, some-ordered, ordered-suffix, ordered-pairs}
 use Rattle.tangle_scan.proofs.laws.BlockFlows.{kind_flows, AllFlow, blocks-flow}
@@ -28,10 +28,10 @@ abbrev pub width : List Line → ℕ → ℕ
 width lines n = length (get_or lines n no_line).bytes
 
 -- the tokens of a source lie in its text
-all-in_order : (lines : List Line) → StandSomewhere (width lines) (length lines) false (spot 0 0) (all_tokens lines)
+all-in_order : (lines : List Line) → AreSomewhere (width lines) (length lines) false (point_at 0 0) (all_tokens lines)
 unfolding tokens_from
 all-in_order lines =
-    lexemes-in_order (width lines) (length lines) 0 (at_first (length lines)) (text_from 0 lines) (spot 0 0) refl
+    lexemes-in_order (width lines) (length lines) 0 (at_first (length lines)) (text_from 0 lines) (point_at 0 0) refl
     (text-is (width lines) (length lines) 0 lines (omega arith) (λ k lt. ap (width lines) (sym (zero-add k))))
 
 pub flat_map-twice : {A B C : Type 0} (f : B → List C) (g : A → List B) (xs : List A) → flat_map f (flat_map g xs) ≡ flat_map (λ x. flat_map f (g x)) xs
@@ -66,7 +66,7 @@ module _ (lines : List Line) where
       by (OfPiece name line) = inl refl
 
   all-ordered : AreOrdered (width lines) (length lines) (token_spans (all_tokens lines))
-  all-ordered = let ordered = all-in_order lines in in_order-ordered (width lines) (length lines) false (spot 0 0) (all_tokens lines) ordered.stays ordered.to ordered.ordered
+  all-ordered = let ordered = all-in_order lines in in_order-ordered (width lines) (length lines) false (point_at 0 0) (all_tokens lines) ordered.stays ordered.to ordered.ordered
 
   pub pieces-ordered : AreOrdered (width lines) (length lines) (flat_map (λ q. item_spans q.items) (flat_map (piece_of lines) (blocks 0 (all_tokens lines))))
   pieces-ordered =
@@ -112,15 +112,15 @@ module _ (lines : List Line) where
       All-cons (All (IsInRange (texts_of lines))) m ms
       (items-in-range m (flat_map item_spans ms) h) (macros-in-range ms (ordered-suffix (width lines) (length lines) (item_spans m) (flat_map item_spans ms) h))
 
-  -- the parts whose texts follow one another by lines stand at their lines
+  -- the parts whose texts follow one another by lines are at their lines
   blocks-true : (ps : List Block) → AllFlow (length lines) ps
-      → AllZip (λ p stands. StandsAtItsLine lines p.place p.items stands) (flat_map (piece_of lines) ps) (flat_map (λ p. kind_standings p.kind p.tokens) ps)
+      → AllZip (λ p text_lines. IsAtItsLine lines p.place p.items text_lines) (flat_map (piece_of lines) ps) (flat_map (λ p. kind_locations p.kind p.tokens) ps)
   blocks-true [] flow = tt
   blocks-true (p ∷ ps) flow = by p.kind flow.0 (blocks-true ps flow.1)
     where
       by : (k : BlockKind) → kind_flows (length lines) k p
-          → AllZip (λ p stands. StandsAtItsLine lines p.place p.items stands) (flat_map (piece_of lines) ps) (flat_map (λ p. kind_standings p.kind p.tokens) ps)
-          → AllZip (λ p stands. StandsAtItsLine lines p.place p.items stands) (kind_piece lines k p ++ flat_map (piece_of lines) ps) (kind_standings k p.tokens ++ flat_map (λ p. kind_standings p.kind p.tokens) ps)
+          → AllZip (λ p text_lines. IsAtItsLine lines p.place p.items text_lines) (flat_map (piece_of lines) ps) (flat_map (λ p. kind_locations p.kind p.tokens) ps)
+          → AllZip (λ p text_lines. IsAtItsLine lines p.place p.items text_lines) (kind_piece lines k p ++ flat_map (piece_of lines) ps) (kind_locations k p.tokens ++ flat_map (λ p. kind_locations p.kind p.tokens) ps)
       by (OfMacro line) f rest = rest
       by (OfPiece name line) f rest = (part-true lines line p.tokens f, rest)
 
@@ -131,16 +131,16 @@ web-in-range source = record {
   macros = macros-in-range source.lines _ (macros-ordered source.lines);
 }
 
--- the spans of a web stand in the order of the source
+-- the spans of a web are in the order of the source
 pub web-in-order : (source : SourceRead) → SpansAreInOrder (web_of source)
 web-in-order source = record {
   pieces = ordered-pairs (width source.lines) (length source.lines) _ (pieces-ordered source.lines);
   macros = ordered-pairs (width source.lines) (length source.lines) _ (macros-ordered source.lines);
 }
 
--- the texts of each piece stand at the compiler's place that is their own, outside stretches
-pub web-line-truth : (source : SourceRead) → PiecesStandAtTheirLines source (web_of source)
+-- the texts of each piece are at the compiler's place that is their own, outside stretches
+pub web-line-truth : (source : SourceRead) → PiecesAreAtTheirLines source (web_of source)
 web-line-truth source =
     let ordered = all-in_order source.lines in
     blocks-true source.lines (blocks 0 (all_tokens source.lines))
-    (blocks-flow (width source.lines) (length source.lines) 0 false (spot 0 0) (all_tokens source.lines) ordered.stays ordered.to ordered.ordered)
+    (blocks-flow (width source.lines) (length source.lines) 0 false (point_at 0 0) (all_tokens source.lines) ordered.stays ordered.to ordered.ordered)

@@ -7,7 +7,7 @@ use Rattle.tangle_lines.specs.Reading.{Line, SourceRead}
 use Rattle.tangle_lexer.specs.declared.tokens.Token.{Token}
 use Rattle.tangle_lexer.specs.declared.tokens.Token.TheVariants as token
 use Rattle.tangle_scan.specs.Passes.{is_rare}
-use Rattle.tangle_scan.specs.Web.{is_defs, body, blocks, block_at, section_behind, section_count, scan_faults, faults_at}
+use Rattle.tangle_scan.specs.Web.{is_all_macros, body, blocks, block_at, section_behind, section_count, scan_faults, faults_at}
 use Rattle.tangle_lexer.specs.Heads.{is_head}
 use Rattle.tangle_scan.specs.Gathering.{GatheringRead, gathering_with, with_head, own_fault}
 
@@ -164,10 +164,10 @@ gathering-nothing source before = rw (append-nil before.pieces, append-nil befor
 
 -- without rare tokens there is no @h and no fault
 
-pub rare-defs : (es : List Token) → list_any is_rare es ≡ false → list_any is_defs es ≡ false
-rare-defs [] h = refl
-rare-defs (token.Defs line ∷ es) h = cc
-rare-defs (e ∷ es) h = rare-defs es (or-false (is_rare e) (list_any is_rare es) h).1
+pub rare-all_macros : (es : List Token) → list_any is_rare es ≡ false → list_any is_all_macros es ≡ false
+rare-all_macros [] h = refl
+rare-all_macros (token.AllMacros line ∷ es) h = cc
+rare-all_macros (e ∷ es) h = rare-all_macros es (or-false (is_rare e) (list_any is_rare es) h).1
 
 pub rare-faults : (files : FileTable) (lines : List Line) (es : List Token) → list_any is_rare es ≡ false → flat_map (own_fault files lines) es ≡ []
 rare-faults files lines [] h = refl

@@ -15,7 +15,7 @@ use Rattle.tangle_scan.specs.Rules.{without_faults, with_spaces, would_merge, is
 use Rattle.tangle_scan.specs.Rules.{is_word_token, without_joins, left_of_run, is_gap}
 use Rattle.tangle_scan.specs.Rules.{is_join, has_join, blanks, items_by_place, line_item}
 use Rattle.tangle_scan.specs.Rules.{count_behind, part_items}
-use Rattle.tangle_scan.specs.Passes.{joins_ahead, touches, wants_blank, behind_white, last_of}
+use Rattle.tangle_scan.specs.Passes.{joins_ahead, touches, needs_blank, behind_white, last_of}
 use Rattle.tangle_scan.specs.Passes.{is_joined, laid, items_at, count_after, with_white_space}
 use Rattle.tangle_scan.proofs.lemmas.RuleLemmas.{without_joins-item, has_join-push}
 use Rattle.tangle_scan.proofs.lemmas.SpacingLemmas.{behind-line, behind-join, spaced-inside}
@@ -28,7 +28,7 @@ white_if b = if b then token.White ∷ [] else []
 abbrev unless : Bool → List Token → List Token
 unless b es = if b then [] else es
 
--- what rules 1 and 2 leave: whether a join stands in the run before, and the token before
+-- what rules 1 and 2 leave: whether a join is in the run before, and the token before
 abbrev left : Bool → Token → List Token → List Token
 left joined before [] = []
 left joined before (token.Fault kind line ∷ es) = left joined before es
@@ -71,7 +71,7 @@ closes-none before e x h = settled (would_merge before e)
 closes-gaps : (run : List Token) → Closes run token.White
 closes-gaps run e x h = without_joins-item run e x h
 
--- rules 1 and 2, where this run stands before
+-- rules 1 and 2, where this run is before
 
 run-nothing : (run : List Token) (b : Bool) → unless b run ≡ unless (b || false) run ++ []
 run-nothing run true = refl
@@ -164,14 +164,14 @@ blanks-joined true (token.White ∷ es) = blanks-joined true es
 blanks-joined true (token.LineEnd line ∷ es) = blanks-joined true es
 blanks-joined true (e ∷ es) = refl
 
--- where no item stands before, white space is nothing
+-- where no item is before, white space is nothing
 blanks-front : (es : List Token) → blanks false false es ≡ blanks false true es
 blanks-front [] = refl
 blanks-front (token.White ∷ es) = refl
 blanks-front (token.LineEnd line ∷ es) = refl
 blanks-front (e ∷ es) = refl
 
--- the flags of rule 3 by what stands last; the second is whether a join comes
+-- the flags of rule 3 by what is last; the second is whether a join comes
 
 abbrev is_item : Last → Bool
 is_item last.Front = false
@@ -216,25 +216,25 @@ step-touch e x false h = blanks-solid true false e x h
 
 step-blank : (at : Last) (e : Token) (x : List Token) → is_solid e ≡ true →
     blanks (is_item at) (is_white at false) (white_if (touches at e) ++ e ∷ x)
-    ≡ white_if (wants_blank at e) ++ e ∷ blanks true false x
+    ≡ white_if (needs_blank at e) ++ e ∷ blanks true false x
 step-blank last.Front e x h = blanks-solid false false e x h
 step-blank last.Joined e x h = blanks-solid false false e x h
 step-blank last.Other e x h = blanks-solid true false e x h
 step-blank last.Word e x h = step-touch e x (is_constant e) h
-step-blank last.Constant e x h = step-touch e x (is_constant e || is_word_token e) h
+step-blank last.AsciiConstant e x h = step-touch e x (is_constant e || is_word_token e) h
 step-blank last.White e x h = blanks-solid true true e x h
 
 step-item : (lines : List Line) (at : Last) (count : Origin) (e : Token) (x : List Token)
     (rest : List Item) (merges : Bool) → is_solid e ≡ true → merges ≡ touches at e →
     rest ≡ items_by_place lines (count_after lines count e) (blanks true false x) →
-    (if wants_blank at e then item.Blank ∷ [] else []) ++ (items_at lines e ++ rest)
+    (if needs_blank at e then item.Blank ∷ [] else []) ++ (items_at lines e ++ rest)
     ≡ items_by_place lines count
     (blanks (is_item at) (is_white at false) (white_if merges ++ e ∷ x))
 step-item lines at count e x rest merges h is is_rest =
     rw (
       is,
       step-blank at e x h,
-      items_by_place-blank lines count (wants_blank at e) (e ∷ blanks true false x),
+      items_by_place-blank lines count (needs_blank at e) (e ∷ blanks true false x),
       items_by_place-solid lines count e (blanks true false x) h,
       is_rest,
     ) refl
@@ -245,7 +245,7 @@ or-false false = refl
 
 last-touches : (e f : Token) → would_merge e f ≡ touches (last_of e) f
 last-touches (token.Text text_kind.Word s) f = refl
-last-touches (token.Constant value line) f = or-false (is_constant f || is_word_token f)
+last-touches (token.AsciiConstant value line) f = or-false (is_constant f || is_word_token f)
 last-touches _ f = refl
 
 laid-left : (lines : List Line) (at : Last) (count : Origin) (before : Token) (es : List Token) →

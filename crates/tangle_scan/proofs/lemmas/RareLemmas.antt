@@ -18,7 +18,7 @@ use Rattle.tangle_scan.specs.declared.rare_parts.Last.TheVariants as last
 use Rattle.tangle_scan.specs.declared.rare_parts.RareLaying.{RareLaying}
 use Rattle.tangle_scan.specs.Rules.{blanks, items_by_place, line_item, count_behind}
 use Rattle.tangle_scan.specs.Passes.{counts, items_at, count_after, whole, laid, takes_back}
-use Rattle.tangle_scan.specs.Passes.{joins_ahead, is_joined, wants_blank, behind_white, last_of}
+use Rattle.tangle_scan.specs.Passes.{joins_ahead, is_joined, needs_blank, behind_white, last_of}
 use Rattle.tangle_scan.proofs.lemmas.LayingLemmas.{pushed-twice}
 
 -- a token that is no white space, no line end, no join and no fault
@@ -152,7 +152,7 @@ laid-line lines items new at line many count es front joined long is counted =
 laid-solid : (lines : List Line) (at : Last) (count : Origin) (e : Token) (es : List Token) →
     is_solid e ≡ true →
     laid lines at count (e ∷ es)
-    ≡ (if wants_blank at e then item.Blank ∷ [] else [])
+    ≡ (if needs_blank at e then item.Blank ∷ [] else [])
     ++ (items_at lines e ++ laid lines (last_of e) (count_after lines count e) es)
 laid-solid lines at count token.White es h = cc
 laid-solid lines at count (token.LineEnd line) es h = cc
@@ -171,12 +171,12 @@ solid-stays _ e es h = refl
 
 last-stays : (e : Token) (es : List Token) → takes_back (last_of e) es ≡ false
 last-stays (token.Text text_kind.Word s) es = refl
-last-stays (token.Constant value line) es = refl
+last-stays (token.AsciiConstant value line) es = refl
 last-stays _ es = refl
 
 pub laid-item : (lines : List Line) (old middle new : List Item) (at : RareLaying) (e : Token)
     (count : Count) (es : List Token) → is_solid e ≡ true →
-    middle ≡ old ++ (if wants_blank at.last e then item.Blank ∷ [] else []) →
+    middle ≡ old ++ (if needs_blank at.last e then item.Blank ∷ [] else []) →
     new ≡ middle ++ items_at lines e → counts count ≡ count_after lines (counts at.count) e →
     whole lines new (record { last = last_of e; count = count; start = at.start }) es
     ≡ whole lines old at (e ∷ es)

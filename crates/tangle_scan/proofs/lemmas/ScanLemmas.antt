@@ -5,7 +5,7 @@ use Rattle.tangle_lines.specs.Reading.{SourceRead}
 use Rattle.tangle_lexer.specs.declared.tokens.Token.{Token}
 use Rattle.tangle_lexer.specs.declared.modes.ScanState.{ScanState}
 use Rattle.tangle_lexer.specs.Text.{Cell}
-use Rattle.tangle_lexer.specs.Steps.{tokens_from, names_from, all_tokens, all_names}
+use Rattle.tangle_lexer.specs.Steps.{tokens_from, occurrences_from, all_tokens, all_occurrences}
 use Rattle.tangle_scan.specs.Web.{body, web_of}
 use Rattle.tangle_lexer.specs.Occurrences.{OccurrenceRead, occurrence_of}
 use Rattle.tangle_lexer.specs.Heads.{is_head}
@@ -16,8 +16,8 @@ pub tokens-end : (s : ScanState) → tokens_from s [] ≡ []
 unfolding tokens_from
 tokens-end s = refl
 
-pub names-end : (s : ScanState) → names_from s [] ≡ []
-unfolding names_from
+pub names-end : (s : ScanState) → occurrences_from s [] ≡ []
+unfolding occurrences_from
 names-end s = refl
 
 -- what is ahead of a part begins with a head, or there is nothing
@@ -50,7 +50,7 @@ block-shorter text rest (Some head) some end = omega (arith, some)
 
 -- the web of what was gathered
 pub web-whole : (source : SourceRead) (all : GatheringRead) (names : List OccurrenceRead) → all ≡ gathering_with source nothing (all_tokens source.lines) →
-    names ≡ map (occurrence_of source.lines) (all_names source.lines) →
+    names ≡ map (occurrence_of source.lines) (all_occurrences source.lines) →
     web_from source all names ≡ web_of source
 unfolding gathering_with
 web-whole source all names a b = rw (a, b) refl

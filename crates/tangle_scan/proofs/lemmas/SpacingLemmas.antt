@@ -122,8 +122,8 @@ unchanged-faults (token.Fault kind line ∷ es) h = cc
 unchanged-faults (e ∷ es) h = ap (λ t. e ∷ t) (unchanged-faults es (or-false (is_rare e) (list_any is_rare es) h).1)
 
 unchanged-merge : (e f : Token) → is_rare e ≡ false → is_rare f ≡ false → would_merge e f ≡ false
-unchanged-merge (token.Constant value line) f h k = cc
-unchanged-merge (token.Text text_kind.Word s) (token.Constant value line) h k = cc
+unchanged-merge (token.AsciiConstant value line) f h k = cc
+unchanged-merge (token.Text text_kind.Word s) (token.AsciiConstant value line) h k = cc
 unchanged-merge (token.Text text_kind.Word s) _ h k = refl
 unchanged-merge _ f h k = refl
 

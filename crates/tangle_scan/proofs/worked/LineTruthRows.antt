@@ -5,7 +5,7 @@ use Rattle.tangle_lexer.specs.declared.spans.Span.{Span}
 use Rattle.tangle_scan.specs.declared.items.Item.TheVariants as item
 use Rattle.tangle_lexer.specs.declared.tokens.TextKind.TheVariants as text_kind
 use Rattle.tangle_lexer.specs.declared.tokens.Token.TheVariants as token
-use Rattle.tangle_scan.specs.LineTruth.{placed_items, Standing, standings}
+use Rattle.tangle_scan.specs.LineTruth.{placed_items, Location, locations}
 
 -- one byte in the first column of a line
 abbrev at : ℕ → Span
@@ -14,24 +14,24 @@ at line = record { line = line; start = 0; end = 1 }
 abbrev place : ℕ → Origin
 place line = record { file = 0; line = line }
 
-abbrev stands : ℕ → Bool → Standing
-stands line in_stretch = record { item = item.Word (at line); line = line; in_stretch = in_stretch }
+abbrev location : ℕ → Bool → Location
+location line in_stretch = record { item = item.Word (at line); line = line; in_stretch = in_stretch }
 
 -- a join takes a line end away: what follows it is in a stretch, up to the next line end
 removed_line_end :
-    standings false false false
+    locations false false false
     (token.Text text_kind.Word (at 1) ∷ token.White ∷ token.Join ∷ token.LineEnd 1 ∷ token.Text text_kind.Word (at 2) ∷ token.Join ∷ token.Text text_kind.Word (at 2) ∷ token.LineEnd 2 ∷ token.Text text_kind.Word (at 3) ∷ [])
-    ≡ stands 1 false ∷ stands 2 true ∷ stands 2 true ∷ stands 3 false ∷ []
+    ≡ location 1 false ∷ location 2 true ∷ location 2 true ∷ location 3 false ∷ []
 removed_line_end = refl
 
 -- so is what follows a line end in a quoted text, up to a mark
 quote_break :
-    standings false false false (token.QuoteBreak ∷ token.Text text_kind.Word (at 1) ∷ token.UseOf 0 1 ∷ token.Text text_kind.Word (at 1) ∷ [])
-    ≡ stands 1 true ∷ stands 1 false ∷ []
+    locations false false false (token.QuoteBreak ∷ token.Text text_kind.Word (at 1) ∷ token.UseOf 0 1 ∷ token.Text text_kind.Word (at 1) ∷ [])
+    ≡ location 1 true ∷ location 1 false ∷ []
 quote_break = refl
 
--- an ASCII code tells its line
-code_line : standings false false false (token.Constant 65 7 ∷ []) ≡ record { item = item.Code 65; line = 7; in_stretch = false } ∷ []
+-- an ASCII constant reports its line
+code_line : locations false false false (token.AsciiConstant 65 7 ∷ []) ≡ record { item = item.Code 65; line = 7; in_stretch = false } ∷ []
 code_line = refl
 
 -- the compiler's place: each line end adds a line, a mark sets it, and behind a use it is not known

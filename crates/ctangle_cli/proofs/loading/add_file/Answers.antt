@@ -4,9 +4,9 @@ use Rattle.ctangle_cli.proofs.LoadLemmas.{stops_given, refused_bytes, there_adde
 use Rattle.ctangle_cli.proofs.loading.add_file.Goals as goal
 
 pub returns-in-Err-clause-err : goal.returns-in-Err-clause-err
-returns-in-Err-clause-err c = λ told n.
-    stops_given told _ n n _ _ c.refused.ensures
-    (refused_bytes _ told n c.args.files.now c.args.name.now c.args.bytes.items c.in-Err.refusal _ refl c.requires c.in-Err.ensures.refused c.in-Err.ensures.only)
+returns-in-Err-clause-err c = λ reported n.
+    stops_given reported _ n n _ _ c.refused.ensures
+    (refused_bytes _ reported n c.args.files.now c.args.name.now c.args.bytes.items c.in-Err.refusal _ refl c.requires c.in-Err.ensures.refused c.in-Err.ensures.only)
 
 pub returns-in-Ok-clause-there : goal.returns-in-Ok-clause-there
 returns-in-Ok-clause-there c =

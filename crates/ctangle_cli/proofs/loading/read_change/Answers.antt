@@ -6,4 +6,4 @@ pub returns-then-has-clause-there : goal.returns-then-has-clause-there
 returns-then-has-clause-there g c = rw c.in-Some.is (there_as_has c.args.files.now c.in-Some.name.now ∙ sym c.has.ensures ∙ c.if-has.true)
 
 pub returns-else-has-clause-asks : goal.returns-else-has-clause-asks
-returns-else-has-clause-asks g c = rw c.in-Some.is c.read_wanted.ensures.asks
+returns-else-has-clause-asks g c = rw c.in-Some.is c.read_needed.ensures.asks

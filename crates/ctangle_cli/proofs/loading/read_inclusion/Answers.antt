@@ -3,7 +3,7 @@ use Rattle.std.proofs.lemmas.Result.{IfErr-weaker, err_from_is_err_and, on_ok_we
 use Rattle.tangle_files.specs.Adding.{has_file, is_name}
 use Rattle.ctangle_cli.specs.Tries.{tried}
 use Rattle.ctangle_cli.specs.Loading.{ending_of}
-use Rattle.ctangle_cli.specs.Loading.Ending.{Memory}
+use Rattle.ctangle_cli.specs.Loading.LoadEnd.{Memory}
 use Rattle.ctangle_cli.proofs.AskLemmas.{always_err, asks_this, stops_at, stops_short, tries_absent, tries_added, tries_this, untried}
 use Rattle.ctangle_cli.proofs.LoadLemmas.{stops_along, included_bytes, absent_adds_none}
 use Rattle.ctangle_cli.proofs.OrderLemmas.{ends_about, ends_at, found_added, found_none, goes_asked, named_ends, named_goes}
@@ -27,8 +27,8 @@ returns-then-contains-clause-ok g c = (
   refl,
 )
 
-pub returns-in-Ok-clause-told : goal.returns-in-Ok-clause-told
-returns-in-Ok-clause-told g c = IfErr-weaker c.add_file.result _ _ (λ fault told. told _) c.add_file.ensures.told
+pub returns-in-Ok-clause-reported : goal.returns-in-Ok-clause-reported
+returns-in-Ok-clause-reported g c = IfErr-weaker c.add_file.result _ _ (λ fault reported. reported _) c.add_file.ensures.reported
 
 pub returns-in-Ok-clause-asks : goal.returns-in-Ok-clause-asks
 returns-in-Ok-clause-asks g c =

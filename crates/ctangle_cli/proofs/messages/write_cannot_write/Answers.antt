@@ -1,10 +1,10 @@
 use Rattle.std.proofs.Common.{◌++◌, codes, arith, ℕ, [], length-append}
-use Rattle.tangle_streams.proofs.StreamLemmas.{PutsOut-none}
+use Rattle.tangle_streams.proofs.StreamLemmas.{IsWritten-none}
 use Rattle.ctangle_cli.proofs.messages.write_cannot_write.Goals as goal
 
 pub returns : goal.returns
 returns g c =
     let old = g.E.Sink.stream c.args.err.now in
-    let told = c.put-told.ensures old [] (PutsOut-none old) (omega arith) in
-    let named = c.put-named.ensures old (codes "ctangle: cannot write ") told (omega (arith, length-append {A = ℕ})) in
+    let reported = c.put-reported.ensures old [] (IsWritten-none old) (omega arith) in
+    let named = c.put-named.ensures old (codes "ctangle: cannot write ") reported (omega (arith, length-append {A = ℕ})) in
     c.put.ensures old (codes "ctangle: cannot write " ++ c.args.name.now) named (omega (arith, length-append {A = ℕ}))

@@ -13,4 +13,4 @@ pub returns-in-Err-NoMemory : goal.returns-in-Err-NoMemory
 returns-in-Err-NoMemory g c = IsUnnamed (tries_from _ _ c.write_load.result _ c.write_load.ensures) (refl, (refl, refl), refl) c.unstarted-in-Err-NoMemory.ensures
 
 pub returns-in-Ok : goal.returns-in-Ok
-returns-in-Ok g c = IsNamed c.in-Ok.words c.in-Ok.ensures.ok c.run_named.ensures
+returns-in-Ok g c = IsNamed c.in-Ok.arguments c.in-Ok.ensures.ok c.run_named.ensures

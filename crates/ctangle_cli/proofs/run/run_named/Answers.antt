@@ -9,7 +9,7 @@ returns-in-Err g c =
     IsUnloaded (ending_of c.in-Err.fault) (record {
       why = c.in-Err.ensures.err;
       asks = c.in-Err.ensures.ends;
-      told = c.in-Err.ensures.told;
+      reported = c.in-Err.ensures.reported;
       fails = c.in-Err.ensures.fails;
     }) (tries_from _ _ c.write_load.result _ c.write_load.ensures) c.in-Err.ensures.created_stay c.unstarted.ensures
 

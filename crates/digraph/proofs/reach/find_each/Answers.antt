@@ -5,10 +5,10 @@ use Rattle.digraph.proofs.reach.find_each.Goals.{then-find, else-find}
 
 pub loop-n-preserved : goal.loop-n-preserved
 loop-n-preserved c =
-    let told = c.find.ensures in
+    let reported = c.find.ensures in
     elim c.if-find.branch [
-      | then-find w ↦ rw w.any-is (passed_found _ _ _ _ _ _ _ c.loop-n.invariant told.finding (told.more w.if-find.true))
-      | else-find w ↦ rw w.any-is (passed_settled _ _ _ _ _ _ _ c.loop-n.invariant told.finding (told.same w.if-find.false) (told.settled w.if-find.false))
+      | then-find w ↦ rw w.any-is (passed_found _ _ _ _ _ _ _ c.loop-n.invariant reported.finding (reported.more w.if-find.true))
+      | else-find w ↦ rw w.any-is (passed_settled _ _ _ _ _ _ _ c.loop-n.invariant reported.finding (reported.same w.if-find.false) (reported.settled w.if-find.false))
     ]
 
 pub returns-clause-none : goal.returns-clause-none

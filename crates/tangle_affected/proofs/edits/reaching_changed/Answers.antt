@@ -3,8 +3,8 @@ use Rattle.std.proofs.lemmas.List.{take_all}
 use Rattle.tangle_expansion.specs.Shapes.{here}
 use Rattle.tangle_expansion.specs.declared.nodes.Node.TheVariants.{Program}
 use Rattle.tangle_graph.specs.Stores.{title_in_store}
-use Rattle.tangle_affected.specs.Marks.{number_of_node, ReachesChanged, AreMarked}
-use Rattle.tangle_affected.proofs.MarkLemmas.{at_place, number_low, marked_next, reached_by_use, not_reached}
+use Rattle.tangle_affected.specs.Flags.{number_of_node, ReachesChanged, AreFlagged}
+use Rattle.tangle_affected.proofs.FlagLemmas.{at_place, number_low, flagged_next, reached_by_use, not_reached}
 use Rattle.tangle_affected.proofs.edits.reaching_changed.Goals as goal
 use Rattle.tangle_affected.proofs.edits.reaching_changed.Goals.{then-is_changed, else-is_changed}
 
@@ -21,30 +21,30 @@ loop-node-preserved c =
     let new = c.args.new.now in
     let order = c.args.order.now in
     let i = c.loop-node.node-index in
-    let marks = c.loop-node.marks.items in
-    let b = c.if-is_changed.mark in
+    let flags = c.loop-node.flags.items in
+    let b = c.if-is_changed.is_flagged in
     let inside = c.loop-node-test.true in
     let is : c.number_of.result ≡ number_of_node (length c.args.new.now.names) (get_or c.args.order.now c.loop-node.node-index Program) = rw c.name_count-count.ensures at c.number_of.ensures in
     record {
-      size = length-set marks c.number_of.result b ∙ c.loop-node.invariant.size;
-      marked = λ old_project new_project old_is new_is.
-          let are = c.loop-node.invariant.marked old_project new_project old_is new_is in
-          let told = c.is_changed.ensures old_project new_project old_is new_is in
-          subst (λ n. AreMarked old_project new_project new (set marks n b) (take (i + 1) order)) (sym is)
-          (marked_next new order c.requires.order old_project new_project new_is marks i inside are b c.loop-node.invariant.size
-          (elim c.if-is_changed.branch as (λ _. c.if-is_changed.mark ≡ true → ReachesChanged old_project new_project (title_in_store c.args.new.now (get_or c.args.order.now c.loop-node.node-index Program))) [
-            | then-is_changed w ↦ (λ e. (title_in_store new (get_or order i Program), here, told.0 w.if-is_changed.true))
-            | else-is_changed w ↦ (λ e. (let one = rw (w.deref.ensures.value, w.uses.ensures, c.name_count-count.ensures) at (w.any_marked-mark.ensures.one (sym w.mark-is ∙ e)) in
-                reached_by_use new order c.requires.order old_project new_project new_is marks i inside are one.0 one.1 one.2))
+      size = length-set flags c.number_of.result b ∙ c.loop-node.invariant.size;
+      flagged = λ old_shapes new_shapes old_is new_is.
+          let are = c.loop-node.invariant.flagged old_shapes new_shapes old_is new_is in
+          let reported = c.is_changed.ensures old_shapes new_shapes old_is new_is in
+          subst (λ n. AreFlagged old_shapes new_shapes new (set flags n b) (take (i + 1) order)) (sym is)
+          (flagged_next new order c.requires.order old_shapes new_shapes new_is flags i inside are b c.loop-node.invariant.size
+          (elim c.if-is_changed.branch as (λ _. c.if-is_changed.is_flagged ≡ true → ReachesChanged old_shapes new_shapes (title_in_store c.args.new.now (get_or c.args.order.now c.loop-node.node-index Program))) [
+            | then-is_changed w ↦ (λ e. (title_in_store new (get_or order i Program), here, reported.0 w.if-is_changed.true))
+            | else-is_changed w ↦ (λ e. (let one = rw (w.deref.ensures.value, w.uses.ensures, c.name_count-count.ensures) at (w.any_flagged-is_flagged.ensures.one (sym w.is_flagged-is ∙ e)) in
+                reached_by_use new order c.requires.order old_shapes new_shapes new_is flags i inside are one.0 one.1 one.2))
           ])
-          (elim c.if-is_changed.branch as (λ _. c.if-is_changed.mark ≡ false → ReachesChanged old_project new_project (title_in_store c.args.new.now (get_or c.args.order.now c.loop-node.node-index Program)) → ⊥) [
-            | then-is_changed w ↦ (λ e. (let both : true ≡ false = sym w.if-is_changed.true ∙ (sym w.mark-is ∙ e) in absurd (cc)))
-            | else-is_changed w ↦ (λ e. (let none = rw (w.deref.ensures.value, w.uses.ensures, c.name_count-count.ensures) at (w.any_marked-mark.ensures.none (sym w.mark-is ∙ e)) in
-                not_reached new order c.requires.order old_project new_project new_is marks i inside are c.is_changed.result told w.if-is_changed.false none))
+          (elim c.if-is_changed.branch as (λ _. c.if-is_changed.is_flagged ≡ false → ReachesChanged old_shapes new_shapes (title_in_store c.args.new.now (get_or c.args.order.now c.loop-node.node-index Program)) → ⊥) [
+            | then-is_changed w ↦ (λ e. (let both : true ≡ false = sym w.if-is_changed.true ∙ (sym w.is_flagged-is ∙ e) in absurd (cc)))
+            | else-is_changed w ↦ (λ e. (let none = rw (w.deref.ensures.value, w.uses.ensures, c.name_count-count.ensures) at (w.any_flagged-is_flagged.ensures.none (sym w.is_flagged-is ∙ e)) in
+                not_reached new order c.requires.order old_shapes new_shapes new_is flags i inside are c.is_changed.result reported w.if-is_changed.false none))
           ]));
     }
 
 pub returns : goal.returns
-returns c = λ old_project new_project old_is new_is node h.
+returns c = λ old_shapes new_shapes old_is new_is node h.
     let whole : take c.loop-node.node-index c.args.order.now ≡ c.args.order.now = take_all c.loop-node.node-index c.args.order.now (omega arith) in
-    c.loop-node.invariant.marked old_project new_project old_is new_is node (subst (λ l. Contains l node) (sym whole) h)
+    c.loop-node.invariant.flagged old_shapes new_shapes old_is new_is node (subst (λ l. Contains l node) (sym whole) h)

@@ -10,9 +10,9 @@ expand_list-requires c =
     (c.requires.0, all_ready c.requires.0 c.args.store.now c.order.result.now c.order.ensures c.deref.result.now c.new-kept.result c.requires.1 same c.new-kept.ensures)
 
 pub returns-clause-kept : goal.returns-clause-kept
-returns-clause-kept c = λ project is.
+returns-clause-kept c = λ shapes is.
     let same : c.deref.result.now ≡ filter (is_expandable_at c.args.store.now) c.order.result.now = c.deref.ensures.value ∙ c.in_ok-list.ensures in
-    c.in_ok-expand_list.ensures.kept project (all_ready project c.args.store.now c.order.result.now c.order.ensures c.deref.result.now c.new-kept.result is same c.new-kept.ensures)
+    c.in_ok-expand_list.ensures.kept shapes (all_ready shapes c.args.store.now c.order.result.now c.order.ensures c.deref.result.now c.new-kept.result is same c.new-kept.ensures)
 
 pub returns-clause-work : goal.returns-clause-work
 returns-clause-work c =

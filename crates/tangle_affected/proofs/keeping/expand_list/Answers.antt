@@ -9,12 +9,12 @@ expand_next-requires c =
     let store = c.args.store.now in
     let list = c.args.list.now in
     let i = c.loop-node.node-index in
-    let project = c.requires.0 in
+    let shapes = c.requires.0 in
     let ready = c.requires.1 in
-    let kept = c.loop-node.invariant.kept project ready in
+    let kept = c.loop-node.invariant.kept shapes ready in
     record {
-      expandable = next_expandable project store list ready.store_is ready.list_is i c.loop-node-test.true;
-      used = (project, ready.store_is, next_kept project store list ready.store_is ready.list_is i c.loop-node.kept c.loop-node-test.true kept c.used_names_are_expandable.ensures);
+      expandable = next_expandable shapes store list ready.store_is ready.list_is i c.loop-node-test.true;
+      used = (shapes, ready.store_is, next_kept shapes store list ready.store_is ready.list_is i c.loop-node.kept c.loop-node-test.true kept c.used_names_are_expandable.ensures);
     }
 
 pub loop-node-preserved : goal.loop-node-preserved
@@ -24,14 +24,14 @@ loop-node-preserved c =
     let i = c.loop-node.node-index in
     let law = c.used_names_are_expandable.ensures in
     record {
-      kept = λ project ready.
-          let kept = c.loop-node.invariant.kept project ready in
-          let used = next_kept project store list ready.store_is ready.list_is i c.loop-node.kept c.loop-node-test.true kept law in
-          done_more project store list ready.store_is ready.list_is i c.loop-node.kept c.expand_next.new.kept c.loop-node-test.true kept (c.in_ok-expand_next.ensures.kept project ready.store_is used);
+      kept = λ shapes ready.
+          let kept = c.loop-node.invariant.kept shapes ready in
+          let used = next_kept shapes store list ready.store_is ready.list_is i c.loop-node.kept c.loop-node-test.true kept law in
+          done_more shapes store list ready.store_is ready.list_is i c.loop-node.kept c.expand_next.new.kept c.loop-node-test.true kept (c.in_ok-expand_next.ensures.kept shapes ready.store_is used);
       work = c.in_ok-expand_next.ensures.listed ∙ ap (λ l. l ++ get_or list i Program ∷ []) c.loop-node.invariant.work
           ∙ append_assoc c.args.work.now (take i list) (get_or list i Program ∷ []) ∙ ap (λ l. c.args.work.now ++ l) (sym (take_more list i Program c.loop-node-test.true));
     }
 
 pub returns-clause-kept : goal.returns-clause-kept
-returns-clause-kept c = λ project ready.
-    done_all project c.args.store.now c.args.list.now ready.store_is ready.list_is c.loop-node.node-index c.loop-node.kept (omega arith) (c.loop-node.invariant.kept project ready)
+returns-clause-kept c = λ shapes ready.
+    done_all shapes c.args.store.now c.args.list.now ready.store_is ready.list_is c.loop-node.node-index c.loop-node.kept (omega arith) (c.loop-node.invariant.kept shapes ready)

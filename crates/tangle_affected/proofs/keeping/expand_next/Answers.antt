@@ -12,5 +12,5 @@ expand_one-requires-clause-kept c = λ id h.
     plan_kept used.0 store c.args.kept.now node id used.2 (used.1.plan_uses node id (expandable_in store node c.requires.expandable) h)
 
 pub returns-clause-kept : goal.returns-clause-kept
-returns-clause-kept c = λ project is keeps.
-    subst (λ parts. OnOk c.put.result (PutsKept c.args.kept.now c.put.new.self c.args.node parts)) (c.in_ok-expansion.ensures.right project is keeps) c.put.ensures.ok
+returns-clause-kept c = λ shapes is keeps.
+    subst (λ symbols. OnOk c.put.result (PutsKept c.args.kept.now c.put.new.self c.args.node symbols)) (c.in_ok-expansion.ensures.right shapes is keeps) c.put.ensures.ok

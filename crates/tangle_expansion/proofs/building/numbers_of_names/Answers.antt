@@ -3,7 +3,7 @@ use Rattle.std.specs.Prelude.{slice_index_or}
 use Rattle.std.proofs.lemmas.List.Elements.{All-push}
 use Rattle.tangle_names.specs.NameTable.{table_of}
 use Rattle.tangle_expansion.specs.Shapes.{Named}
-use Rattle.tangle_expansion.specs.Projects.{pieces_of}
+use Rattle.tangle_expansion.specs.WebShapes.{pieces_of}
 use Rattle.tangle_expansion.specs.ItemSlots.{pieces_at}
 use Rattle.tangle_expansion.specs.Numbers.{piece_numbers}
 use Rattle.tangle_expansion.specs.NumbersKept.{entry_of}

@@ -6,6 +6,6 @@ use Rattle.tangle_expansion.proofs.comparing.behind_items.Given as goal
 abbrev pub invariant-loop-i : goal.invariant-loop-i
 invariant-loop-i l = record {
   run : IsKept l.web.texts l.place.run;
-  place : GoOnAs (lists_left l.fn.left) (with_items l.web.texts l.table l.items) (lists_at (drop l.i l.codes) l.place)
+  place : GoOnAs (lists_left l.fn.left) (with_items l.web.texts l.table l.items) (lists_at (drop l.i l.tags) l.place)
       (λ more. with_range l.place (with_items l.web.texts l.table (drop l.i l.items) more));
 }

@@ -6,7 +6,7 @@ use Rattle.tangle_expansion.proofs.comparing.behind_one_byte.Goals as goal
 
 pub returns-in_err-text-2-clause-place : goal.returns-in_err-text-2-clause-place
 returns-in_err-text-2-clause-place c =
-    rw c.from_residual-in_err-text-2.ensures (λ codes more e. cut_not (run_bytes c.args.place.run) (c.args.byte ∷ []) c.args.place.text.now c.in_ok-text.text.now
+    rw c.from_residual-in_err-text-2.ensures (λ tags more e. cut_not (run_bytes c.args.place.run) (c.args.byte ∷ []) c.args.place.text.now c.in_ok-text.text.now
     c.in_ok-text.ensures c.in_err-text-2.ensures more.bytes (ap (λ (m : Lists). m.bytes) e))
 
 pub returns-clause-place : goal.returns-clause-place
@@ -15,8 +15,8 @@ returns-clause-place c =
     let run = run_bytes place.run in
     let next = run_bytes c.end_of-run.result in
     let bytes = c.args.byte ∷ [] in
-    let same = c.same_code.ensures.0 c.if-not-same_code.false in
+    let same = c.same_tag.ensures.0 c.if-not-same_tag.false in
     let text = c.in_ok-text.ensures ∙ ap (λ l. run ++ l) c.in_ok-text-2.ensures ∙ sym (append_assoc run bytes c.in_ok-text-2.text.now) in
-    λ codes. front_same _ _ (λ more. with_all c.args.expected (run ++ bytes) [] (with_bytes next more)) (λ more. with_bytes run (with_byte c.args.expected c.args.byte more)) (with_bytes next)
+    λ tags. front_same _ _ (λ more. with_all c.args.expected (run ++ bytes) [] (with_bytes next more)) (λ more. with_bytes run (with_byte c.args.expected c.args.byte more)) (with_bytes next)
     (byte_cut c.args.expected c.args.byte run next c.end_of-run.ensures.bytes)
-    (λ more. all_behind c.args.expected c.args.code (run ++ bytes) [] (lists_at (c.args.code ∷ codes) place) codes c.in_ok-text-2.text.now place.uses.now same refl text refl (with_bytes next more))
+    (λ more. all_behind c.args.expected c.args.tag (run ++ bytes) [] (lists_at (c.args.tag ∷ tags) place) tags c.in_ok-text-2.text.now place.uses.now same refl text refl (with_bytes next more))

@@ -1,39 +1,39 @@
 use Rattle.std.proofs.Common.{◌≡◌, ◌+◌, ◌-◌, ◌∙◌, length, drop, take, get_or, ap, sym, subst, refl, arith, length-drop}
 use Rattle.std.proofs.lemmas.List.{take_all}
-use Rattle.tangle_expansion.specs.Codes.{piece_end}
+use Rattle.tangle_expansion.specs.Tags.{piece_end}
 use Rattle.tangle_expansion.specs.Runs.{run_bytes}
-use Rattle.tangle_expansion.specs.Fronts.{GoOnAs, Lists, lists_at, lists_left, with_code, with_items, with_range}
-use Rattle.tangle_expansion.specs.declared.codes.ItemCode.{ItemCode}
-use Rattle.tangle_expansion.specs.declared.codes.ItemKind.TheVariants as code
+use Rattle.tangle_expansion.specs.Fronts.{GoOnAs, Lists, lists_at, lists_left, with_tag, with_items, with_range}
+use Rattle.tangle_expansion.specs.declared.tags.ItemTag.{ItemTag}
+use Rattle.tangle_expansion.specs.declared.tags.ItemKind.TheVariants as tag
 use Rattle.tangle_expansion.proofs.ComparingLemmas.{and_not, and_then, end_behind}
 use Rattle.tangle_expansion.proofs.comparing.behind_piece.Goals as goal
 
--- behind the last code
-no_code : ItemCode
-no_code = record { kind = code.Word; size = 0 }
+-- behind the last tag
+no_tag : ItemTag
+no_tag = record { kind = tag.Word; size = 0 }
 
 pub returns-in_err-text : goal.returns-in_err-text
 returns-in_err-text c =
     let place = c.in_ok-place.place in
     rw c.from_residual-in_err-text.ensures
-    (and_not (lists_left c.args.left) (lists_at (drop (length c.args.items.now) c.args.left.codes.now) place) (with_items c.args.web.now.texts c.args.table.now c.args.items.now)
-    (λ more. with_range place (with_code piece_end more)) c.in_ok-place.ensures.place
+    (and_not (lists_left c.args.left) (lists_at (drop (length c.args.items.now) c.args.left.tags.now) place) (with_items c.args.web.now.texts c.args.table.now c.args.items.now)
+    (λ more. with_range place (with_tag piece_end more)) c.in_ok-place.ensures.place
     (λ more e. c.in_err-text.ensures more.bytes (ap (λ (m : Lists). m.bytes) e)))
 
 pub returns : goal.returns
-unfolding no_code
+unfolding no_tag
 returns c =
     let items = c.args.items.now in
-    let codes = c.args.left.codes.now in
+    let tags = c.args.left.tags.now in
     let place = c.in_ok-place.place in
     let n = length items in
     let text = c.in_ok-text.text.now in
-    let same = c.same_code.ensures.0 c.if-not-same_code.false ∙ c.end_of_piece.ensures in
+    let same = c.same_tag.ensures.0 c.if-not-same_tag.false ∙ c.end_of_piece.ensures in
     let first = lists_left c.args.left in
     let whole = with_items c.args.web.now.texts c.args.table.now items in
-    let rest : take (length codes - (n + 1)) (drop (n + 1) codes) ≡ drop (n + 1) codes
-    = take_all (length codes - (n + 1)) (drop (n + 1) codes) (omega (arith, length-drop (n + 1) codes)) in
-    subst (λ l. GoOnAs first whole (record { codes = l; bytes = text; uses = place.uses.now }) (λ more. more)) (sym rest)
-    (and_then first (lists_at (drop n codes) place) (record { codes = drop (n + 1) codes; bytes = text; uses = place.uses.now }) whole
-    (λ more. with_range place (with_code piece_end more)) (λ more. more) c.in_ok-place.ensures.place
-    (end_behind c.args.web.now.texts c.args.table.now codes n (get_or codes n no_code) no_code (run_bytes place.run) text place (omega arith) refl same refl c.in_ok-text.ensures))
+    let rest : take (length tags - (n + 1)) (drop (n + 1) tags) ≡ drop (n + 1) tags
+    = take_all (length tags - (n + 1)) (drop (n + 1) tags) (omega (arith, length-drop (n + 1) tags)) in
+    subst (λ l. GoOnAs first whole (record { tags = l; bytes = text; uses = place.uses.now }) (λ more. more)) (sym rest)
+    (and_then first (lists_at (drop n tags) place) (record { tags = drop (n + 1) tags; bytes = text; uses = place.uses.now }) whole
+    (λ more. with_range place (with_tag piece_end more)) (λ more. more) c.in_ok-place.ensures.place
+    (end_behind c.args.web.now.texts c.args.table.now tags n (get_or tags n no_tag) no_tag (run_bytes place.run) text place (omega arith) refl same refl c.in_ok-text.ensures))

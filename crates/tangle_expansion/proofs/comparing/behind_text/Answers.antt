@@ -1,8 +1,8 @@
 use Rattle.std.proofs.Common.{◌∙◌, ◌-◌, [], ◌∷◌, refl}
 use Rattle.tangle_expansion.specs.Runs.{run_bytes}
-use Rattle.tangle_expansion.specs.Fronts.{lists_at, with_bytes, with_code, with_text}
-use Rattle.tangle_expansion.specs.declared.codes.ItemCode.{ItemCode}
-use Rattle.tangle_expansion.proofs.ComparingLemmas.{all_behind, code_behind, front_same, text_cut, text_joined, with_all}
+use Rattle.tangle_expansion.specs.Fronts.{lists_at, with_bytes, with_tag, with_text}
+use Rattle.tangle_expansion.specs.declared.tags.ItemTag.{ItemTag}
+use Rattle.tangle_expansion.proofs.ComparingLemmas.{all_behind, tag_behind, front_same, text_cut, text_joined, with_all}
 use Rattle.tangle_expansion.proofs.comparing.behind_text.Goals as goal
 
 pub returns-in-Some-clause-place : goal.returns-in-Some-clause-place
@@ -10,22 +10,22 @@ returns-in-Some-clause-place c =
     let texts = c.args.web.now.texts in
     let s = c.args.span in
     let place = c.args.place in
-    let expected : ItemCode = record { kind = c.args.kind; size = s.end - s.start } in
-    let same = c.same_code.ensures.0 c.if-not-same_code.false ∙ c.code_of_span.ensures in
+    let expected : ItemTag = record { kind = c.args.kind; size = s.end - s.start } in
+    let same = c.same_tag.ensures.0 c.if-not-same_tag.false ∙ c.tag_of_span.ensures in
     let next = run_bytes (record place.run { end = c.in-Some.end }) in
-    λ codes. front_same _ _ (λ more. with_code expected (with_bytes next more)) (λ more. with_bytes (run_bytes place.run) (with_text texts c.args.kind s more)) (with_bytes next)
+    λ tags. front_same _ _ (λ more. with_tag expected (with_bytes next more)) (λ more. with_bytes (run_bytes place.run) (with_text texts c.args.kind s more)) (with_bytes next)
     (text_joined texts (run_bytes place.run) next c.args.kind s (c.in-Some.ensures.text texts c.requires.run c.requires.span))
-    (λ more. code_behind expected c.args.code codes place.text.now place.uses.now same (with_bytes next more))
+    (λ more. tag_behind expected c.args.tag tags place.text.now place.uses.now same (with_bytes next more))
 
 pub returns-clause-place : goal.returns-clause-place
 returns-clause-place c =
     let texts = c.args.web.now.texts in
     let s = c.args.span in
     let place = c.args.place in
-    let expected : ItemCode = record { kind = c.args.kind; size = s.end - s.start } in
-    let same = c.same_code.ensures.0 c.if-not-same_code.false ∙ c.code_of_span.ensures in
+    let expected : ItemTag = record { kind = c.args.kind; size = s.end - s.start } in
+    let same = c.same_tag.ensures.0 c.if-not-same_tag.false ∙ c.tag_of_span.ensures in
     let run = run_bytes place.run in
     let next = run_bytes c.run_of-run.result in
-    λ codes. front_same _ _ (λ more. with_all expected run [] (with_bytes next more)) (λ more. with_bytes run (with_text texts c.args.kind s more)) (with_bytes next)
+    λ tags. front_same _ _ (λ more. with_all expected run [] (with_bytes next more)) (λ more. with_bytes run (with_text texts c.args.kind s more)) (with_bytes next)
     (text_cut texts run next c.args.kind s c.run_of-run.ensures.bytes)
-    (λ more. all_behind expected c.args.code run [] (lists_at (c.args.code ∷ codes) place) codes c.in_ok-text.text.now place.uses.now same refl c.in_ok-text.ensures refl (with_bytes next more))
+    (λ more. all_behind expected c.args.tag run [] (lists_at (c.args.tag ∷ tags) place) tags c.in_ok-text.text.now place.uses.now same refl c.in_ok-text.ensures refl (with_bytes next more))

@@ -1,8 +1,8 @@
 use Rattle.std.proofs.Common.{◌≡◌, ◌++◌, map, drop}
-use Rattle.tangle_expansion.specs.Kept.{used_parts}
+use Rattle.tangle_expansion.specs.Kept.{used_symbols}
 use Rattle.tangle_expansion.specs.Slots.{uses_of}
 use Rattle.tangle_expansion.proofs.expanding.expansion_of.Given as goal
 
 abbrev pub invariant-loop-step : goal.invariant-loop-step
 invariant-loop-step l =
-    l.used.items ++ map (used_parts l.kept) (uses_of (drop l.step-index l.node.value.plan.items)) ≡ map (used_parts l.kept) (uses_of l.node.value.plan.items)
+    l.used.items ++ map (used_symbols l.kept) (uses_of (drop l.step-index l.node.value.plan.items)) ≡ map (used_symbols l.kept) (uses_of l.node.value.plan.items)

@@ -5,14 +5,14 @@ use Rattle.tangle_expansion.proofs.UsedLemmas.{pieces_shorter, pieces_shallower}
 use Rattle.tangle_expansion.proofs.laws.used_names_are_expandable.Goals as goal
 
 pub returns : goal.returns
-returns c levels limit project node name e u has =
-    let shallow = pieces_shallower (λ m. depth levels project (Named m)) (project node) name u in
-    let deep = c.nodes_expand_by_uses.ensures.depths levels project node in
-    let parts = c.nodes_expand_by_uses.ensures.parts levels project node e.shallow in
-    let long = ap length parts in
-    let short = pieces_shorter (λ m. flat levels project (Named m)) node 0 (project node) name u in
-    let weighs = c.the_weight_is_the_length.ensures levels project node in
-    let weighs_less = c.the_weight_is_the_length.ensures levels project (Named name) in
+returns c levels limit shapes node name e u has =
+    let shallow = pieces_shallower (λ m. depth levels shapes (Named m)) (shapes node) name u in
+    let deep = c.nodes_expand_by_uses.ensures.depths levels shapes node in
+    let symbols = c.nodes_expand_by_uses.ensures.symbols levels shapes node e.shallow in
+    let long = ap length symbols in
+    let short = pieces_shorter (λ m. flat levels shapes (Named m)) node 0 (shapes node) name u in
+    let weighs = c.the_weight_is_the_length.ensures levels shapes node in
+    let weighs_less = c.the_weight_is_the_length.ensures levels shapes (Named name) in
     record {
       has_piece = has;
       shallow = omega (arith, e.shallow, deep, shallow);

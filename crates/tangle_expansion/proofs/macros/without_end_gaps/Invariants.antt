@@ -1,11 +1,11 @@
 use Rattle.std.proofs.Common.{◌≡◌, ◌≤◌, length, take}
-use Rattle.tangle_expansion.specs.MacroTexts.{trimmed}
+use Rattle.tangle_expansion.specs.MacroTexts.{without_end_gaps}
 use Rattle.tangle_expansion.proofs.macros.without_end_gaps.Given as goal
 
 abbrev pub invariant-loop-end : goal.invariant-loop-end
 invariant-loop-end l = record {
   within : l.end ≤ length l.items;
-  same : trimmed (take l.end l.items) ≡ trimmed l.items;
+  same : without_end_gaps (take l.end l.items) ≡ without_end_gaps l.items;
 }
 
 abbrev pub decreases-loop-end : goal.decreases-loop-end

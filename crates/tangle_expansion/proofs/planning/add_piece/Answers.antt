@@ -19,7 +19,7 @@ loop-i-preserved-in-Some c =
       within = omega (arith, c.pass-end.ensures.few, ap length (take_rest items (i + 1)), length-drop (i + 1) items, c.loop-i-test.true);
       range = c.pass-end.ensures.range.range;
       way = goes_over texts table has c.args.planning.now items _ (i + 1) c.pass-end.result.1 behind (record behind { end = c.pass-end.result.0 }) c.add_text.new.planning c.pass-end.new.self
-          (take_rest items (i + 1)) c.pass-end.ensures.range (c.pass-end.ensures.codes table) way;
+          (take_rest items (i + 1)) c.pass-end.ensures.range (c.pass-end.ensures.tags table) way;
     }
 
 pub loop-i-preserved : goal.loop-i-preserved

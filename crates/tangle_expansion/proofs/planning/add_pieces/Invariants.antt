@@ -1,6 +1,6 @@
 use Rattle.std.proofs.Common.{◌≡◌, ◌++◌, ℕ, false, drop}
 use Rattle.std.specs.Prelude.{slice_index_or}
-use Rattle.tangle_expansion.specs.ItemCodes.{pieces_bytes, pieces_codes, pieces_names}
+use Rattle.tangle_expansion.specs.ItemTags.{pieces_bytes, pieces_tags, pieces_names}
 use Rattle.tangle_expansion.specs.ItemSlots.{pieces_slots, pieces_at}
 use Rattle.tangle_expansion.proofs.planning.add_pieces.Given as goal
 
@@ -13,6 +13,6 @@ invariant-loop-number l =
       node : l.planning.node ≡ l.fn.planning.node;
       made : l.planning.made ++ pieces_slots l.web.texts l.table has l.fn.planning.node l.planning.piece left ≡ pieces_slots l.web.texts l.table has l.fn.planning.node 0 whole;
       bytes : l.planning.bytes ++ pieces_bytes l.web.texts left ≡ pieces_bytes l.web.texts whole;
-      codes : l.planning.codes ++ pieces_codes l.table left ≡ pieces_codes l.table whole;
+      tags : l.planning.tags ++ pieces_tags l.table left ≡ pieces_tags l.table whole;
       uses : l.planning.uses ++ pieces_names l.table left ≡ pieces_names l.table whole;
     }

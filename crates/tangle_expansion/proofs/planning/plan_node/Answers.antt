@@ -1,7 +1,7 @@
 use Rattle.std.proofs.Common.{◌∙◌, ap, sym, ℕ, false}
 use Rattle.std.specs.Prelude.{flat_map, slice_index_or}
 use Rattle.tangle_expansion.specs.ItemSlots.{pieces_at, pieces_slots}
-use Rattle.tangle_expansion.specs.NodeTexts.{texts_at, node_bytes}
+use Rattle.tangle_expansion.specs.NodeBodies.{texts_at, node_bytes}
 use Rattle.tangle_expansion.specs.Planned.{Making}
 use Rattle.tangle_expansion.specs.Slots.{slots}
 use Rattle.tangle_expansion.proofs.HeldLemmas.{bytes_held, names_held}
@@ -21,7 +21,7 @@ pub returns-clause-shape : goal.returns-clause-shape
 returns-clause-shape c =
     let pieces = pieces_at c.args.web.now.pieces c.args.numbers.now in
     record {
-      codes = c.in_ok-node.ensures.codes ∙ c.in_ok-add_pieces.ensures.codes;
+      tags = c.in_ok-node.ensures.tags ∙ c.in_ok-add_pieces.ensures.tags;
       bytes = c.in_ok-node.ensures.bytes ∙ c.in_ok-add_pieces.ensures.bytes ∙ bytes_held c.args.web.now.texts c.args.table.now pieces;
       names_used = ap (texts_at c.args.table.now.names) (c.in_ok-node.ensures.uses ∙ c.in_ok-add_pieces.ensures.uses) ∙ names_held c.args.web.now.texts c.args.table.now pieces;
     }

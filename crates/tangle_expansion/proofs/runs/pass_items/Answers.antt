@@ -1,7 +1,7 @@
 use Rattle.std.proofs.Common.{◌∙◌, sym, subst, arith}
 use Rattle.std.proofs.lemmas.List.Elements.{All-get_or}
 use Rattle.tangle_scan.specs.SourceOrder.{IsInRange}
-use Rattle.tangle_expansion.proofs.RunLemmas.{over_next, codes_over}
+use Rattle.tangle_expansion.proofs.RunLemmas.{over_next, tags_over}
 use Rattle.tangle_expansion.proofs.runs.pass_items.Goals as goal
 
 pub loop-passed-preserved : goal.loop-passed-preserved
@@ -14,9 +14,9 @@ loop-passed-preserved c =
     record {
       room = omega (arith, c.loop-passed.invariant.room, c.loop-passed-test.true, c.push_reserved.ensures.len, c.push_reserved.ensures.capacity);
       few = omega arith;
-      range = over_next texts c.args.run (record c.args.run { end = c.loop-passed.end }) (record c.args.run { end = c.in-Some.more }) items i x x c.in-Some.code
+      range = over_next texts c.args.run (record c.args.run { end = c.loop-passed.end }) (record c.args.run { end = c.in-Some.more }) items i x x c.in-Some.tag
           (omega arith) c.index-items-passed.is inside c.loop-passed.invariant.range c.in-Some.ensures;
-      codes = λ table. c.push_reserved.ensures.items
-          ∙ codes_over table items i x x c.in-Some.code c.args.codes.now.items c.loop-passed.codes.items
-          (omega arith) c.index-items-passed.is (c.in-Some.ensures.item_code table) (c.loop-passed.invariant.codes table);
+      tags = λ table. c.push_reserved.ensures.items
+          ∙ tags_over table items i x x c.in-Some.tag c.args.tags.now.items c.loop-passed.tags.items
+          (omega arith) c.index-items-passed.is (c.in-Some.ensures.item_tag table) (c.loop-passed.invariant.tags table);
     }

@@ -1,5 +1,5 @@
 use Rattle.std.proofs.Common.{◌≡◌, take}
-use Rattle.tangle_expansion.specs.NodeTexts.{texts_at}
+use Rattle.tangle_expansion.specs.NodeBodies.{texts_at}
 use Rattle.tangle_expansion.proofs.shapes.same_names.Given as goal
 
 abbrev pub invariant-loop-i : goal.invariant-loop-i

@@ -7,4 +7,4 @@ pub returns : goal.returns
 returns g c =
     let t = g.S.Sink.stream in
     c.put_text.ensures (t c.args.sink.now) [] (puts_at_first (t c.args.sink.now))
-    (omega (arith, light_fits c.args.numbers.now c.parts_are_short.ensures c.args.expansion.now c.requires))
+    (omega (arith, light_fits c.args.numbers.now c.symbols_are_short.ensures c.args.expansion.now c.requires))

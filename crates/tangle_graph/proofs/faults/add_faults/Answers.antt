@@ -1,6 +1,6 @@
 use Rattle.std.proofs.Common.{◌∙◌, ◌++◌, ap, flat_map, get_or, ℕ, List}
 use Rattle.std.proofs.lemmas.List.{take_all}
-use Rattle.tangle_lines.specs.Faults.{Finding}
+use Rattle.tangle_lines.specs.Faults.{FaultRead}
 use Rattle.tangle_graph.specs.FaultFlags.{flag_at}
 use Rattle.tangle_graph.specs.Faults.{fault_of, fault_place}
 use Rattle.tangle_graph.proofs.FaultLemmas.{listed_step}
@@ -21,7 +21,7 @@ returns c =
     let web = c.args.web.now in
     let table = c.args.table.now in
     let flags = c.args.flags.now in
-    let g : ℕ → List Finding = (λ id. fault_of web table c.args.kind id (fault_place web table c.args.out.now (flag_at flags.self_containing.now) (flag_at flags.reaching.now) c.args.kind id)) in
+    let g : ℕ → List FaultRead = (λ id. fault_of web table c.args.kind id (fault_place web table c.args.out.now (flag_at flags.self_containing.now) (flag_at flags.reaching.now) c.args.kind id)) in
     c.loop-id.invariant
     ∙ ap (λ l. c.args.faults.now.items ++ flat_map g l) (take_all c.loop-id.id-index c.args.names.now c.loop-id-test.false)
     ∙ ap (λ l. c.args.faults.now.items ++ l) (c.requires.faults c.args.out.now c.args.kind)

@@ -20,20 +20,20 @@ returns c =
     let table = c.args.table.now in
     let out = c.args.out.now in
     let flags = c.args.flags.now in
-    let told = c.requires.flags in
+    let reported = c.requires.flags in
     let n = c.count-program.result in
     let program : n ≡ length table.names = c.count-program.ensures in
-    let room : n < length flags.defined.now = omega (arith, program, told.defined_size) in
+    let room : n < length flags.defined.now = omega (arith, program, reported.defined_size) in
     let low : n ≤ length table.names = omega (arith, program) in
     let is_large = c.is_too_large-is_large.ensures ∙ ap (is_too_large web table (flag_at flags.reaching.now)) program in
-    let is_there = get_or_default flags.defined.now n _ _ room ∙ told.defined n low ∙ ap (is_defined web table) program in
+    let is_there = get_or_default flags.defined.now n _ _ room ∙ reported.defined n low ∙ ap (is_defined web table) program in
     let of_kind = faults_of_names web table out (flag_at flags.self_containing.now) (flag_at flags.reaching.now) in
     let kinds : List FaultKind = kind.Undefined ∷ kind.Unused ∷ kind.SelfContaining ∷ kind.TooLarge ∷ [] in
     record {
       contains_itself = flag_at flags.self_containing.now;
       reaches_cycle = flag_at flags.reaching.now;
-      self_containing = told.containing;
-      cyclic = told.reaching;
+      self_containing = reported.containing;
+      cyclic = reported.reaching;
       list = joined c.add_unplaced-2.new.faults.items (of_kind kind.Undefined) (of_kind kind.Unused) (of_kind kind.SelfContaining) (of_kind kind.TooLarge)
           _ (of_kind kind.FileClash) _ c.loop-kind.faults.items c.add_unplaced.new.faults.items c.add_faults-2.new.faults.items
           (kinds_whole of_kind kinds c.loop-kind.kind-index c.loop-kind.faults.items (omega (arith, c.loop-kind-test.false)) c.loop-kind.invariant)

@@ -3,7 +3,7 @@ use Rattle.std.specs.Prelude.{All}
 use Rattle.std.specs.List.{range_with_len}
 use Rattle.std.proofs.lemmas.List.Elements.{All-append, All-cons, All-nil}
 use Rattle.tangle_lines.specs.declared.faults.FaultKind.{FaultKind}
-use Rattle.tangle_lines.specs.Faults.{Finding}
+use Rattle.tangle_lines.specs.Faults.{FaultRead}
 use Rattle.tangle_graph.specs.FaultFlags.{flag_at}
 use Rattle.tangle_graph.specs.Faults.{fault_of, fault_place}
 use Rattle.tangle_graph.proofs.FaultLemmas.{suspects_step}
@@ -21,13 +21,13 @@ loop-id-preserved c =
     let id = c.loop-id.id in
     let count = length table.names in
     let low : id < count = omega arith in
-    let g : List ℕ → FaultKind → ℕ → List Finding =
+    let g : List ℕ → FaultKind → ℕ → List FaultRead =
     (λ out kind id. fault_of web table kind id (fault_place web table out (flag_at flags.self_containing.now) (flag_at flags.reaching.now) kind id)) in
     record {
       names = subst (All (λ m. m < count)) (sym c.in_ok-push_where.ensures)
-          (All-append (λ m. m < count) c.loop-id.names.items (cond c.may_have_fault-wanted.result (id ∷ []) []) c.loop-id.invariant.names (all_where count id c.may_have_fault-wanted.result low));
+          (All-append (λ m. m < count) c.loop-id.names.items (cond c.may_have_fault-needed.result (id ∷ []) []) c.loop-id.invariant.names (all_where count id c.may_have_fault-needed.result low));
       faults = λ out kind. ap (flat_map (g out kind)) c.in_ok-push_where.ensures
-          ∙ suspects_step (g out kind) id c.loop-id.names.items c.may_have_fault-wanted.result (λ e. ap (fault_of web table kind id) (c.may_have_fault-wanted.ensures e out kind)) (c.loop-id.invariant.faults out kind);
+          ∙ suspects_step (g out kind) id c.loop-id.names.items c.may_have_fault-needed.result (λ e. ap (fault_of web table kind id) (c.may_have_fault-needed.ensures e out kind)) (c.loop-id.invariant.faults out kind);
     }
 
 pub returns-clause-faults : goal.returns-clause-faults

@@ -1,6 +1,6 @@
 use Rattle.std.proofs.Common.{◌≡◌, length, take}
 use Rattle.tangle_expansion.specs.Limits.{levels, depth_of}
-use Rattle.tangle_expansion.specs.Projects.{project}
+use Rattle.tangle_expansion.specs.WebShapes.{shapes}
 use Rattle.tangle_graph.specs.Measures.{AreMeasured}
 use Rattle.tangle_graph.specs.Nodes.{title_at}
 use Rattle.tangle_graph.proofs.measures.depths.Given as goal
@@ -8,4 +8,4 @@ use Rattle.tangle_graph.proofs.measures.depths.Given as goal
 abbrev pub invariant-loop-n : goal.invariant-loop-n
 invariant-loop-n l =
     (length l.depths.items ≡ length l.uses)
-    × AreMeasured (λ n. depth_of (project l.web l.table) (title_at l.table.names n)) levels l.depths.items (take l.n-index l.order)
+    × AreMeasured (λ n. depth_of (shapes l.web l.table) (title_at l.table.names n)) levels l.depths.items (take l.n-index l.order)

@@ -1,7 +1,7 @@
 use Rattle.std.proofs.Common.{◌≡◌, ◌+◌, min, take, length}
 use Rattle.std.specs.Prelude.{sum_by, slice_index}
 use Rattle.tangle_expansion.specs.Limits.{weight_cap}
-use Rattle.tangle_expansion.specs.NodeTexts.{node_uses, plan_slots}
+use Rattle.tangle_expansion.specs.NodeBodies.{node_uses, plan_slots}
 use Rattle.tangle_graph.proofs.measures.weight_of_node.Given as goal
 
 abbrev pub invariant-loop-id : goal.invariant-loop-id

@@ -9,4 +9,4 @@ loop-i-preserved c =
     rows_by (length c.args.table.now.names + 1) (places_of c.args.table.now (take c.loop-i.i c.args.pieces.now)) _ _ _ _ c.loop-i.invariant c.in_ok-push_at.ensures
     (λ n. places_more (is_piece_of_number c.args.table.now n) 0 c.args.pieces.now c.loop-i.i d c.loop-i-test.true
     ∙ (λ i. places_of c.args.table.now (take c.loop-i.i c.args.pieces.now) n
-    ++ cond (is_number n ((ap (λ p. number_of c.args.table.now p.name) (sym c.index-pieces-i.is) ∙ ap (number_of c.args.table.now) (sym c.name.ensures) ∙ sym c.number_of.ensures.node) i)) (zero-add c.loop-i.i i ∷ []) []))
+    ++ cond (is_number n ((ap (λ p. number_of c.args.table.now p.occurrence) (sym c.index-pieces-i.is) ∙ ap (number_of c.args.table.now) (sym c.occurrence.ensures) ∙ sym c.number_of.ensures.node) i)) (zero-add c.loop-i.i i ∷ []) []))

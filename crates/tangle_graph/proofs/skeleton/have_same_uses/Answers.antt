@@ -1,5 +1,5 @@
 use Rattle.std.proofs.Common.{◌≡◌, ◌∙◌, ◌<◌, ◌++◌, ◌∷◌, [], ap, arith, length, sym}
-use Rattle.tangle_expansion.specs.NodeTexts.{node_uses}
+use Rattle.tangle_expansion.specs.NodeBodies.{node_uses}
 use Rattle.tangle_graph.proofs.SkeletonLemmas.{same_by_test, uses_more}
 use Rattle.tangle_graph.proofs.skeleton.have_same_uses.Goals as goal
 

@@ -1,6 +1,6 @@
 use Rattle.std.proofs.Common.{◌≡◌, ◌≤◌, ◌++◌, false, length, map}
 use Rattle.std.specs.List.{list_any}
-use Rattle.tangle_lexer.specs.Steps.{tokens_from, names_from}
+use Rattle.tangle_lexer.specs.Steps.{tokens_from, occurrences_from}
 use Rattle.tangle_lexer.specs.Occurrences.{occurrence_of}
 use Rattle.tangle_lexer.specs.Heads.{is_head}
 use Rattle.tangle_lexer.proofs.lexer.next_block.Given as goal
@@ -9,9 +9,9 @@ abbrev pub invariant-loop-front : goal.invariant-loop-front
 invariant-loop-front l = record {
   tokens : l.output.tokens.items ++ tokens_from l.state l.ahead ≡ tokens_from l.fn.from l.fn.ahead;
   no_head : list_any is_head l.output.tokens.items ≡ false;
-  names : l.output.occurrences.items ++ map (occurrence_of l.source.lines) (names_from l.state l.ahead)
-      ≡ l.fn.output.occurrences.items ++ map (occurrence_of l.source.lines) (names_from l.fn.from l.fn.ahead);
-  count : l.state.names ≡ length l.output.occurrences.items;
+  names : l.output.occurrences.items ++ map (occurrence_of l.source.lines) (occurrences_from l.state l.ahead)
+      ≡ l.fn.output.occurrences.items ++ map (occurrence_of l.source.lines) (occurrences_from l.fn.from l.fn.ahead);
+  count : l.state.occurrences ≡ length l.output.occurrences.items;
   shorter : length l.ahead ≤ length l.fn.ahead;
 }
 

@@ -11,7 +11,7 @@ returns-clause-read c =
     let head = head-found s.last c.in-Some.line c.pass_head.result text c.read_name.new.ahead c.pass_head.new.ahead
     (sym c.in_ok-name.ensures.is_ended ∙ not-false _ c.if-not-name.false) c.in_ok-name.ensures.ahead c.in-Some.is c.pass_head.ensures in
     record {
-      tokens = c.in_ok-after-3.ensures.tokens ∙ (ap (λ l. c.args.output.now.tokens.items ++ token.NamedPart s.names l ∷ []) head.3
+      tokens = c.in_ok-after-3.ensures.tokens ∙ (ap (λ l. c.args.output.now.tokens.items ++ token.NamedPart s.occurrences l ∷ []) head.3
           ∙ ap (λ h. c.args.output.now.tokens.items ++ (head_or_mention h s text).tokens) (sym head.1));
       ahead = head.2 ∙ ap (λ h. drop (head_or_mention h s text).more (drop 1 text)) (sym head.1);
       state = c.in_ok-after-3.ensures.state ∙ ap (λ h. (head_or_mention h s text).after) (sym head.1);

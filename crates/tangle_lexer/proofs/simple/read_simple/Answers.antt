@@ -3,7 +3,7 @@ use Rattle.std.specs.List.{list_any}
 use Rattle.tangle_lexer.specs.Lexemes.{with_include}
 use Rattle.tangle_lexer.specs.Heads.{is_head}
 use Rattle.tangle_lexer.proofs.lemmas.HeadLemmas.{no_head-append}
-use Rattle.tangle_lexer.proofs.lemmas.SimpleLemmas.{simple-again, simple-read, simple-names_from, simple-no_head}
+use Rattle.tangle_lexer.proofs.lemmas.SimpleLemmas.{simple-again, simple-read, simple-occurrences_from, simple-no_head}
 use Rattle.tangle_lexer.proofs.lemmas.StepLemmas.{step-tokens, step-shorter}
 use Rattle.tangle_lexer.proofs.simple.read_simple.Goals as goal
 
@@ -18,7 +18,7 @@ loop-simple-preserved c =
       tokens = step-tokens _ _ state _ c.loop-simple.here _ here.inside read ∙ before.tokens;
       no_head = λ none. ap (list_any is_head) simple.tokens
           ∙ no_head-append c.loop-simple.tokens.items _ (before.no_head none) (simple-no_head c.in-Some.simple state c.loop-simple.here);
-      names = simple-names_from _ _ state _ c.loop-simple.here _ c.in-Some.simple here before.mode simple ∙ before.names;
+      names = simple-occurrences_from _ _ state _ c.loop-simple.here _ c.in-Some.simple here before.mode simple ∙ before.names;
       shorter = omega (arith, step-shorter _ _ state _ c.loop-simple.here _ here.inside read, before.shorter);
       mode = before.mode;
     }

@@ -2,7 +2,7 @@ use Rattle.std.proofs.Common.{◌≡◌, ◌≤◌, ◌++◌, true, false, lengt
 use Rattle.std.specs.List.{list_any}
 use Rattle.tangle_lexer.specs.Lexemes.{with_include}
 use Rattle.tangle_lexer.specs.Simple.{is_c_text}
-use Rattle.tangle_lexer.specs.Steps.{tokens_from, names_from}
+use Rattle.tangle_lexer.specs.Steps.{tokens_from, occurrences_from}
 use Rattle.tangle_lexer.specs.Heads.{is_head}
 use Rattle.tangle_lexer.proofs.simple.read_simple.Given as goal
 
@@ -10,7 +10,7 @@ abbrev pub invariant-loop-simple : goal.invariant-loop-simple
 invariant-loop-simple l = record {
   tokens : l.tokens.items ++ tokens_from (with_include l.include l.fn.from) l.here ≡ l.fn.tokens.items ++ tokens_from l.fn.from l.fn.ahead;
   no_head : list_any is_head l.fn.tokens.items ≡ false → list_any is_head l.tokens.items ≡ false;
-  names : names_from (with_include l.include l.fn.from) l.here ≡ names_from l.fn.from l.fn.ahead;
+  names : occurrences_from (with_include l.include l.fn.from) l.here ≡ occurrences_from l.fn.from l.fn.ahead;
   shorter : length l.here ≤ length l.fn.ahead;
   mode : is_c_text l.fn.from.mode ≡ true;
 }

@@ -20,10 +20,10 @@ pub returns-in_ok-push-in-Text-clause-laid : goal.returns-in_ok-push-in-Text-cla
 returns-in_ok-push-in-Text-clause-laid c = λ es.
     let at = c.args.at in
     let text = token.Text c.in-Text.kind c.in-Text.span in
-    let item = ap (λ i. c.put_wanted_blank.new.items.items ++ i ∷ []) c.text_item.ensures in
+    let item = ap (λ i. c.put_needed_blank.new.items.items ++ i ∷ []) c.text_item.ensures in
     rw (c.laid_to-in-Text.ensures, c.last_of.ensures, c.in-Text.is)
     (laid-item c.args.source.now.lines c.args.items.now.items _ _ at text at.count es refl
-    c.in_ok-put_wanted_blank-in-Text.ensures (c.in_ok-push-in-Text.ensures.items ∙ item) refl)
+    c.in_ok-put_needed_blank-in-Text.ensures (c.in_ok-push-in-Text.ensures.items ∙ item) refl)
 
 pub returns-in_ok-count-in_default-clause-laid : goal.returns-in_ok-count-in_default-clause-laid
 returns-in_ok-count-in_default-clause-laid c = λ es.
@@ -33,4 +33,4 @@ returns-in_ok-count-in_default-clause-laid c = λ es.
     rw (c.laid_to-in_default.ensures, c.last_of-in_default.ensures)
     (laid-item c.args.source.now.lines c.args.items.now.items _ _ c.args.at e put.count es
     (solid e other.not-White other.not-LineEnd other.not-Join other.not-Fault)
-    c.in_ok-put_wanted_blank-in_default.ensures put.ensures.items put.ensures.count)
+    c.in_ok-put_needed_blank-in_default.ensures put.ensures.items put.ensures.count)

@@ -2,7 +2,7 @@ use Rattle.std.proofs.Common.{◌≡◌, ◌∷◌, [], ◌++◌, ◌∙◌, sym
 use Rattle.std.specs.Option.{IfNone}
 use Rattle.tangle_lexer.specs.declared.tokens.Token.{Token}
 use Rattle.tangle_lexer.specs.Text.{Cell}
-use Rattle.tangle_lexer.specs.Steps.{tokens_from, names_from, at_first}
+use Rattle.tangle_lexer.specs.Steps.{tokens_from, occurrences_from, at_first}
 use Rattle.tangle_lexer.specs.Occurrences.{occurrence_of}
 use Rattle.tangle_scan.specs.Gathering.{nothing, gathering_with}
 use Rattle.tangle_scan.proofs.lemmas.GatheringLemmas.{gathering-nothing}
@@ -27,9 +27,9 @@ loop-front-init c =
       gathering = ap (λ g. gathering_with source g ahead) added ∙ (front
           ∙ (ap (λ s. gathering_with source nothing (tokens_from s c.new-ahead.result)) first
           ∙ ap (λ text. gathering_with source nothing (tokens_from (at_first (length source.lines)) text)) c.new-ahead.ensures));
-      names = read.names ∙ (ap (λ ns. ns ++ map (occurrence_of source.lines) (names_from c.first_state-first.result c.new-ahead.result)) c.new-2.ensures.items
-          ∙ (ap (λ s. map (occurrence_of source.lines) (names_from s c.new-ahead.result)) first
-          ∙ ap (λ text. map (occurrence_of source.lines) (names_from (at_first (length source.lines)) text)) c.new-ahead.ensures));
+      names = read.names ∙ (ap (λ ns. ns ++ map (occurrence_of source.lines) (occurrences_from c.first_state-first.result c.new-ahead.result)) c.new-2.ensures.items
+          ∙ (ap (λ s. map (occurrence_of source.lines) (occurrences_from s c.new-ahead.result)) first
+          ∙ ap (λ text. map (occurrence_of source.lines) (occurrences_from (at_first (length source.lines)) text)) c.new-ahead.ensures));
       room = omega (
         arith,
         c.in_ok-add_front.ensures.sections,
@@ -85,6 +85,6 @@ returns-clause-names c =
     let lines = c.args.source.now.lines in
     let end = c.loop-front in
     let ahead = nothing-ahead end.front end.ahead end.invariant.end c.in_default.is in
-    let none : map (occurrence_of lines) (names_from end.state end.ahead) ≡ [] =
-    ap (λ text. map (occurrence_of lines) (names_from end.state text)) ahead ∙ ap (map (occurrence_of lines)) (names-end end.state) in
+    let none : map (occurrence_of lines) (occurrences_from end.state end.ahead) ≡ [] =
+    ap (λ text. map (occurrence_of lines) (occurrences_from end.state text)) ahead ∙ ap (map (occurrence_of lines)) (names-end end.state) in
     sym (append-nil end.output.occurrences.items) ∙ (ap (λ ns. end.output.occurrences.items ++ ns) (sym none) ∙ end.invariant.names)

@@ -1,7 +1,7 @@
 use Rattle.std.proofs.Common.{◌∙◌}
 use Rattle.std.specs.Option.{option_copied}
 use Rattle.tangle_script.specs.Commands.{found_commands}
-use Rattle.tangle_script.proofs.TalkLemmas.{found_quit, under_at_first, under_cut, under_more, under_quit}
+use Rattle.tangle_script.proofs.ConversationLemmas.{found_quit, under_at_first, under_cut, under_more, under_quit}
 use Rattle.tangle_script.proofs.answering.answer_all.Goals as goal
 
 pub loop-found-init : goal.loop-found-init

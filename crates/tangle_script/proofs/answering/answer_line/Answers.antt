@@ -1,18 +1,18 @@
 use Rattle.std.proofs.Common.{sym, subst, ◌∙◌, List}
 use Rattle.std.specs.Option.{option_copied}
 use Rattle.tangle_script.specs.Requests.{Command, Request}
-use Rattle.tangle_script.specs.Script.{IsCut, IsAnswered, Replies, Telling, telling}
-use Rattle.tangle_script.proofs.TalkLemmas.{found_has, found_one, one_cut, one_answered}
+use Rattle.tangle_script.specs.Script.{IsCut, IsAnswered, Replies, Exchange, exchange}
+use Rattle.tangle_script.proofs.ConversationLemmas.{found_has, found_one, one_cut, one_answered}
 use Rattle.tangle_script.proofs.answering.answer_line.Goals as goal
 
 pub returns-in-Ok-clause-answered : goal.returns-in-Ok-clause-answered
 returns-in-Ok-clause-answered g c =
     let answers = g.P.Project.answers in
-    let a : Telling g.P.Project.State =
-    telling (g.P.Project.state c.args.held.now c.args.draft.now)
+    let a : Exchange g.P.Project.State =
+    exchange (g.P.Project.state c.args.held.now c.args.draft.now)
     (g.S.Sink.stream c.args.sink.now) in
-    let b : Telling g.P.Project.State =
-    telling (g.P.Project.state c.answer.new.held c.answer.new.draft)
+    let b : Exchange g.P.Project.State =
+    exchange (g.P.Project.state c.answer.new.held c.answer.new.draft)
     (g.S.Sink.stream c.answer.new.sink) in
     let command : Command = record { line = c.args.line.now; text = option_copied c.args.text } in
     subst (λ (l : List Command). IsAnswered answers a b l)
@@ -31,11 +31,11 @@ returns-in-Ok-clause-quit g c =
 pub returns-in-Err-clause-cut : goal.returns-in-Err-clause-cut
 returns-in-Err-clause-cut g c =
     let answers = g.P.Project.answers in
-    let a : Telling g.P.Project.State =
-    telling (g.P.Project.state c.args.held.now c.args.draft.now)
+    let a : Exchange g.P.Project.State =
+    exchange (g.P.Project.state c.args.held.now c.args.draft.now)
     (g.S.Sink.stream c.args.sink.now) in
-    let b : Telling g.P.Project.State =
-    telling (g.P.Project.state c.answer.new.held c.answer.new.draft)
+    let b : Exchange g.P.Project.State =
+    exchange (g.P.Project.state c.answer.new.held c.answer.new.draft)
     (g.S.Sink.stream c.answer.new.sink) in
     let command : Command = record { line = c.args.line.now; text = option_copied c.args.text } in
     subst (λ (l : List Command). IsCut answers a b l)

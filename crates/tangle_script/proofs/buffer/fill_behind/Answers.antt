@@ -10,4 +10,4 @@ returns-clause-read g c =
     read_behind c.args.room.now c.fill.new.room c.args.len _ _ _ c.fill.result within some
     (subst (λ (m : ℕ). IfSome c.fill.result (λ n. n ≤ m))
     (sym c.fill.auto.room) c.fill.ensures.within)
-    c.fill.ensures.told
+    c.fill.ensures.reported

@@ -3,7 +3,7 @@ use Rattle.std.proofs.lemmas.List.{take_rest}
 use Rattle.tangle_script.specs.Script.{has_quit}
 use Rattle.tangle_script.specs.Buffer.{bytes}
 use Rattle.tangle_script.proofs.CommandLemmas.{waits_in}
-use Rattle.tangle_script.proofs.TalkLemmas.{answered_nothing}
+use Rattle.tangle_script.proofs.ConversationLemmas.{answered_nothing}
 use Rattle.tangle_script.proofs.running.answer_chunk.Goals as goal
 
 pub returns-then-not-ends_a_line : goal.returns-then-not-ends_a_line

@@ -1,15 +1,15 @@
 use Rattle.std.proofs.Common.{◌≤◌, ◌-◌}
 use Rattle.tangle_script.specs.Buffer.{bytes}
-use Rattle.tangle_script.specs.Script.{talk}
-use Rattle.tangle_script.specs.Turns.{Holds}
+use Rattle.tangle_script.specs.Script.{conversation}
+use Rattle.tangle_script.specs.Turns.{IsMidway}
 use Rattle.tangle_script.proofs.running.read_script.Given as goal
 
 abbrev pub invariant-loop-count : goal.invariant-loop-count
 invariant-loop-count g l = record {
-  holds : Holds g.P.Project.answers
-      (talk (g.P.Project.state l.initial.held l.initial.draft) (g.S.Sink.stream l.initial.sink)
+  holds : IsMidway g.P.Project.answers
+      (conversation (g.P.Project.state l.initial.held l.initial.draft) (g.S.Sink.stream l.initial.sink)
       (g.R.Feed.coming l.initial.feed) (g.R.Feed.failures l.initial.feed))
-      (talk (g.P.Project.state l.held l.draft) (g.S.Sink.stream l.sink)
+      (conversation (g.P.Project.state l.held l.draft) (g.S.Sink.stream l.sink)
       (g.R.Feed.coming l.feed) (g.R.Feed.failures l.feed))
       (bytes l.buffer) l.count;
   within : l.count ≤ 67108864;

@@ -1,11 +1,11 @@
 use Rattle.std.proofs.Common.{◌∙◌, ap, sym}
 use Rattle.tangle_names.specs.NameTable.{TableRead}
-use Rattle.tangle_session.specs.Files.{project_of, web_at}
+use Rattle.tangle_session.specs.Files.{shapes_of, web_at}
 use Rattle.tangle_session.proofs.TangleLemmas.{lists_titles}
 use Rattle.tangle_session.proofs.tangling.expand_over.Goals as goal
 
 pub expand_again-requires-clause-old_table : goal.expand_again-requires-clause-old_table
-expand_again-requires-clause-old_table c = ap (λ (t : TableRead). t.names) c.requires.held.2.ground.table ∙ sym c.requires.held.2.ground.store_names
+expand_again-requires-clause-old_table c = ap (λ (t : TableRead). t.names) c.requires.held.2.analysis.table ∙ sym c.requires.held.2.analysis.store_names
 
 pub expand_again-requires-clause-new_table : goal.expand_again-requires-clause-new_table
 expand_again-requires-clause-new_table c = ap (λ (t : TableRead). t.names) c.requires.held.3.table ∙ sym c.requires.held.3.store_names
@@ -13,30 +13,30 @@ expand_again-requires-clause-new_table c = ap (λ (t : TableRead). t.names) c.re
 pub expand_again-requires-clause-change : goal.expand_again-requires-clause-change
 expand_again-requires-clause-change c = (
   record {
-    old = project_of (web_at c.args.old.now.files c.requires.held.0);
-    new = project_of (web_at c.args.files c.requires.held.1);
+    old = shapes_of (web_at c.args.old.now.files c.requires.held.0);
+    new = shapes_of (web_at c.args.files c.requires.held.1);
   },
   record {
-    before = c.requires.held.2.ground.store;
+    before = c.requires.held.2.analysis.store;
     after = c.requires.held.3.store;
     expansions = c.requires.held.2.kept;
   },
 )
 
 pub returns-clause-held : goal.returns-clause-held
-returns-clause-held c = λ before after held ground fit. record {
+returns-clause-held c = λ before after held analysis fit. record {
   are_there = fit;
-  ground = ground;
+  analysis = analysis;
   kept = c.in_ok-kept.ensures.kept
-      (record { old = project_of (web_at c.args.old.now.files before); new = project_of (web_at c.args.files after) })
-      (record { before = held.ground.store; after = ground.store; expansions = held.kept });
+      (record { old = shapes_of (web_at c.args.old.now.files before); new = shapes_of (web_at c.args.files after) })
+      (record { before = held.analysis.store; after = analysis.store; expansions = held.kept });
 }
 
 pub returns-clause-work : goal.returns-clause-work
-returns-clause-work c = λ before after held ground.
+returns-clause-work c = λ before after held analysis.
     let old = web_at c.args.old.now.files before in
     let new = web_at c.args.files after in
-    let made = c.in_ok-kept.ensures.work (record { old = project_of old; new = project_of new })
-    (record { before = held.ground.store; after = ground.store; expansions = held.kept }) in
-    let listed = lists_titles old new c.args.ground.store made.0 ground.store ground.store_names made.2 in
+    let made = c.in_ok-kept.ensures.work (record { old = shapes_of old; new = shapes_of new })
+    (record { before = held.analysis.store; after = analysis.store; expansions = held.kept }) in
+    let listed = lists_titles old new c.args.analysis.store made.0 analysis.store analysis.store_names made.2 in
     rw (made.1, c.requires.unbegun) listed

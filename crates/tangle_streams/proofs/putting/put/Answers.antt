@@ -15,18 +15,18 @@ loop-rest-preserved g c = λ old text h fits.
     let sum : c.saturating_add-count.result ≡ c.loop-rest.count + c.in-Some.n =
     omega (arith, c.saturating_add-count.ensures, within, room _ _ _ _ _ _ half, fits) in
     rw (sum, take_rest)
-    (halfway_more _ _ _ _ c.in-Some.n _ _ _ half some within c.in-Some.ensures.told c.in-Some.ensures.failed)
+    (halfway_more _ _ _ _ c.in-Some.n _ _ _ half some within c.in-Some.ensures.reported c.in-Some.ensures.failed)
 
 pub returns-in-None : goal.returns-in-None
 returns-in-None g c = λ old text h fits.
     let some : 0 < length c.loop-rest.rest.now = omega (arith, eqb-false _ 0 (sym c.loop-rest-test.ensures)) in
-    halfway_fault _ _ _ _ _ _ _ (c.loop-rest.invariant old text h fits) some c.in-None.ensures.told c.in-None.ensures.failed
+    halfway_fault _ _ _ _ _ _ _ (c.loop-rest.invariant old text h fits) some c.in-None.ensures.reported c.in-None.ensures.failed
 
 pub returns-then-n-eq0 : goal.returns-then-n-eq0
 returns-then-n-eq0 g c = λ old text h fits.
     let some : 0 < length c.loop-rest.rest.now = omega (arith, eqb-false _ 0 (sym c.loop-rest-test.ensures)) in
-    let told = rw c.if-n-eq0.true at c.in-Some.ensures.told in
-    halfway_fault _ _ _ _ _ _ _ (c.loop-rest.invariant old text h fits) some (Keeps-none _ _ told)
+    let reported = rw c.if-n-eq0.true at c.in-Some.ensures.reported in
+    halfway_fault _ _ _ _ _ _ _ (c.loop-rest.invariant old text h fits) some (Keeps-none _ _ reported)
     (failed_at_none _ _ c.in-Some.n c.loop-rest.rest.now c.if-n-eq0.true some c.in-Some.ensures.failed)
 
 pub returns : goal.returns

@@ -7,10 +7,10 @@ use Rattle.ctangle_cli.proofs.LoadLemmas.{absent_more}
 use Rattle.ctangle_cli.proofs.loading.Absent.insert.Goals as goal
 
 pub returns-clause-absent : goal.returns-clause-absent
-returns-clause-absent c = λ told before this.
-    subst (λ ks. AreAbsent told (map (λ k. k.items) ks)) (sym c.in_ok-insert.ensures.keys)
-    (absent_more told _ c.self.inside.names.keys c.in_ok-name.name (subst (AreAbsent told) (sym c.self.view_is) before)
-    (subst (λ n. AreAbsent told (n ∷ [])) (sym c.in_ok-name.ensures.items) this))
+returns-clause-absent c = λ reported before this.
+    subst (λ ks. AreAbsent reported (map (λ k. k.items) ks)) (sym c.in_ok-insert.ensures.keys)
+    (absent_more reported _ c.self.inside.names.keys c.in_ok-name.name (subst (AreAbsent reported) (sym c.self.view_is) before)
+    (subst (λ n. AreAbsent reported (n ∷ [])) (sym c.in_ok-name.ensures.items) this))
 
 pub returns-clause-holds : goal.returns-clause-holds
 returns-clause-holds c = λ other.

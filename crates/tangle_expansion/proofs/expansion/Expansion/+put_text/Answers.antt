@@ -13,7 +13,7 @@ loop-used-init g t c =
       c.first-at.ensures.step,
       c.deref-used-items.ensures.value,
       c.deref-node.ensures,
-      c.deref-body.ensures,
+      c.deref-shared.ensures,
       c.self.view_is,
     )
     (wrote_at_first _ _ _)

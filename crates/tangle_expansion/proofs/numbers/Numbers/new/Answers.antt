@@ -1,10 +1,10 @@
 use Rattle.std.proofs.Common.{arith}
-use Rattle.tangle_expansion.proofs.ShortLemmas.{parts_short, all_names_short}
+use Rattle.tangle_expansion.proofs.ShortLemmas.{symbols_short, all_names_short}
 use Rattle.tangle_expansion.proofs.numbers.Numbers.new.Goals as goal
 
 pub invariant_of-result : goal.invariant_of-result
 invariant_of-result c =
-    parts_short _ (record {
+    symbols_short _ (record {
       file_names = all_names_short c.args.file_names.items c.requires.file_names;
       program = c.requires.program;
       names = c.requires.names;

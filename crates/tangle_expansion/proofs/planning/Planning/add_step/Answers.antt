@@ -32,5 +32,5 @@ returns c =
     let run : c.push.new.self.items ≡ (p.plan.items ++ last_run p.start (length p.text.items)) ++ c.args.step ∷ []
     = c.in_ok-push.ensures.items ∙ ap (λ l. l ++ c.args.step ∷ []) (c.in_ok-end_run.ensures.ok ∙ ap (λ n. p.plan.items ++ last_run p.start n) end) in
     rw (← c.self.view_is, c.pieces_behind-self-inside.ensures, c.marks_behind-self-inside.ensures, end)
-    (ap {B = Making} (λ (l : List Slot). record { node = title_of p.name; piece = pieces_passed p.piece c.args.step; marks = marks_passed p.marks c.args.step; made = l; bytes = p.text.items; codes = p.codes.items; uses = p.uses.items })
+    (ap {B = Making} (λ (l : List Slot). record { node = title_of p.name; piece = pieces_passed p.piece c.args.step; marks = marks_passed p.marks c.args.step; made = l; bytes = p.text.items; tags = p.tags.items; uses = p.uses.items })
     (step_made (title_of p.name) p.text.items p.plan.items c.push.new.self.items p.piece p.marks p.start c.args.step c.self.invariant c.requires run))

@@ -1,5 +1,5 @@
 use Rattle.std.proofs.Common.{refl}
 use Rattle.tangle_expansion.proofs.planning.Planning.pass.Goals as goal
 
-pub returns-clause-codes : goal.returns-clause-codes
-returns-clause-codes c = λ table. rw (← c.self.view_is, c.pass_items.ensures.codes table) refl
+pub returns-clause-tags : goal.returns-clause-tags
+returns-clause-tags c = λ table. rw (← c.self.view_is, c.pass_items.ensures.tags table) refl

@@ -8,44 +8,44 @@ use Rattle.digraph.specs.Order.{IsOrder}
 use Rattle.digraph.specs.Reach.{ContainsItself, ReachesCycle}
 use Rattle.digraph.specs.Rows.{IsConverse, IsOnceEach}
 use Rattle.digraph.proofs.GraphLemmas.{rows_size}
-use Rattle.tangle_expansion.specs.NodeTexts.{node_uses}
-use Rattle.tangle_expansion.specs.declared.expansion.NodeText.{NodeText}
+use Rattle.tangle_expansion.specs.NodeBodies.{node_uses}
+use Rattle.tangle_expansion.specs.declared.expansion.NodeBody.{NodeBody}
 use Rattle.tangle_graph.specs.Nodes.{node_at}
-use Rattle.tangle_graph.specs.Plans.{node_texts}
+use Rattle.tangle_graph.specs.Plans.{node_bodies}
 use Rattle.tangle_graph.proofs.SkeletonLemmas.{each_increasing, once_in_range}
 use Rattle.tangle_graph.proofs.skeleton.Skeleton.build.Goals as goal
 
-texts_size : (texts : List (Rc NodeText Global)) (count : ℕ) → length texts ≡ count + 1 → length (node_texts texts) ≡ count + 1
-texts_size texts count size = length-map texts (λ (t : Rc NodeText Global). t.value) ∙ size
+texts_size : (texts : List (Rc NodeBody Global)) (count : ℕ) → length texts ≡ count + 1 → length (node_bodies texts) ≡ count + 1
+texts_size texts count size = length-map texts (λ (t : Rc NodeBody Global). t.value) ∙ size
 
 pub users-requires-clause-range : goal.users-requires-clause-range
 users-requires-clause-range c =
     let count = length c.args.table.now.names in
-    once_in_range (node_texts c.args.texts.now) count c.in_ok-rows.rows.items c.all_once.new.rows.items c.deref-uses.result.now c.in_ok-rows.ensures
+    once_in_range (node_bodies c.args.texts.now) count c.in_ok-rows.rows.items c.all_once.new.rows.items c.deref-uses.result.now c.in_ok-rows.ensures
     (texts_size c.args.texts.now count c.requires.size) c.requires.inside c.all_once.ensures.range c.deref-uses.ensures.value
 
 pub order-requires : goal.order-requires
 order-requires c =
     let count = length c.args.table.now.names in
-    once_in_range (node_texts c.args.texts.now) count c.in_ok-rows.rows.items c.all_once.new.rows.items c.deref-uses.result.now c.in_ok-rows.ensures
+    once_in_range (node_bodies c.args.texts.now) count c.in_ok-rows.rows.items c.all_once.new.rows.items c.deref-uses.result.now c.in_ok-rows.ensures
     (texts_size c.args.texts.now count c.requires.size) c.requires.inside c.all_once.ensures.range c.deref-uses.ensures.value
 
 pub self_containing-requires : goal.self_containing-requires
 self_containing-requires c =
     let count = length c.args.table.now.names in
-    once_in_range (node_texts c.args.texts.now) count c.in_ok-rows.rows.items c.all_once.new.rows.items c.deref-uses.result.now c.in_ok-rows.ensures
+    once_in_range (node_bodies c.args.texts.now) count c.in_ok-rows.rows.items c.all_once.new.rows.items c.deref-uses.result.now c.in_ok-rows.ensures
     (texts_size c.args.texts.now count c.requires.size) c.requires.inside c.all_once.ensures.range c.deref-uses.ensures.value
 
 pub reaching_cycles-requires-clause-range : goal.reaching_cycles-requires-clause-range
 reaching_cycles-requires-clause-range c =
     let count = length c.args.table.now.names in
-    once_in_range (node_texts c.args.texts.now) count c.in_ok-rows.rows.items c.all_once.new.rows.items c.deref-uses.result.now c.in_ok-rows.ensures
+    once_in_range (node_bodies c.args.texts.now) count c.in_ok-rows.rows.items c.all_once.new.rows.items c.deref-uses.result.now c.in_ok-rows.ensures
     (texts_size c.args.texts.now count c.requires.size) c.requires.inside c.all_once.ensures.range c.deref-uses.ensures.value
 
 pub returns-clause-skeleton : goal.returns-clause-skeleton
 returns-clause-skeleton c =
     let count = length c.args.table.now.names in
-    let texts = node_texts c.args.texts.now in
+    let texts = node_bodies c.args.texts.now in
     let before = c.in_ok-rows.rows.items in
     let uses = c.all_once.new.rows.items in
     let names = c.in_ok-texts_of_names.field-0.items in

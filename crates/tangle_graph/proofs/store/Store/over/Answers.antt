@@ -5,9 +5,9 @@ use Rattle.std.proofs.lemmas.List.{length-map}
 use Rattle.std.specs.List.{IsDistinct}
 use Rattle.std.specs.Str.{bytes_eq}
 use Rattle.tangle_names.specs.NameTable.{TableRead}
-use Rattle.tangle_expansion.specs.Projects.{project, ResolvesInside}
+use Rattle.tangle_expansion.specs.WebShapes.{shapes, ResolvesInside}
 use Rattle.tangle_expansion.specs.Limits.{levels, weight_of, depth_of}
-use Rattle.tangle_expansion.specs.declared.expansion.NodeText.{NodeText}
+use Rattle.tangle_expansion.specs.declared.expansion.NodeBody.{NodeBody}
 use Rattle.digraph.specs.Flags.{FlagsJust}
 use Rattle.digraph.specs.Graph.{Graph, HasUse, rows_of, row_at}
 use Rattle.digraph.specs.Reach.{ContainsItself, ReachesCycle}
@@ -17,7 +17,7 @@ use Rattle.tangle_graph.specs.Groups.{IsGraphOf}
 use Rattle.tangle_graph.specs.Nodes.{title_at, node_at}
 use Rattle.tangle_graph.specs.Ordering.{IsOrderIn}
 use Rattle.tangle_graph.specs.Outputs.{is_expandable}
-use Rattle.tangle_graph.specs.Plans.{AreFilled, ArePlanned, node_texts, slots_of, uses_of_plans}
+use Rattle.tangle_graph.specs.Plans.{AreFilled, ArePlanned, node_bodies, slots_of, uses_of_plans}
 use Rattle.tangle_graph.specs.Rows.{node_rows, texts_of}
 use Rattle.tangle_graph.specs.Stores.{AreWithin, is_filled}
 use Rattle.tangle_graph.specs.declared.skeleton.Skeleton.{Skeleton}
@@ -33,7 +33,7 @@ pub take-requires-clause-graph : goal.take-requires-clause-graph
 take-requires-clause-graph c =
     let web = c.args.web.now in
     let table = c.args.table.now in
-    let graph = graph_over web table c.args.pieces.items (node_texts c.args.texts.items) c.args.skeleton.value
+    let graph = graph_over web table c.args.pieces.items (node_bodies c.args.texts.items) c.args.skeleton.value
     (subst (λ (t : TableRead). IsDistinct bytes_eq t.names) (sym c.requires.table) (c.names_are_the_full_names.ensures.once web.occurrences))
     (subst ResolvesInside (sym c.requires.table) (c.names_resolve_inside.ensures web)) c.requires.grouped c.requires.texts c.requires.skeleton in
     subst (λ (g : Graph). IsGraphOf web table g c.deref-uses.result.now) (sym c.deref-rows.ensures.value)
@@ -55,13 +55,13 @@ returns-clause-store c =
     let measures = c.in_ok-measures.measures in
     let distinct = subst (λ (t : TableRead). IsDistinct bytes_eq t.names) (sym c.requires.table) (c.names_are_the_full_names.ensures.once web.occurrences) in
     let inside = subst ResolvesInside (sym c.requires.table) (c.names_resolve_inside.ensures web) in
-    let graph = graph_over web table pieces (node_texts texts) skeleton distinct inside c.requires.grouped c.requires.texts c.requires.skeleton in
+    let graph = graph_over web table pieces (node_bodies texts) skeleton distinct inside c.requires.grouped c.requires.texts c.requires.skeleton in
     let same : length c.deref-uses.result.now ≡ length uses = ap length (c.deref-uses.ensures.value ∙ ap (λ (s : Skeleton). s.uses.items) c.deref-shared.ensures) in
-    let weighed : (n : ℕ) → n < length uses → get_or measures.weights.items n 0 ≡ weight_of (project web table) (title_at table.names n) =
+    let weighed : (n : ℕ) → n < length uses → get_or measures.weights.items n 0 ≡ weight_of (shapes web table) (title_at table.names n) =
     (λ n room. c.in_ok-measures.ensures.weights n (omega (arith, room, same))) in
-    let measured : (n : ℕ) → n < length uses → get_or measures.depths.items n 0 ≡ depth_of (project web table) (title_at table.names n) =
+    let measured : (n : ℕ) → n < length uses → get_or measures.depths.items n 0 ≡ depth_of (shapes web table) (title_at table.names n) =
     (λ n room. c.in_ok-measures.ensures.depths n (omega (arith, room, same))) in
-    let limited : (n : ℕ) → n < length uses → get_or measures.expandable.items n false ≡ is_expandable (project web table) (title_at table.names n) =
+    let limited : (n : ℕ) → n < length uses → get_or measures.expandable.items n false ≡ is_expandable (shapes web table) (title_at table.names n) =
     (λ n room. c.in_ok-measures.ensures.expandable n (omega (arith, room, same))) in
     let has : ℕ → Bool = (λ id. get_or c.args.filled.items id false) in
     let has_is : (id : ℕ) → id < length table.names → has id ≡ is_filled (row_at (rows_of pieces) id) =
@@ -69,8 +69,8 @@ returns-clause-store c =
     let count : length skeleton.names.items ≡ length table.names = sym (length-map skeleton.names.items (λ (text : Vec ℕ Global). text.items)) ∙ ap length c.requires.names in
     let is = c.requires.skeleton in
     store_made web table pieces uses is.users skeleton.self_containing.items measures.weights.items measures.depths.items measures.expandable.items c.in_ok-outputs.outputs.items c.in_ok-faults.faults.items
-    (slots_of texts) (uses_of_plans texts) (node_texts texts) has distinct inside graph is.converse is.increasing is.users_size is.containing weighed measured limited has_is c.requires.plans c.requires.texts
-    (λ parts node. c.filled_plans_are_right.ensures web table has parts levels node inside)
+    (slots_of texts) (uses_of_plans texts) (node_bodies texts) has distinct inside graph is.converse is.increasing is.users_size is.containing weighed measured limited has_is c.requires.plans c.requires.texts
+    (λ symbols node. c.filled_plans_are_right.ensures web table has symbols levels node inside)
     (texts_of skeleton.names.items) (node_rows skeleton.used_nodes.items) (node_rows skeleton.user_nodes.items) c.requires.names
     (is.used_nodes ∙ ap (λ k. map (map (node_at k)) (rows_of uses)) count) (is.user_nodes ∙ ap (λ k. map (map (node_at k)) (rows_of is.users)) count)
 
@@ -84,7 +84,7 @@ returns-clause-grouped c =
     let skeleton = c.args.skeleton.value in
     let distinct = subst (λ (t : TableRead). IsDistinct bytes_eq t.names) (sym c.requires.table) (c.names_are_the_full_names.ensures.once web.occurrences) in
     let inside = subst ResolvesInside (sym c.requires.table) (c.names_resolve_inside.ensures web) in
-    let graph = graph_over web table c.args.pieces.items (node_texts c.args.texts.items) skeleton distinct inside c.requires.grouped c.requires.texts c.requires.skeleton in
+    let graph = graph_over web table c.args.pieces.items (node_bodies c.args.texts.items) skeleton distinct inside c.requires.grouped c.requires.texts c.requires.skeleton in
     grouped_by web table c.args.pieces.items skeleton.uses.items (texts_of skeleton.names.items) graph c.requires.names _ (λ a. refl)
 
 pub invariant_of-result : goal.invariant_of-result
@@ -98,9 +98,9 @@ invariant_of-result c =
     let measures = c.in_ok-measures.measures in
     let distinct = subst (λ (t : TableRead). IsDistinct bytes_eq t.names) (sym c.requires.table) (c.names_are_the_full_names.ensures.once web.occurrences) in
     let inside = subst ResolvesInside (sym c.requires.table) (c.names_resolve_inside.ensures web) in
-    let graph = graph_over web table pieces (node_texts texts) skeleton distinct inside c.requires.grouped c.requires.texts c.requires.skeleton in
+    let graph = graph_over web table pieces (node_bodies texts) skeleton distinct inside c.requires.grouped c.requires.texts c.requires.skeleton in
     let same : length c.deref-uses.result.now ≡ length uses = ap length (c.deref-uses.ensures.value ∙ ap (λ (s : Skeleton). s.uses.items) c.deref-shared.ensures) in
-    let measured : (n : ℕ) → n < length uses → get_or measures.depths.items n 0 ≡ depth_of (project web table) (title_at table.names n) =
+    let measured : (n : ℕ) → n < length uses → get_or measures.depths.items n 0 ≡ depth_of (shapes web table) (title_at table.names n) =
     (λ n room. c.in_ok-measures.ensures.depths n (omega (arith, room, same))) in
     let within : AreWithin (rows_of pieces) measures.weights.items measures.depths.items measures.expandable.items =
     subst (λ (g : Graph). AreWithin (rows_of g) measures.weights.items measures.depths.items measures.expandable.items) c.deref-rows.ensures.value c.in_ok-measures.ensures.within in
@@ -108,12 +108,12 @@ invariant_of-result c =
     let used : node_rows skeleton.used_nodes.items ≡ map (map (node_at (length table.names))) (rows_of uses) = c.requires.skeleton.used_nodes ∙ ap (λ k. map (map (node_at k)) (rows_of uses)) count in
     let nodes : skeleton.node_order.items ≡ map (node_at (length table.names)) skeleton.order.items = c.requires.skeleton.node_order ∙ ap (λ k. map (node_at k) skeleton.order.items) count in
     record {
-      sizes = sym (length-map texts (λ (t : Rc NodeText Global). t.value)) ∙ c.requires.texts.size ∙ sym within.size;
+      sizes = sym (length-map texts (λ (t : Rc NodeBody Global). t.value)) ∙ c.requires.texts.size ∙ sym within.size;
       skeleton = c.requires.skeleton;
       order = subst (IsOrderIn _) (sym nodes)
           (order_is web table pieces uses skeleton.order.items measures.weights.items measures.depths.items measures.expandable.items _ graph c.requires.skeleton.order within measured c.requires.names used refl);
-      uses = names_below web table (rows_of pieces) (node_texts texts) (length skeleton.names.items) inside c.requires.texts (sym count);
-      planned = subst (λ (ns : List (List ℕ)). ArePlanned ns (λ id. get_or c.args.filled.items id false) (node_texts texts)) (sym c.requires.names) c.requires.planned;
+      uses = names_below web table (rows_of pieces) (node_bodies texts) (length skeleton.names.items) inside c.requires.texts (sym count);
+      planned = subst (λ (ns : List (List ℕ)). ArePlanned ns (λ id. get_or c.args.filled.items id false) (node_bodies texts)) (sym c.requires.names) c.requires.planned;
     }
 
 pub outputs-requires-clause-program : goal.outputs-requires-clause-program
@@ -125,7 +125,7 @@ outputs-requires-clause-program c =
     let uses = skeleton.uses.items in
     let distinct = subst (λ (t : TableRead). IsDistinct bytes_eq t.names) (sym c.requires.table) (c.names_are_the_full_names.ensures.once web.occurrences) in
     let inside = subst ResolvesInside (sym c.requires.table) (c.names_resolve_inside.ensures web) in
-    let graph = graph_over web table pieces (node_texts c.args.texts.items) skeleton distinct inside c.requires.grouped c.requires.texts c.requires.skeleton in
+    let graph = graph_over web table pieces (node_bodies c.args.texts.items) skeleton distinct inside c.requires.grouped c.requires.texts c.requires.skeleton in
     ap (λ l. get_or l c.count.result false) c.deref-defined.ensures.value
     ∙ ap (λ n. get_or c.args.filled.items n false) c.count.ensures
     ∙ c.requires.filled.flag (length table.names) (omega (arith, graph.rows_size, rows_size pieces))
@@ -140,7 +140,7 @@ faults-requires-clause-flags c =
     let uses = skeleton.uses.items in
     let distinct = subst (λ (t : TableRead). IsDistinct bytes_eq t.names) (sym c.requires.table) (c.names_are_the_full_names.ensures.once web.occurrences) in
     let inside = subst ResolvesInside (sym c.requires.table) (c.names_resolve_inside.ensures web) in
-    let graph = graph_over web table pieces (node_texts c.args.texts.items) skeleton distinct inside c.requires.grouped c.requires.texts c.requires.skeleton in
+    let graph = graph_over web table pieces (node_bodies c.args.texts.items) skeleton distinct inside c.requires.grouped c.requires.texts c.requires.skeleton in
     let is = c.requires.skeleton in
     let filled : AreFilled (rows_of pieces) c.deref-defined.result.now = subst (AreFilled (rows_of pieces)) (sym c.deref-defined.ensures.value) c.requires.filled in
     let same : length c.deref-uses.result.now ≡ length uses = ap length (c.deref-uses.ensures.value ∙ ap (λ (s : Skeleton). s.uses.items) c.deref-shared.ensures) in

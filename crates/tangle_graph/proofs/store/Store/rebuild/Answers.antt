@@ -4,16 +4,16 @@ use Rattle.std.specs.declared.rc.Rc.{Rc}
 use Rattle.std.specs.Prelude.{All}
 use Rattle.digraph.specs.Graph.{Graph, rows_of}
 use Rattle.tangle_scan.specs.Web.{PieceRead}
-use Rattle.tangle_expansion.specs.NodeTexts.{node_uses}
-use Rattle.tangle_expansion.specs.Projects.{ResolvesInside}
-use Rattle.tangle_expansion.specs.declared.expansion.NodeText.{NodeText}
-use Rattle.tangle_graph.specs.Plans.{ArePiecesInside, ArePlanned, ArePlans, node_texts, slots_of, uses_of_plans}
+use Rattle.tangle_expansion.specs.NodeBodies.{node_uses}
+use Rattle.tangle_expansion.specs.WebShapes.{ResolvesInside}
+use Rattle.tangle_expansion.specs.declared.expansion.NodeBody.{NodeBody}
+use Rattle.tangle_graph.specs.Plans.{ArePiecesInside, ArePlanned, ArePlans, node_bodies, slots_of, uses_of_plans}
 use Rattle.tangle_graph.proofs.SkeletonLemmas.{uses_inside}
 use Rattle.tangle_graph.proofs.UsesLemmas.{pieces_inside}
 use Rattle.tangle_graph.proofs.store.Store.rebuild.Goals as goal
 
-pub texts_by_node-requires-clause-inside : goal.texts_by_node-requires-clause-inside
-texts_by_node-requires-clause-inside c =
+pub bodies_by_node-requires-clause-inside : goal.bodies_by_node-requires-clause-inside
+bodies_by_node-requires-clause-inside c =
     let rows = c.in_ok-pieces.pieces.items in
     let inside = pieces_inside c.args.table.now c.pieces.result.now rows c.in_ok-pieces.ensures in
     subst (ArePiecesInside (length c.args.web.now.pieces)) (sym c.deref-rows.ensures.value)
@@ -23,8 +23,8 @@ pub skeleton_for-requires-clause-inside : goal.skeleton_for-requires-clause-insi
 skeleton_for-requires-clause-inside c =
     let table = c.args.table.now in
     let inside = subst ResolvesInside (sym c.requires) (c.names_resolve_inside.ensures c.args.web.now) in
-    subst (λ (ts : List (Rc NodeText Global)). All (λ row. All (λ id. id < length table.names) row) (map node_uses (node_texts ts))) (sym c.deref.ensures.value)
-    (uses_inside c.args.web.now table (rows_of c.deref-rows.result.now) (node_texts c.in_ok-texts.texts.items) inside c.in_ok-texts.ensures.texts)
+    subst (λ (ts : List (Rc NodeBody Global)). All (λ row. All (λ id. id < length table.names) row) (map node_uses (node_bodies ts))) (sym c.deref.ensures.value)
+    (uses_inside c.args.web.now table (rows_of c.deref-rows.result.now) (node_bodies c.in_ok-texts.texts.items) inside c.in_ok-texts.ensures.texts)
 
 pub over-requires-clause-plans : goal.over-requires-clause-plans
 over-requires-clause-plans c =
@@ -36,4 +36,4 @@ over-requires-clause-plans c =
 
 pub over-requires-clause-planned : goal.over-requires-clause-planned
 over-requires-clause-planned c =
-    subst (λ (fs : List Bool). ArePlanned c.args.table.now.names (λ id. get_or fs id false) (node_texts c.in_ok-texts.texts.items)) c.deref-flags.ensures.value c.in_ok-texts.ensures.planned
+    subst (λ (fs : List Bool). ArePlanned c.args.table.now.names (λ id. get_or fs id false) (node_bodies c.in_ok-texts.texts.items)) c.deref-flags.ensures.value c.in_ok-texts.ensures.planned

@@ -4,7 +4,7 @@ use Rattle.std.specs.Prelude.{slice_get}
 use Rattle.std.proofs.lemmas.List.{length-map}
 use Rattle.tangle_graph.specs.Nodes.{entry_if}
 use Rattle.tangle_graph.specs.Stores.{StoreRead}
-use Rattle.tangle_graph.specs.Plans.{node_texts}
+use Rattle.tangle_graph.specs.Plans.{node_bodies}
 use Rattle.tangle_graph.proofs.TextLemmas.{names_of_read, none_read}
 use Rattle.tangle_graph.proofs.store.Store.text.Goals as goal
 
@@ -18,5 +18,5 @@ returns-in-Some-get-clause-uses c =
 
 pub returns-in-None-get-clause-text : goal.returns-in-None-get-clause-text
 returns-in-None-get-clause-text c =
-    let same : node_texts c.deref.result.now ≡ c.args.self.now.texts = ap node_texts c.deref.ensures.value ∙ ap (λ (s : StoreRead). s.texts) c.self.view_is in
+    let same : node_bodies c.deref.result.now ≡ c.args.self.now.texts = ap node_bodies c.deref.ensures.value ∙ ap (λ (s : StoreRead). s.texts) c.self.view_is in
     sym (ap (entry_if c.args.self.now.texts) (sym c.number.ensures ∙ c.in-Some.is) ∙ ap (λ ts. slice_get ts c.in-Some.n) (sym same) ∙ none_read c.deref.result.now c.in-Some.n c.in-None-get.ensures.lookup.0)

@@ -1,20 +1,20 @@
-use Rattle.tangle_session.specs.Files.{project_of, web_at}
-use Rattle.tangle_session.proofs.GroundLemmas.{ground_of}
+use Rattle.tangle_session.specs.Files.{shapes_of, web_at}
+use Rattle.tangle_session.proofs.AnalysisLemmas.{analysis_of}
 use Rattle.tangle_session.proofs.TangleLemmas.{fit_to_start, lists_nodes}
 use Rattle.tangle_session.proofs.session.Session.start.Goals as goal
 
 pub returns-in-Ok-expand_all-clause-work : goal.returns-in-Ok-expand_all-clause-work
 returns-in-Ok-expand_all-clause-work c =
-    let ground = ground_of c.args.files c.args.roles c.marks.result c.in-Ok.ground c.marks.ensures c.in-Ok.ensures in
+    let analysis = analysis_of c.args.files c.args.roles c.marks.result c.in-Ok.analysis c.marks.ensures c.in-Ok.ensures in
     let made = c.in-Ok-expand_all.ensures.work in
-    let lists = lists_nodes (web_at c.args.files c.args.roles) c.in-Ok.ground.store made.0 ground.store ground.store_names made.2 in
+    let lists = lists_nodes (web_at c.args.files c.args.roles) c.in-Ok.analysis.store made.0 analysis.store analysis.store_names made.2 in
     rw (made.1, c.new-work.ensures) lists
 
 pub invariant_of-result : goal.invariant_of-result
 invariant_of-result c =
-    let ground = ground_of c.args.files c.args.roles c.marks.result c.in-Ok.ground c.marks.ensures c.in-Ok.ensures in
+    let analysis = analysis_of c.args.files c.args.roles c.marks.result c.in-Ok.analysis c.marks.ensures c.in-Ok.ensures in
     record {
       are_there = fit_to_start c.args.files c.args.roles (let first = c.refusal_to_start.ensures in let second = c.in_default.is in cc);
-      ground = ground;
-      kept = c.in-Ok-expand_all.ensures.kept (project_of (web_at c.args.files c.args.roles)) ground.store;
+      analysis = analysis;
+      kept = c.in-Ok-expand_all.ensures.kept (shapes_of (web_at c.args.files c.args.roles)) analysis.store;
     }

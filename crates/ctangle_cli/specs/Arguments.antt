@@ -1,0 +1,60 @@
+-- The arguments of a run of ctangle, and the names that they give.
+use Rattle.std.specs.Prelude.{ℕ, Bool, false, ◌==◌, ◌||◌, ◌&&◌, not, nat_lt, length, filter, List, [], ◌∷◌, ◌++◌, codes, Option, None, Some, if◌then◌else◌}
+use Rattle.std.specs.List.{list_any, after_last, before_last}
+use Rattle.std.specs.Str.{bytes_eq}
+use Rattle.tangle_files.specs.Roles.{RolesRead, roles_of}
+
+-- an argument of two bytes or more that begins with a hyphen (45) or a plus sign (43)
+abbrev pub is_flag : List ℕ → Bool
+is_flag [] = false
+is_flag (b ∷ bs) = nat_lt 0 (length bs) && ((b == 45) || (b == 43))
+
+-- the part of a name after its last slash (47)
+abbrev pub base_name : List ℕ → List ℕ
+base_name name = after_last (λ b. b == 47) name
+
+-- a name has an extension if that part has a dot (46)
+abbrev pub has_extension : List ℕ → Bool
+has_extension name = list_any (λ b. b == 46) (base_name name)
+
+abbrev pub with_extension : List ℕ → List ℕ → List ℕ
+with_extension name extension = if has_extension name then name else name ++ extension
+
+abbrev pub web_name : List ℕ → List ℕ
+web_name argument = with_extension argument (codes ".w")
+
+-- `-` names no change file
+abbrev pub change_name : List ℕ → Option (List ℕ)
+change_name argument = if bytes_eq argument (codes "-") then None else Some (with_extension argument (codes ".ch"))
+
+abbrev pub out_name : List ℕ → List ℕ
+out_name argument = with_extension argument (codes ".c")
+
+-- the main file of a web, where none is named: the web's part after its last slash and before its last dot, with `.c`
+abbrev pub main_name : List ℕ → List ℕ
+main_name web = before_last (λ b. b == 46) (base_name web) ++ codes ".c"
+
+-- the change file, if one is named
+abbrev pub change_of : Option (List ℕ) → Option (List ℕ)
+change_of None = None
+change_of (Some argument) = change_name argument
+
+-- the main file: the one that is named, or else the web's
+abbrev pub out_of : List ℕ → Option (List ℕ) → List ℕ
+out_of web None = main_name web
+out_of web (Some argument) = out_name argument
+
+abbrev pub completed_names : List ℕ → Option (List ℕ) → Option (List ℕ) → RolesRead
+completed_names web change out = roles_of (web_name web) (change_of change) (out_of (web_name web) out)
+
+-- the names given are a web, perhaps a change file, and then perhaps the main file
+abbrev pub named_by : List (List ℕ) → Option RolesRead
+named_by [] = None
+named_by (web ∷ []) = Some (completed_names web None None)
+named_by (web ∷ (change ∷ [])) = Some (completed_names web (Some change) None)
+named_by (web ∷ (change ∷ (out ∷ []))) = Some (completed_names web (Some change) (Some out))
+named_by (web ∷ (change ∷ (out ∷ (more ∷ arguments)))) = None
+
+-- the names that the arguments give, or none where no argument is a name or more than three are
+unfoldable pub names_of : List (List ℕ) → Option RolesRead
+names_of arguments = named_by (filter (λ argument. not (is_flag argument)) arguments)

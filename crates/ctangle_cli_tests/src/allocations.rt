@@ -1,0 +1,70 @@
+//! Each allocation of a run failing in turn: it ends with status 3, and what was written is the
+//! front of its output.
+use crate::support::{AMPLE, check_only_output, folder_with};
+use ctangle_cli::run_ctangle;
+use std::alloc::Global;
+use std::process::Abort;
+use std::test::Fail;
+use tangle_folders::{MemoryFolder, MemorySink};
+use tangle_test_support::{end_refusals, fail_allocation};
+
+const OUTPUT: &[u8] =
+    b"/*1:*/\n#line 2 \"a.w\"\n\n#line 4 \"a.ch\"\nint z;\n#line 1 \"b.w\"\nint b;\n/*:1*/\n";
+
+// A folder with a web, its change file and an included file.
+fn folder_of_three(alloc: Global) -> Result<MemoryFolder, Fail> {
+    let web = b"@ A.\n@c\nint a;\n@i b.w\n@i n.w\n";
+    let change = b"@x\nint a;\n@y\nint z;\n@z\n";
+    let files = [
+        (b"a.w".as_slice(), web.as_slice()),
+        (b"a.ch", change),
+        (b"b.w", b"int b;\n"),
+    ];
+    folder_with(alloc, &files)
+}
+
+// Each file that was created is the main file, or a front of it.
+fn assert_fronts(rt: &impl Abort, folder: &MemoryFolder) {
+    for file in folder.created() {
+        assert_eq!(rt; file.name.as_slice(), b"a.c".as_slice());
+        assert!(rt; OUTPUT.starts_with(file.bytes.as_slice()));
+    }
+}
+
+// Runs with this allocation failing, and gives the status, and whether none was.
+fn run_without(
+    alloc: Global,
+    folder: &mut MemoryFolder,
+    err: &mut MemorySink,
+    nth: u32,
+) -> (u8, bool) {
+    let arguments = [b"a".as_slice(), b"a"];
+    let is_harnessed = fail_allocation(alloc, nth);
+    let status = run_ctangle(alloc, &arguments, folder, err);
+    (status, end_refusals(alloc, is_harnessed))
+}
+
+// Runs with this allocation failing, and says whether none did.
+fn run_is_spared(rt: &impl Abort, alloc: Global, nth: u32) -> Result<bool, Fail> {
+    let mut folder = folder_of_three(alloc)?;
+    let mut err = MemorySink::new(alloc, AMPLE);
+    let (status, was_spared) = run_without(alloc, &mut folder, &mut err, nth);
+    assert_eq!(rt; status, if was_spared { 1 } else { 3 });
+    assert_fronts(rt, &folder);
+    if was_spared {
+        let reported = b"a.w:5: error: included file not found: n.w\n";
+        assert_eq!(rt; err.bytes(), reported.as_slice());
+        check_only_output(rt, &folder, OUTPUT);
+    }
+    Ok(was_spared)
+}
+
+#[test]
+fn each_allocation_of_a_run_failing(rt: HostRuntime) -> Result<(), Fail> {
+    for nth in 1..1000 {
+        if run_is_spared(&rt, rt.alloc(), nth)? {
+            return Ok(());
+        }
+    }
+    Err(Fail::from("never ended"))
+}

@@ -1,9 +1,0 @@
-use Rattle.std.proofs.Common.{◌≡◌, ◌+◌, length, take}
-use Rattle.tangle_affected.specs.Marks.{AreListed}
-use Rattle.tangle_affected.proofs.keeping.marks_of.Given as goal
-
-abbrev pub invariant-loop-node : goal.invariant-loop-node
-invariant-loop-node l = record {
-  size : length l.marks.items ≡ length l.store.names + 1;
-  listed : AreListed l.store l.marks.items (take l.node-index l.list);
-}

@@ -1,0 +1,11 @@
+use Rattle.std.proofs.Common.{take, get_or, false}
+use Rattle.digraph.specs.Graph.{rows_of}
+use Rattle.tangle_graph.specs.Plans.{ArePlanned, ArePlans, AreBodies, node_bodies, slots_of, uses_of_plans}
+use Rattle.tangle_graph.proofs.bodies.bodies_by_node.Given as goal
+
+abbrev pub invariant-loop-n : goal.invariant-loop-n
+invariant-loop-n l = record {
+  texts : AreBodies l.web l.table (rows_of (take l.n l.pieces)) (node_bodies l.texts.items);
+  plans : ArePlans l.web l.table (λ id. get_or l.has_piece id false) (rows_of (take l.n l.pieces)) (slots_of l.texts.items) (uses_of_plans l.texts.items);
+  planned : ArePlanned l.table.names (λ id. get_or l.has_piece id false) (node_bodies l.texts.items);
+}

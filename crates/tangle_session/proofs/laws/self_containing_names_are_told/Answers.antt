@@ -1,8 +1,0 @@
-use Rattle.tangle_session.specs.Files.{source_at, web_at}
-use Rattle.tangle_session.proofs.LawLemmas.{told_in}
-use Rattle.tangle_session.proofs.laws.self_containing_names_are_told.Goals as goal
-
-pub returns : goal.returns
-returns c = λ files roles faults name.
-    told_in (source_at files roles) (web_at files roles) roles.out faults name (c.names_resolve_inside.ensures (web_at files roles))
-    (c.names_are_the_full_names.ensures.occur (web_at files roles).occurrences)

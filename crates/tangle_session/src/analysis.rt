@@ -1,0 +1,150 @@
+//! The analysis of a web: what is known of a web before a node of it is expanded.
+ghost use Rattle.std.specs.Prelude.{◌≡◌, ◌++◌, [], true, IfOk, IfSome, OnOk};
+ghost use Rattle.tangle_files.specs.Roles.{fits};
+ghost use Rattle.tangle_names.specs.NameTable.{table_of, table_over};
+ghost use Rattle.tangle_expansion.specs.Nodes.{IsGroupedBy};
+ghost use Rattle.tangle_expansion.specs.Numbers.{numbers_of};
+ghost use Rattle.tangle_expansion.specs.WebShapes.{shapes};
+ghost use Rattle.tangle_graph.specs.Faults.{AreGraphFaults};
+ghost use Rattle.tangle_graph.specs.Outputs.{outputs};
+ghost use Rattle.tangle_graph.specs.Stores.{IsStoreOf, pieces_of_node};
+ghost use Rattle.tangle_session.specs.Files.{shapes_of};
+ghost use Rattle.tangle_session.specs.Sessions.{IsGround, IsAnalysisAt};
+
+use std::alloc::Global;
+use tangle_expansion::Numbers;
+use tangle_graph::Store;
+use tangle_lines::{Fault, Files, MarkMode, NoMemory, Roles, read_source};
+use tangle_names::NameTable;
+use tangle_scan::{Occurrence, Web, scan};
+
+/// The occurrences, the names, the store and the numbers of a web, and the faults of its files. The
+/// occurrences are kept for the next edit, which keeps what the names resolve to if they are
+/// written as they were.
+#[derive(Drop)]
+pub(crate) struct Analysis {
+    pub(crate) occurrences: Vec<Occurrence>,
+    pub(crate) table: NameTable,
+    pub(crate) store: Store,
+    pub(crate) numbers: Numbers,
+    pub(crate) faults: Vec<Fault>,
+}
+
+/// The table of a web's names, built over those of the old analysis, if there is one.
+fn name_table(alloc: Global, web: &Web, old: Option<&Analysis>) -> Result<NameTable, NoMemory>
+    requires { IfSome old (λ before. IsGround before.now) }
+    ensures { IfOk result (λ table. table ≡ table_of web.now) }
+{
+    match old {
+        Some(old) => NameTable::rebuild(alloc, web, &old.table, &old.occurrences),
+        None => NameTable::build(alloc, web),
+    }
+}
+
+/// The store of a web with its table of names, built over that of the old analysis, if there is
+/// one.
+fn store(
+    alloc: Global,
+    web: &Web,
+    table: &NameTable,
+    out: &[u8],
+    old: Option<&Analysis>,
+) -> Result<Store, NoMemory>
+    requires { table.now ≡ record (table_of web.now) { faults = table.now.faults } }
+    ensures store { IfOk result (λ store. IsStoreOf (shapes web.now table.now) store) }
+    ensures names { IfOk result (λ store. store.names ≡ table.now.names) }
+    ensures outputs { IfOk result (λ store. store.outputs ≡ outputs web.now table.now out.now) }
+    ensures faults { IfOk result (λ store.
+        AreGraphFaults web.now table.now out.now store.faults) }
+    ensures grouped { IfOk result (λ store.
+        IsGroupedBy web.now table.now store.names (pieces_of_node store)) }
+{
+    match old {
+        Some(old) => Store::rebuild(alloc, web, table, out, &old.store),
+        None => Store::build(alloc, web, table, out),
+    }
+}
+
+impl Analysis {
+    /// What a web is made into, for a main file of this name and line marks that are written so.
+    /// The web has its occurrences as yet. The faults are those of names; the store has those of
+    /// the graph.
+    fn of_web(
+        alloc: Global,
+        web: &Web,
+        out: &[u8],
+        marks: MarkMode,
+        old: Option<&Analysis>,
+    ) -> Result<Analysis, NoMemory>
+        requires { IfSome old (λ before. IsGround before.now) }
+        ensures table { IfOk result (λ made. made.table ≡ table_over web.now.occurrences []) }
+        ensures store { IfOk result (λ made. IsStoreOf (shapes_of web.now) made.store) }
+        ensures store_names { IfOk result (λ made. made.store.names ≡ (table_of web.now).names) }
+        ensures outputs { IfOk result
+            (λ made. made.store.outputs ≡ outputs web.now (table_of web.now) out.now) }
+        ensures numbers { IfOk result
+            (λ made. made.numbers ≡ numbers_of web.now (table_of web.now) marks) }
+        ensures of_names { IfOk result (λ made. made.faults.items ≡ (table_of web.now).faults) }
+        ensures of_graph { IfOk result
+            (λ made. AreGraphFaults web.now (table_of web.now) out.now made.store.faults) }
+    {
+        let mut table = name_table(alloc, web, old)?;
+        let store = store(alloc, web, &table, out, old)?;
+        let numbers = Numbers::build(alloc, web, &store, marks)?;
+        let faults = table.take_faults();
+        Ok(Analysis {
+            occurrences: Vec::new(alloc),
+            table,
+            store,
+            numbers,
+            faults,
+        })
+    }
+
+    /// Puts the faults of a source and of its web before those of names, and those of the store,
+    /// which has none from then on, behind them.
+    fn join_faults(
+        &mut self,
+        mut faults: Vec<Fault>,
+        mut of_web: Vec<Fault>,
+    ) -> Result<(), NoMemory>
+        ensures faults { OnOk result
+            (self.new.faults.items ≡ faults.items
+            ++ (of_web.items ++ (self.old.faults.items ++ self.old.store.faults))) }
+        ensures others { OnOk result
+            (self.new ≡ record self.old
+            { faults = self.new.faults; store = record self.old.store { faults = [] } }) }
+    {
+        let mut of_graph = self.store.take_faults();
+        faults.append(&mut of_web)?;
+        faults.append(&mut self.faults)?;
+        faults.append(&mut of_graph)?;
+        self.faults = faults;
+        Ok(())
+    }
+
+    /// Reads and scans the files, which have the web and the change file that is named. Line marks
+    /// are to be written so, whatever the roles say. The names and the store are built over those
+    /// of the old analysis, if there is one.
+    pub(crate) fn build(
+        alloc: Global,
+        files: &Files,
+        roles: &Roles,
+        marks: MarkMode,
+        old: Option<&Analysis>,
+    ) -> Result<Analysis, NoMemory>
+        requires fits { fits files.now roles.now ≡ true }
+        requires old { IfSome old (λ before. IsGround before.now) }
+        ensures { IfOk result (λ made.
+            IsAnalysisAt files.now (record roles.now { marks = marks }) made) }
+    {
+        let source = read_source(alloc, files, roles)?;
+        let web = scan(alloc, &source)?;
+        let mut analysis = Analysis::of_web(alloc, &web, roles.out(), marks, old)?;
+        let (occurrences, of_web) = web.into_occurrences_and_faults();
+        analysis.occurrences = occurrences;
+        let of_source = source.into_faults();
+        analysis.join_faults(of_source, of_web)?;
+        Ok(analysis)
+    }
+}
