@@ -17,7 +17,7 @@ use Rattle.tangle_script.specs.Requests.Request.{Begin, Commit, Cancel}
 use Rattle.tangle_script.specs.Script.{Replies, WritesText}
 use Rattle.tangle_session.specs.Edits.{list_memory, list_refusal, session_refusal}
 use Rattle.tangle_session.specs.Files.{web_at}
-use Rattle.tangle_session.specs.Sessions.{AreMade, ListsAffected, SessionRead}
+use Rattle.tangle_session.specs.Sessions.{AreMade, ListsAffectedOfWebs, SessionRead}
 use Rattle.tangle_session.specs.Writes.{WritesOut}
 use Rattle.tangle_session.specs.declared.refusing.ListRefusal.{ListRefusal}
 use Rattle.ctangle_cli.specs.Conversation.{AnswersIn, AnswersList, ConversationRead, answers, in_conversation, list_line, list_refused_line}
@@ -102,12 +102,12 @@ pub bad_commit : (session : SessionRead) (d : Option (Vec Edit Global)) → d �
 bad_commit session d none = rw none (refl, refl)
 
 made_whole : (s t : SessionRead) (made : List Edit) (done : Result (Unit {0}) ListRefusal) → OnOk done (t.files ≡ edited_all s.files made)
-    → OnOk done (t.roles ≡ roles_after s.roles made) → OnOk done (ListsAffected (web_at s.files s.roles) (web_at t.files t.roles) t.work) → OnOk done (AreMade s made t)
+    → OnOk done (t.roles ≡ roles_after s.roles made) → OnOk done (ListsAffectedOfWebs (web_at s.files s.roles) (web_at t.files t.roles) t.work) → OnOk done (AreMade s made t)
 made_whole s t made (Ok x) files roles work = record { files = files; roles = roles; work = work }
 made_whole s t made (Err refused) files roles work = tt
 
 pub list_answered : (s t : SessionRead) (made : List Edit) (done : Result (Unit {0}) ListRefusal) → OnOk done (t.files ≡ edited_all s.files made)
-    → OnOk done (t.roles ≡ roles_after s.roles made) → OnOk done (ListsAffected (web_at s.files s.roles) (web_at t.files t.roles) t.work)
+    → OnOk done (t.roles ≡ roles_after s.roles made) → OnOk done (ListsAffectedOfWebs (web_at s.files s.roles) (web_at t.files t.roles) t.work)
     → IfSome (list_refusal s.files s.roles made) (λ refused. (done ≡ Err refused) ⊎ (done ≡ Err list_memory))
     → IfNone (list_refusal s.files s.roles made) (IsOkUnless done list_memory) → OnErr done (t ≡ s) → AnswersList s made (list_line done) t
 list_answered s t made done files roles work refused only stays =
