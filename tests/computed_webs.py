@@ -5,7 +5,7 @@ which says by computing alone what the depths, weights and texts of the web's no
 usage: tests/computed_webs.py FOLDER FIRST COUNT
 
 FOLDER is a new folder beside the other crates, and FIRST the seed to begin with. In crates.txt is
-    FOLDER: tangle_graph digraph tangle_expansion tangle_names tangle_scan tangle_lexer tangle_lines tangle_files
+    FOLDER: tangle_graph digraph tangle_expansion tangle_plans tangle_names tangle_scan tangle_lexer tangle_text tangle_lines tangle_faults tangle_files
 and 'rt check' in the folder says whether all lemmas hold. The gate does not do this.
 
 Of a node that reaches a name that contains itself only the depth is computed. Left out are webs of more than 60 lines, and those
@@ -31,7 +31,7 @@ use Rattle.std.specs.Prelude.{codes, map, true, false}
 use Rattle.std.specs.Fmt.{digits}
 use Rattle.tangle_lexer.specs.Steps.{lexeme, occurrences_from, tokens_from}
 use Rattle.tangle_expansion.specs.Limits.{levels, heaviest}
-use Rattle.tangle_expansion.specs.Shapes.{Program, Named}
+use Rattle.tangle_plans.specs.Shapes.{Program, Named}
 use Rattle.%s.proofs.Shown.{line, shown}
 
 '''
@@ -41,10 +41,10 @@ use Rattle.std.specs.Prelude.{ℕ, Bool, true, false, List, [], ◌∷◌, ◌++
 use Rattle.tangle_lines.specs.Reading.{Line, SourceRead}
 use Rattle.tangle_scan.specs.Web.{WebRead, web_of}
 use Rattle.tangle_names.specs.NameTable.{table_of}
-use Rattle.tangle_expansion.specs.Shapes.{Title}
-use Rattle.tangle_expansion.specs.Flat.{flat, weight, depth}
+use Rattle.tangle_plans.specs.Shapes.{Title}
+use Rattle.tangle_plans.specs.Flat.{flat, weight, depth}
 use Rattle.tangle_expansion.specs.Limits.{levels}
-use Rattle.tangle_expansion.specs.WebShapes.{shapes}
+use Rattle.tangle_plans.specs.WebShapes.{shapes}
 use Rattle.tangle_expansion.specs.Numbers.{numbers_of, text}
 use Rattle.tangle_expansion.specs.Outputs.{file_text}
 use Rattle.tangle_files.specs.declared.marks.MarkMode.TheVariants.{Full}
@@ -67,7 +67,7 @@ pub record Shown : Type 0 where
   pub files : List File
 
 abbrev pub line : List ℕ → ℕ → ℕ → Bool → Line
-line bytes file n changed = record { bytes = bytes; place = record { file = file; line = n }; changed = changed }
+line bytes file n changed = record { bytes = bytes; origin = record { file = file; line = n }; changed = changed }
 
 abbrev pub source : List (List ℕ) → List Line → SourceRead
 source files lines = record { files = map (λ name. (name, [])) files; lines = lines; faults = [] }
@@ -143,8 +143,8 @@ def lemma(seed):
         return None
     numbers = {name: number for number, (name, _) in enumerate(files)}
     writer = Writer(tangling.web, graph, tangling.marks)
-    lines = ['line %s %d %d %s' % (bytes_term(line), numbers[place[0]], place[1], 'true' if changed else 'false')
-             for line, place, changed in tangling.source]
+    lines = ['line %s %d %d %s' % (bytes_term(line), numbers[origin[0]], origin[1], 'true' if changed else 'false')
+             for line, origin, changed in tangling.source]
     plain = [node for node in graph.nodes if node not in graph.reaches_circle]
     circular = [node for node in graph.nodes if node in graph.reaches_circle]
     if any(graph.pieces[node] and node not in graph.expandable for node in plain):

@@ -5,6 +5,7 @@ usage: documents.py [FOLDER]      the folder of the repository
 - docs/definitions.md: each definition is in the file beside it, each file of code is there, and
   each promise is a function of the file beside it, with that clause; each file of specs/ is in the
   map, and each page of docs/ that names it has a part there.
+- docs/DECISIONS.md: each crate hands on what the table of the surface says.
 - docs/promises.md: each public call of a crate that has a table there is in it.
 - docs/sessions.md, where it is: the reference answers its conversation so; each line of a script is
   in its table and in docs/retangle.1. README.md names each page of docs/.
@@ -30,7 +31,7 @@ FUNCTION = re.compile(r'^\s*(pub |pub\(crate\) )?(?:const )?fn (\w+)', re.M)
 CODED = re.compile(r'`([^`]+)`')
 
 # The crates in which nodes are expanded and texts written.
-EXPANDING = ('tangle_expansion', 'tangle_graph', 'tangle_affected', 'tangle_session', 'ctangle_cli',
+EXPANDING = ('tangle_plans', 'tangle_expansion', 'tangle_graph', 'tangle_affected', 'tangle_session', 'ctangle_cli',
              'ctangle', 'retangle')
 
 # Which function calls what, once in its text. A session begins one work in a start, one in an edit
@@ -241,10 +242,26 @@ def functions_of(here):
 
 
 def surface_of(here, functions):
-    """The public functions that the crate hands on, and the methods of the types that it hands on."""
+    """The public functions that the crate passes on, and the methods of the types that it passes on."""
     handed_on = set(re.findall(r'\w+', ' '.join(re.findall(r'^pub use ([^;]*);', here.code['lib.rt'], re.M))))
     handed_on |= set(re.findall(r'^pub (?:struct|enum|trait|fn) (\w+)', here.code['lib.rt'], re.M))
     return [one for one in functions if one[4] and (one[2] or one[3]) in handed_on]
+
+
+def check_surface(crates, top):
+    """Each name in the table of docs/DECISIONS.md, CRATE | of its own | handed on, is handed on by the crate."""
+    name = 'docs/DECISIONS.md'
+    with open(os.path.join(top, name), encoding='utf-8') as source:
+        table = re.search(r'^\| Crate \| Of its own \| Handed on \|\n.*\n((?:\|.*\n)*)', source.read(), re.M)
+    check(table, name, 'no table of the surface')
+    for row in table.group(1).splitlines() if table else []:
+        crate, *words = CODED.findall(row)
+        check(crate in crates and words, name, 'no row: %s' % row)
+        root = crates[crate].code['lib.rt'] if crate in crates else ''
+        handed_on = set(re.findall(r'\w+', ' '.join(re.findall(r'^pub use ([^;]*);', root, re.M))))
+        handed_on |= set(re.findall(r'^pub (?:struct|enum|trait|fn) (\w+)', root, re.M))
+        for word in words:
+            check(word in handed_on, name, '%s does not hand on %s' % (crate, word))
 
 
 def check_promises(crate, here, part):
@@ -386,6 +403,7 @@ def main():
     check_conversation(top)
     check_commands(crates, top)
     check_readme(top)
+    check_surface(crates, top)
     with open(os.path.join(top, 'docs', 'promises.md'), encoding='utf-8') as source:
         parts = re.split(r'^## `(\w+)`.*$', source.read(), flags=re.M)
     for crate, part in zip(parts[1::2], parts[2::2]):

@@ -45,7 +45,7 @@ plainly() {
     "$@"
 }
 
-# Runs the program on $1 by the runner $2, a function that is handed the program and its arguments.
+# Runs the program on $1 by the runner $2, a function that is passed the program and its arguments.
 # Leaves the folder in $room/run, what it should hold in $room/expected, the streams and $status.
 run_program() { # CASE RUNNER
     rm -rf "$room/run" "$room/expected"

@@ -87,7 +87,7 @@ survived() { # CASE
 
 # Whether a file is as it was before the run, if it was there, or else the front of its output. An older output is
 # whole after a run that reports out of memory: what is reported so was refused before the file was touched.
-survived_as() { # FILE OLD WANTED
+survived_as() { # FILE OLD EXPECTED
     if [ -f "$2" ] && [ -s "$room/stderr" ]; then
         cmp -s "$1" "$2"
     else

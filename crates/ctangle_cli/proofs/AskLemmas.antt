@@ -21,7 +21,7 @@ use Rattle.tangle_folders.specs.Folder.{File, file_limit, with_asked}
 use Rattle.ctangle_cli.specs.Asking.{AsksForAll, AsksOnce, IsNeeded}
 use Rattle.ctangle_cli.specs.Tries.{AsksOn, IsTriedIn, RoundsOnce, StopsAsking, Tries, TriesAll, TriesOnce, TriesSince, TriesStay, is_tried}
 use Rattle.ctangle_cli.specs.Questions.{named_in}
-use Rattle.tangle_lines.specs.Faults.{FaultRead}
+use Rattle.tangle_faults.specs.Faults.{FaultRead}
 use Rattle.ctangle_cli.specs.Loading.{Grows, Loaded, and_then, is_missing_kind, missed_in, with_inclusion, with_inclusions, add_bytes, missing_of, unless_refused}
 use Rattle.ctangle_cli.specs.Loading.LoadEnd.{Unreadable}
 use Rattle.ctangle_cli.proofs.LoadLemmas.{has_any, list_any-map}

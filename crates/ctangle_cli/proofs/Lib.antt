@@ -1,5 +1,6 @@
 mod AskLemmas
 mod LoadLemmas
+mod NameLemmas
 mod OrderLemmas
 mod MissingLemmas
 mod Quiet

@@ -12,11 +12,11 @@ use Rattle.std.specs.declared.vec.Vec.{Vec}
 use Rattle.std.specs.Global.{Global}
 use Rattle.tangle_files.specs.declared.refusal.Refusal.{Refusal}
 use Rattle.tangle_files.specs.declared.refusal.Refusal.TheVariants.{NoMemory as NoRoom}
-use Rattle.tangle_files.specs.Lines.{FileTable, cut, lines_of}
+use Rattle.tangle_files.specs.Lines.{FileTable, cut, file_number, lines_of}
 use Rattle.tangle_files.specs.Adding.{add_refusal, with_file, has_file, is_name}
-use Rattle.tangle_files.specs.Roles.{RolesRead, is_there, is_there_if_any, fits}
+use Rattle.tangle_files.specs.Roles.{RolesRead, has_file_if_any, fits}
 use Rattle.tangle_streams.specs.Streams.{Failed}
-use Rattle.tangle_folders.specs.Folder.{File, Reads, bytes_of, file_limit, with_asked}
+use Rattle.tangle_folders.specs.Folder.{File, Reads, file_bytes, file_limit, with_asked}
 use Rattle.ctangle_cli.specs.Loading.{AreAbsent, missing_of, LoadEnd, Grows, IsLoadEnd, Loaded, LoadsTo, StopsFor, NamesLastAsked, add_bytes, add_present, after_round, and_then, refused_as, rounds_from, rounds_in, bad_name, load_of, load_unless, unless_refused, with_inclusion, with_inclusions, with_round, with_needed}
 use Rattle.ctangle_cli.specs.Loading.LoadEnd.{Unreadable, Refuses, Memory}
 
@@ -90,7 +90,7 @@ pub included_bytes : (reported : Option (List File)) (files : FileTable) (name :
     → IfSome reported (λ all. (e : LoadEnd) → add_bytes files name bytes.items ≡ Err e → with_inclusion all files name ≡ Err e)
 included_bytes None files name bytes h absent named = tt
 included_bytes (Some all) files name bytes h absent named = λ e stop.
-    chosen (has_file files name) (is_name name) files (add_present files name (bytes_of all name)) absent named ∙ ap (add_present files name) h ∙ stop
+    chosen (has_file files name) (is_name name) files (add_present files name (file_bytes all name)) absent named ∙ ap (add_present files name) h ∙ stop
 
 -- a longer list
 some_at_end : {X : Type 0} (xs : List X) (x : X) → 0 < length (xs ++ x ∷ [])
@@ -158,13 +158,13 @@ grows_then files next (Ok mid) rest h k e = Grows-trans files mid next (h mid re
 grows_then files next (Err ending) rest h k e = absurd (cc)
 
 pub grows_one : (all : List File) (files next : FileTable) (name : List ℕ) → with_inclusion all files name ≡ Ok next → Grows files next
-grows_one all files next name e = grows_if (has_file files name || not (is_name name)) files next name (bytes_of all name) e
+grows_one all files next name e = grows_if (has_file files name || not (is_name name)) files next name (file_bytes all name) e
 
 pub grows_all : (all : List File) (names : List (List ℕ)) (files next : FileTable) → with_inclusions all names files ≡ Ok next → Grows files next
 grows_all all [] files next e = let same : next ≡ files = cc in subst (λ t. Grows files t) (sym same) (Grows-refl files)
 grows_all all (name ∷ names) files next e =
     grows_then files next (with_inclusion all files name) (λ mid. with_inclusions all names mid)
-    (λ mid is. grows_if (has_file files name || not (is_name name)) files mid name (bytes_of all name) is) (λ mid more. grows_all all names mid next more) e
+    (λ mid is. grows_if (has_file files name || not (is_name name)) files mid name (file_bytes all name) is) (λ mid more. grows_all all names mid next more) e
 
 -- what comes after a round that added files
 after_same : (files : FileTable) (l : Loaded) (f g : FileTable → Loaded) → ((next : FileTable) → l ≡ Ok next → (length next ≡ length files → ⊥) → f next ≡ g next)
@@ -262,14 +262,14 @@ pub absent_more : (reported : Option (List File)) (b : Bool) (ks : List (Vec ℕ
 absent_more None b ks k before this = tt
 absent_more (Some all) true ks k before this = before
 absent_more (Some all) false ks k before this =
-    rw map-append (All-append (λ name. bytes_of all name ≡ None) (map (λ k. k.items) ks) (k.items ∷ []) before this)
+    rw map-append (All-append (λ name. file_bytes all name ≡ None) (map (λ k. k.items) ks) (k.items ∷ []) before this)
 
-absent_at : (all : List File) (name : List ℕ) (names : List (List ℕ)) → All (λ n. bytes_of all n ≡ None) names → list_any (bytes_eq name) names ≡ true → bytes_of all name ≡ None
+absent_at : (all : List File) (name : List ℕ) (names : List (List ℕ)) → All (λ n. file_bytes all n ≡ None) names → list_any (bytes_eq name) names ≡ true → file_bytes all name ≡ None
 absent_at all name [] h e = absurd (cc)
 absent_at all name (n ∷ ns) h e = by (bytes_eq name n) refl (absent_at all name ns (λ k d lt. h (suc k) d (omega arith)))
   where
-    by : (b : Bool) → bytes_eq name n ≡ b → (list_any (bytes_eq name) ns ≡ true → bytes_of all name ≡ None) → bytes_of all name ≡ None
-    by true same rest = subst (λ m. bytes_of all m ≡ None) (sym ((bytes_eq-Decides name n).0 same)) (h zero [] (omega arith))
+    by : (b : Bool) → bytes_eq name n ≡ b → (list_any (bytes_eq name) ns ≡ true → file_bytes all name ≡ None) → file_bytes all name ≡ None
+    by true same rest = subst (λ m. file_bytes all m ≡ None) (sym ((bytes_eq-Decides name n).0 same)) (h zero [] (omega arith))
     by false other rest = rest (subst (λ b. (b || list_any (bytes_eq name) ns) ≡ true) other e)
 
 -- a name that the folder doesn't have adds nothing
@@ -277,7 +277,7 @@ pub absent_adds_none : (reported : Option (List File)) (files : FileTable) (name
     → has_file files name ≡ false → is_name name ≡ true → IfSome reported (λ all. with_inclusion all files name ≡ Ok files)
 absent_adds_none None files name names h e absent named = tt
 absent_adds_none (Some all) files name names h e absent named =
-    chosen (has_file files name) (is_name name) files (add_present files name (bytes_of all name)) absent named ∙ ap (add_present files name) (absent_at all name names h e)
+    chosen (has_file files name) (is_name name) files (add_present files name (file_bytes all name)) absent named ∙ ap (add_present files name) (absent_at all name names h e)
 
 -- a file is there where the table has its lines
 nat_lt-suc : (a b : ℕ) → nat_lt (1 + a) (suc b) ≡ nat_lt a b
@@ -289,16 +289,16 @@ nat_lt-suc a b = by (nat_lt (1 + a) (suc b)) refl (nat_lt a b) refl
     by false e true f = let p = ltb-false (1 + a) (suc b) e in let q = ltb-true a b f in absurd (omega arith)
     by false e false f = refl
 
-place_below : {X : Type 0} (p : X → Bool) (xs : List X) → nat_lt (position_or_len p xs) (length xs) ≡ list_any p xs
-place_below p [] = refl
-place_below p (x ∷ xs) = by (p x) (place_below p xs)
+position_below : {X : Type 0} (p : X → Bool) (xs : List X) → nat_lt (position_or_len p xs) (length xs) ≡ list_any p xs
+position_below p [] = refl
+position_below p (x ∷ xs) = by (p x) (position_below p xs)
   where
     by : (b : Bool) → nat_lt (position_or_len p xs) (length xs) ≡ list_any p xs → nat_lt (cond (not b) (1 + position_or_len p xs) 0) (length (x ∷ xs)) ≡ (b || list_any p xs)
     by true rest = lt-ltb 0 (length (x ∷ xs)) (omega arith)
     by false rest = nat_lt-suc (position_or_len p xs) (length xs) ∙ rest
 
 is_some-position : {X : Type 0} (p : X → Bool) (xs : List X) → is_some (position p xs) ≡ list_any p xs
-is_some-position p xs = by (nat_lt (position_or_len p xs) (length xs)) ∙ place_below p xs
+is_some-position p xs = by (nat_lt (position_or_len p xs) (length xs)) ∙ position_below p xs
   where
     by : (b : Bool) → is_some (cond b (Some (position_or_len p xs)) None) ≡ b
     by true = refl
@@ -312,8 +312,9 @@ has_any (f ∷ files) name = by (bytes_eq name f.0) (has_any files name)
     by true rest = refl
     by false rest = rest
 
-pub there_as_has : (files : FileTable) (name : List ℕ) → is_there files name ≡ has_file files name
-there_as_has files name = is_some-position (λ f. bytes_eq name f.0) files ∙ sym (has_any files name)
+-- a file has a number where the table has its lines
+pub numbered_as_has : (files : FileTable) (name : List ℕ) → is_some (file_number files name) ≡ has_file files name
+numbered_as_has files name = is_some-position (λ f. bytes_eq name f.0) files ∙ sym (has_any files name)
 
 -- the files stay in a table that grows
 has_file-append : (files more : FileTable) (name : List ℕ) → has_file files name ≡ true → has_file (files ++ more) name ≡ true
@@ -333,16 +334,13 @@ has_file-last (f ∷ files) name lines = by (bytes_eq name f.0) (has_file-last f
     by true rest = refl
     by false rest = rest
 
-pub there_added : (files : FileTable) (name bytes : List ℕ) → is_there (with_file files name bytes) name ≡ true
-there_added files name bytes = there_as_has (with_file files name bytes) name ∙ has_file-last files name (cut bytes)
+pub there_added : (files : FileTable) (name bytes : List ℕ) → has_file (with_file files name bytes) name ≡ true
+there_added files name bytes = has_file-last files name (cut bytes)
 
-is_there-append : (files more : FileTable) (name : List ℕ) → is_there files name ≡ true → is_there (files ++ more) name ≡ true
-is_there-append files more name h = there_as_has (files ++ more) name ∙ has_file-append files more name (sym (there_as_has files name) ∙ h)
+pub grows_there : (old new : FileTable) (name : List ℕ) → Grows old new → has_file old name ≡ true → has_file new name ≡ true
+grows_there old new name g h = subst (λ t. has_file t name ≡ true) (sym g.is) (has_file-append old g.more name h)
 
-pub grows_there : (old new : FileTable) (name : List ℕ) → Grows old new → is_there old name ≡ true → is_there new name ≡ true
-grows_there old new name g h = subst (λ t. is_there t name ≡ true) (sym g.is) (is_there-append old g.more name h)
-
-pub grows_there_if_any : (old new : FileTable) (name : Option (List ℕ)) → Grows old new → is_there_if_any old name ≡ true → is_there_if_any new name ≡ true
+pub grows_there_if_any : (old new : FileTable) (name : Option (List ℕ)) → Grows old new → has_file_if_any old name ≡ true → has_file_if_any new name ≡ true
 grows_there_if_any old new None g h = refl
 grows_there_if_any old new (Some name) g h = grows_there old new name g h
 
@@ -358,11 +356,11 @@ each false b p = absurd (cc)
 
 pub grows_fits : (old new : FileTable) (names : RolesRead) → Grows old new → fits old names ≡ true → fits new names ≡ true
 grows_fits old new names g h =
-    let parts = each (is_there old names.web) (is_there_if_any old names.change) h in
-    both (is_there new names.web) (is_there_if_any new names.change) (grows_there old new names.web g parts.0) (grows_there_if_any old new names.change g parts.1)
+    let parts = each (has_file old names.web) (has_file_if_any old names.change) h in
+    both (has_file new names.web) (has_file_if_any new names.change) (grows_there old new names.web g parts.0) (grows_there_if_any old new names.change g parts.1)
 
-pub fits_both : (files : FileTable) (names : RolesRead) → is_there files names.web ≡ true → is_there_if_any files names.change ≡ true → fits files names ≡ true
-fits_both files names p q = both (is_there files names.web) (is_there_if_any files names.change) p q
+pub fits_both : (files : FileTable) (names : RolesRead) → has_file files names.web ≡ true → has_file_if_any files names.change ≡ true → fits files names ≡ true
+fits_both files names p q = both (has_file files names.web) (has_file_if_any files names.change) p q
 
 -- the name that is reported was asked for last
 pub asked_last : (old new : Option (List (List ℕ))) (name : List ℕ) (given : LoadEnd) → new ≡ with_asked old name → IsLoadEnd (Unreadable name) given → NamesLastAsked new given

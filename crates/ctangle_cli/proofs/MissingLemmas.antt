@@ -7,7 +7,7 @@ use Rattle.tangle_files.specs.declared.refusal.Refusal.{Refusal}
 use Rattle.tangle_files.specs.Lines.{FileTable, cut}
 use Rattle.tangle_files.specs.Adding.{add_refusal, with_file, has_file, is_name}
 use Rattle.tangle_files.specs.Roles.{RolesRead}
-use Rattle.tangle_folders.specs.Folder.{File, bytes_of, file_limit}
+use Rattle.tangle_folders.specs.Folder.{File, file_bytes, file_limit}
 use Rattle.ctangle_cli.specs.Loading.{Grows, Loaded, add_bytes, add_present, after_round, and_then, bad_name, load_of, load_unless, missing_of, rounds_from, rounds_in, unless_refused, with_change, with_inclusion, with_inclusions, with_round, with_needed}
 use Rattle.ctangle_cli.specs.Loading.LoadEnd.{Unreadable}
 use Rattle.ctangle_cli.proofs.LoadLemmas.{grows_all, grows_one, longer}
@@ -36,13 +36,13 @@ not_there files next name None e same = refl
 not_there files next name (Some bytes) e same = absurd (longer_by_one files next name bytes e same)
 
 looked_for : (all : List File) (files next : FileTable) (name : List ℕ) → with_inclusion all files name ≡ Ok next → length next ≡ length files → has_file files name ≡ false
-    → (is_name name ≡ false) ⊎ (bytes_of all name ≡ None)
+    → (is_name name ≡ false) ⊎ (file_bytes all name ≡ None)
 looked_for all files next name e same absent = by (has_file files name) (is_name name) absent refl e
   where
-    by : (h n : Bool) → h ≡ false → is_name name ≡ n → cond (h || not n) (Ok files) (add_present files name (bytes_of all name)) ≡ Ok next → (is_name name ≡ false) ⊎ (bytes_of all name ≡ None)
+    by : (h n : Bool) → h ≡ false → is_name name ≡ n → cond (h || not n) (Ok files) (add_present files name (file_bytes all name)) ≡ Ok next → (is_name name ≡ false) ⊎ (file_bytes all name ≡ None)
     by true n h k e = absurd (cc)
     by false false h k e = inl k
-    by false true h k e = inr (not_there files next name (bytes_of all name) e same)
+    by false true h k e = inr (not_there files next name (file_bytes all name) e same)
 
 cons_cases : (x : List ℕ) (xs : List (List ℕ)) (t : List ℕ) → Contains (x ∷ xs) t → (x ≡ t) ⊎ Contains xs t
 cons_cases x xs t c = elim (Contains-append_cases (x ∷ []) xs t c) [
@@ -52,8 +52,8 @@ cons_cases x xs t c = elim (Contains-append_cases (x ∷ []) xs t c) [
 
 each_looked_for-step : (all : List File) (files next : FileTable) (n : List ℕ) (ns : List (List ℕ)) (name : List ℕ) (first : Loaded) → with_inclusion all files n ≡ first
     → and_then first (λ mid. with_inclusions all ns mid) ≡ Ok next → length next ≡ length files
-    → (with_inclusions all ns files ≡ Ok next → Contains ns name → (is_name name ≡ false) ⊎ (bytes_of all name ≡ None))
-    → has_file files name ≡ false → Contains (n ∷ ns) name → (is_name name ≡ false) ⊎ (bytes_of all name ≡ None)
+    → (with_inclusions all ns files ≡ Ok next → Contains ns name → (is_name name ≡ false) ⊎ (file_bytes all name ≡ None))
+    → has_file files name ≡ false → Contains (n ∷ ns) name → (is_name name ≡ false) ⊎ (file_bytes all name ≡ None)
 each_looked_for-step all files next n ns name (Err ending) is e same rest absent c = absurd (cc)
 each_looked_for-step all files next n ns name (Ok mid) is e same rest absent c =
     let g = grows_one all files mid n is in
@@ -61,12 +61,12 @@ each_looked_for-step all files next n ns name (Ok mid) is e same rest absent c =
     let middle : length mid ≡ length files = omega (arith, same, ap length g.is, ap length k.is, length-append files g.more, length-append mid k.more) in
     let stays : mid ≡ files = same_table files mid g middle in
     elim (cons_cases n ns name c) [
-      | inl this ↦ subst (λ m. (is_name m ≡ false) ⊎ (bytes_of all m ≡ None)) this (looked_for all files mid n is middle (subst (λ m. has_file files m ≡ false) (sym this) absent))
+      | inl this ↦ subst (λ m. (is_name m ≡ false) ⊎ (file_bytes all m ≡ None)) this (looked_for all files mid n is middle (subst (λ m. has_file files m ≡ false) (sym this) absent))
       | inr later ↦ rest (subst (λ t. with_inclusions all ns t ≡ Ok next) stays e) later
     ]
 
 each_looked_for : (all : List File) (ns : List (List ℕ)) (files next : FileTable) → with_inclusions all ns files ≡ Ok next → length next ≡ length files
-    → (name : List ℕ) → has_file files name ≡ false → Contains ns name → (is_name name ≡ false) ⊎ (bytes_of all name ≡ None)
+    → (name : List ℕ) → has_file files name ≡ false → Contains ns name → (is_name name ≡ false) ⊎ (file_bytes all name ≡ None)
 each_looked_for all [] files next e same name absent c = absurd (omega (arith, c.1))
 each_looked_for all (n ∷ ns) files next e same name absent c =
     each_looked_for-step all files next n ns name (with_inclusion all files n) refl e same (λ f d. each_looked_for all ns files next f same name absent d) absent c
@@ -105,5 +105,5 @@ loaded_ended all names files None e =
     ended all names (suc (256 - length second.0)) second.0 files (omega arith) second.1
 
 pub missing_law : (all : List File) (names : RolesRead) (files : FileTable) → load_of all names ≡ Ok files → (name : List ℕ) → Contains (missing_of files names) name
-    → has_file files name ≡ false → (is_name name ≡ false) ⊎ (bytes_of all name ≡ None)
+    → has_file files name ≡ false → (is_name name ≡ false) ⊎ (file_bytes all name ≡ None)
 missing_law all names files e name c absent = each_looked_for all (missing_of files names) files files (loaded_ended all names files (bad_name names) e) refl name absent c

@@ -14,7 +14,7 @@ use Rattle.tangle_files.specs.Adding.{has_file, is_name}
 use Rattle.tangle_files.specs.Roles.{RolesRead}
 use Rattle.tangle_streams.specs.Streams.{one_more_failure}
 use Rattle.tangle_folders.specs.declared.folder.FolderFault.TheVariants.{Missing}
-use Rattle.tangle_folders.specs.Folder.{File, Reads, bytes_of, with_asked}
+use Rattle.tangle_folders.specs.Folder.{File, FolderRead, Reads, file_bytes, with_asked}
 use Rattle.ctangle_cli.specs.Loading.{LoadEnd, IsAskedLast, IsLoadEnd, add_bytes, bad_name, missing_of, refused_as}
 use Rattle.ctangle_cli.specs.Loading.LoadEnd.{Unreadable, Refuses, Memory}
 use Rattle.ctangle_cli.specs.Questions.{AsksAll, AsksFront, AsksSome, AsksUntil, AsksUpTo, AsksWhole, FailsLast, StopsAmong, ask, ask_all, asked_in, asked_unless, file_if_there, files_under, named_in}
@@ -76,31 +76,31 @@ ask_again asked names = none_new (ask_all asked names) names (become_asked asked
 files_under-append : (all : List File) (xs ys : List (List ℕ)) → files_under all (xs ++ ys) ≡ files_under all xs ++ files_under all ys
 files_under-append all [] ys = refl
 files_under-append all (x ∷ xs) ys =
-    ap (λ t. file_if_there x (bytes_of all x) ++ t) (files_under-append all xs ys)
-    ∙ sym (append_assoc (file_if_there x (bytes_of all x)) (files_under all xs) (files_under all ys))
+    ap (λ t. file_if_there x (file_bytes all x) ++ t) (files_under-append all xs ys)
+    ∙ sym (append_assoc (file_if_there x (file_bytes all x)) (files_under all xs) (files_under all ys))
 
 nothing_yet : (all : List File) (before : List (List ℕ)) → HasAsked all before (record { asked = Some before; files = []; absent = [] }) []
 nothing_yet all before = record { behind = ap (λ l. Some l) (sym (append-nil before)); same = λ name. refl; files = refl }
 
 -- the folder was asked for this name, and answered
 pub goes_asked : (reported : Option (List File)) (old new : Tries) (name : List ℕ) → is_tried old name ≡ false → new.asked ≡ with_asked old.asked name → TriesThis old new name
-    → IfSome reported (λ all. new.files ≡ old.files ++ file_if_there name (bytes_of all name)) → GoesOn reported old new (name ∷ [])
+    → IfSome reported (λ all. new.files ≡ old.files ++ file_if_there name (file_bytes all name)) → GoesOn reported old new (name ∷ [])
 goes_asked None old new name fresh asks this found = tt
 goes_asked (Some all) old new name fresh asks this found = λ before since h.
     subst (HasAsked all before new) (sym (ask_new since name (h.same name ∙ fresh))) (record {
       behind = behind_more before since old.asked new.asked name h.behind asks;
       same = λ other. list_any-append (bytes_eq other) since (name ∷ []) ∙ ap (λ b. b || (bytes_eq other name || false)) (h.same other)
           ∙ ap (λ b. is_tried old other || b) (or_false (bytes_eq other name)) ∙ sym (this other);
-      files = found ∙ ap (λ t. t ++ file_if_there name (bytes_of all name)) h.files
-          ∙ ap (λ t. files_under all since ++ t) (sym (append-nil (file_if_there name (bytes_of all name)))) ∙ sym (files_under-append all since (name ∷ []));
+      files = found ∙ ap (λ t. t ++ file_if_there name (file_bytes all name)) h.files
+          ∙ ap (λ t. files_under all since ++ t) (sym (append-nil (file_if_there name (file_bytes all name)))) ∙ sym (files_under-append all since (name ∷ []));
     })
 
 pub found_added : (reported : Option (List File)) (files next : FileTable) (name : List ℕ) (bytes : Vec ℕ Global) → Reads reported name (Ok bytes) → add_bytes files name bytes.items ≡ Ok next
-    → IfSome reported (λ all. next ≡ files ++ file_if_there name (bytes_of all name))
+    → IfSome reported (λ all. next ≡ files ++ file_if_there name (file_bytes all name))
 found_added None files next name bytes h e = tt
 found_added (Some all) files next name bytes h e = sym (added files next name bytes.items e) ∙ ap (λ o. files ++ file_if_there name o) (sym h)
 
-pub found_none : (reported : Option (List File)) (files : FileTable) (name : List ℕ) → Reads reported name (Err Missing) → IfSome reported (λ all. files ≡ files ++ file_if_there name (bytes_of all name))
+pub found_none : (reported : Option (List File)) (files : FileTable) (name : List ℕ) → Reads reported name (Err Missing) → IfSome reported (λ all. files ≡ files ++ file_if_there name (file_bytes all name))
 found_none None files name h = tt
 found_none (Some all) files name h = sym (append-nil files) ∙ ap (λ o. files ++ file_if_there name o) (sym h)
 
@@ -363,20 +363,20 @@ until_bad reported asked roles name refusal given bad which =
     by r = inl (bad, refl)
 
 -- the folder did not fail, or at the last name
-pub fails_not : (asked failed failed' : Option (List (List ℕ))) (n n' : ℕ) → failed' ≡ failed → n' ≡ n → FailsLast asked failed failed' n n'
-fails_not asked failed failed' n n' same counted = inl (same, counted)
+pub fails_not : (old new : FolderRead) → new.failed ≡ old.failed → new.failures ≡ old.failures → FailsLast old new
+fails_not old new same counted = inl (same, counted)
 
-pub fails_here : (before asked failed failed' : Option (List (List ℕ))) (name : List ℕ) (n n' : ℕ) → asked ≡ with_asked before name → failed' ≡ with_asked failed name → n' ≡ one_more_failure n
-    → FailsLast asked failed failed' n n'
-fails_here before asked failed failed' name n n' asks fails counted = inr (name, subst (λ a. IsAskedLast a name) (sym asks) (by before), fails, counted)
+pub fails_here : (old new : FolderRead) (name : List ℕ) → new.asked ≡ with_asked old.asked name → new.failed ≡ with_asked old.failed name
+    → new.failures ≡ one_more_failure old.failures → FailsLast old new
+fails_here old new name asks fails counted = inr (name, subst (λ a. IsAskedLast a name) (sym asks) (by old.asked), fails, counted)
   where
     by : (a : Option (List (List ℕ))) → IsAskedLast (with_asked a name) name
     by None = tt
     by (Some names) = (names, refl)
 
-pub fails_since : (asked failed now failed' : Option (List (List ℕ))) (n m n' : ℕ) → now ≡ failed → m ≡ n → FailsLast asked now failed' m n' → FailsLast asked failed failed' n n'
-fails_since asked failed now failed' n m n' same counted h =
-    subst (λ k. FailsLast asked failed failed' k n') counted (subst (λ l. FailsLast asked l failed' m n') same h)
+pub fails_since : (old now new : FolderRead) → now.failed ≡ old.failed → now.failures ≡ old.failures → FailsLast now new → FailsLast old new
+fails_since old now new same counted h =
+    subst (λ n. FailsLast (record old { failures = n }) new) counted (subst (λ l. FailsLast (record now { failed = l }) new) same h)
 
 -- the name is a file name
 pub named_goes : (reported : Option (List File)) (old new : Tries) (name : List ℕ) → is_name name ≡ true → GoesOn reported old new (name ∷ []) → GoesOn reported old new (filter is_name (name ∷ []))

@@ -3,7 +3,7 @@ use Rattle.std.proofs.Common.{◌≡◌, ◌⊎◌, inl, inr, Option, None, Some
 use Rattle.std.specs.Prelude.{codes}
 use Rattle.std.specs.Io.KnownBytes.{Appends}
 use Rattle.tangle_streams.specs.Streams.{Stream, Failed}
-use Rattle.tangle_lines.specs.Faults.{FaultRead, is_error}
+use Rattle.tangle_faults.specs.Faults.{FaultRead, is_error}
 use Rattle.tangle_files.specs.Roles.{RolesRead}
 use Rattle.tangle_folders.specs.declared.folder.FolderFault.{FolderFault}
 use Rattle.tangle_folders.specs.declared.folder.FolderFault.TheVariants.{Missing, TooBig, Failed as IsFailed, NoMemory as NoRoom}

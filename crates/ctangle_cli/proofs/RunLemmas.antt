@@ -6,8 +6,8 @@ use Rattle.tangle_streams.specs.Streams.{Stream, Failed, IsWritten}
 use Rattle.tangle_streams.specs.declared.failures.WriteFault.{WriteFault}
 use Rattle.std.proofs.Common.{zero, ◌≢◌, slice_index_or, drop}
 use Rattle.std.proofs.lemmas.List.{take-append-drop}
-use Rattle.tangle_lines.specs.Faults.{FaultRead}
-use Rattle.tangle_lines.specs.FaultText.{fault_line}
+use Rattle.tangle_faults.specs.Faults.{FaultRead}
+use Rattle.tangle_faults.specs.FaultText.{fault_line}
 use Rattle.tangle_files.specs.Lines.{FileTable}
 use Rattle.tangle_files.specs.Roles.{RolesRead}
 use Rattle.tangle_folders.specs.declared.folder.FolderFault.{FolderFault}
@@ -81,8 +81,8 @@ faults_cut a b c d xs i x lt e p q =
 
 -- writing stopped for lack of memory, or because the folder failed
 pub tangled_stops : (t : Tangling) (old new : Moment) (mid : Stream) (name : List ℕ) (fault : FolderFault) (r : Result ℕ WriteFault)
-    → StopsAt t.outputs old.created new.created name fault → (fault ≢ NoMemory → Failed old.folder_failures new.folder_failures)
-    → (fault ≡ NoMemory → new.folder_failures ≡ old.folder_failures) → TakesAll old.stream mid (fault_lines t.faults) → IsWritten mid new.stream (unwritten_line fault name) r
+    → StopsAt t.outputs old.folder.created new.folder.created name fault → (fault ≢ NoMemory → Failed old.folder.failures new.folder.failures)
+    → (fault ≡ NoMemory → new.folder.failures ≡ old.folder.failures) → TakesAll old.stream mid (fault_lines t.faults) → IsWritten mid new.stream (unwritten_line fault name) r
     → TangledEnds t old new 3
 tangled_stops t old new mid name fault r stops why calm reported put = IsUnwritten (record {
   name = name;

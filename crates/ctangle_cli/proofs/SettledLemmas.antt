@@ -6,12 +6,12 @@ use Rattle.std.proofs.lemmas.List.{map-append}
 use Rattle.std.proofs.lemmas.List.Elements.{filter-append}
 use Rattle.std.proofs.lemmas.List.Folds.{list_any-append}
 use Rattle.std.specs.List.{list_any}
-use Rattle.tangle_lines.specs.declared.faults.FaultKind.TheVariants.{ChangeMismatch, IncludeTooDeep, SourceTooLong}
+use Rattle.tangle_faults.specs.declared.faults.FaultKind.TheVariants.{ChangeMismatch, IncludeTooDeep, SourceTooLong}
 use Rattle.tangle_lines.specs.declared.changes.ChangePhase.{ChangePhase}
 use Rattle.tangle_lines.specs.declared.changes.ChangePhase.TheVariants.{Outside, InOld, InNew}
 use Rattle.tangle_lines.specs.declared.changes.LineKind.{LineKind}
 use Rattle.tangle_lines.specs.declared.changes.LineKind.TheVariants.{BeginsChange, BeginsNew, EndsChange, IsText}
-use Rattle.tangle_lines.specs.Faults.{FaultRead, PlaceRead, fault_at, fault_counting}
+use Rattle.tangle_faults.specs.Faults.{FaultRead, PlaceRead, fault_at, fault_counting}
 use Rattle.tangle_lines.specs.Inclusion.{included_name}
 use Rattle.tangle_lines.specs.Change.{Change}
 use Rattle.tangle_lines.specs.Changes.{Found, before, changes_from, closed_by, kind_of, next_phase, old_ended}
@@ -21,7 +21,7 @@ use Rattle.tangle_lines.specs.Reading.{WaitingLine, after, begins, change_here, 
 use Rattle.tangle_lines.specs.Reading.Step.{Ends, Goes}
 use Rattle.tangle_files.specs.Roles.{RolesRead}
 use Rattle.ctangle_cli.specs.Loading.{IsSettled, is_missing_kind, misses_file, misses_name, missed_in, missing_of}
-use Rattle.ctangle_cli.proofs.LoadLemmas.{there_as_has}
+use Rattle.ctangle_cli.proofs.LoadLemmas.{numbered_as_has}
 
 missed_in-append : (xs ys : List FaultRead) → missed_in (xs ++ ys) ≡ missed_in xs ++ missed_in ys
 missed_in-append xs ys =
@@ -140,8 +140,8 @@ module _ (files : FileTable) (settled : IsSettled files) where
             ∙ or_from _ _ (lines_settled m w.changed (w.depth + 1) 1 (lines_at files m) ∙ settled m) none
 
         by : (b : Bool)
-            → missed_in (after files file (Goes (record { lines = []; faults = (cond {A = List WaitingLine × List FaultRead} b (waiting_lines m w.changed (w.depth + 1) 1 (lines_at files m), []) ([], fault_at IncludeTooDeep (named files w.place) ∷ [])).1 })
-            (record { waiting = (cond {A = List WaitingLine × List FaultRead} b (waiting_lines m w.changed (w.depth + 1) 1 (lines_at files m), []) ([], fault_at IncludeTooDeep (named files w.place) ∷ [])).0 ++ ws; changes = cs; taken = t + 1 }))
+            → missed_in (after files file (Goes (record { lines = []; faults = (cond {A = List WaitingLine × List FaultRead} b (waiting_lines m w.changed (w.depth + 1) 1 (lines_at files m), []) ([], fault_at IncludeTooDeep (named files w.origin) ∷ [])).1 })
+            (record { waiting = (cond {A = List WaitingLine × List FaultRead} b (waiting_lines m w.changed (w.depth + 1) 1 (lines_at files m), []) ([], fault_at IncludeTooDeep (named files w.origin) ∷ [])).0 ++ ws; changes = cs; taken = t + 1 }))
             (λ s. reads_in files file n s)).faults ≡ []
         by true = rest (t + 1) cs _ changes more
         by false = rest (t + 1) cs ws changes none
@@ -152,7 +152,7 @@ module _ (files : FileTable) (settled : IsSettled files) where
     line_misses_none n rest w ws cs t None here changes none = rest (t + 1) cs ws changes none
     line_misses_none n rest w ws cs t (Some []) here changes none = rest (t + 1) cs ws changes none
     line_misses_none n rest w ws cs t (Some (b ∷ bs)) here changes none =
-        file_misses_none n rest w ws cs t (b ∷ bs) (file_number files (b ∷ bs)) (there_as_has files (b ∷ bs) ∙ not_true (has_file files (b ∷ bs)) here) changes none
+        file_misses_none n rest w ws cs t (b ∷ bs) (file_number files (b ∷ bs)) (numbered_as_has files (b ∷ bs) ∙ not_true (has_file files (b ∷ bs)) here) changes none
 
     -- a change is used
     change_misses_none : (n : ℕ) → MissesNone n → (c : Change) (w : WaitingLine) (ws : List WaitingLine) (cs : List Change) (t : ℕ) → new_misses c ≡ false
@@ -191,7 +191,7 @@ module _ (files : FileTable) (settled : IsSettled files) where
       where
         by : (b : Bool) → missed_in (after files file (line_step files file w ws cs t (change_here cs w)) (λ s. reads_in files file n s)).faults ≡ []
             → missed_in (after files file (cond b (line_step files file w ws cs t (change_here cs w))
-            (Ends (fault_at SourceTooLong (named files w.place) ∷ []))) (λ s. reads_in files file n s)).faults ≡ []
+            (Ends (fault_at SourceTooLong (named files w.origin) ∷ []))) (λ s. reads_in files file n s)).faults ≡ []
         by true rest = rest
         by false rest = refl
 

@@ -3,11 +3,11 @@
 use Rattle.std.proofs.Common.{◌≡◌, ℕ, zero, suc, false, List, [], ◌∷◌, ◌++◌, Option, None, Some, refl}
 use Rattle.std.specs.Prelude.{codes}
 use Rattle.std.specs.Fmt.{digits}
-use Rattle.tangle_lines.specs.declared.faults.FaultKind.{FaultKind}
-use Rattle.tangle_lines.specs.declared.faults.FaultKind.TheVariants.{ChangeMismatch, ChangeUnused, EmptyOld, StrayMark, MissingY, MissingZ, IncludeNoName, IncludeMissing, IncludeTooDeep}
-use Rattle.tangle_lines.specs.declared.faults.FaultKind.TheVariants.{CodeInC, MisplacedH, MacroName, ControlText, StringAt, StringEnd, VerbatimEnd, AsciiBad, CommentEnd, NameEnd, NameEquals, NoFullName, PrefixName, Undefined, Unused, NoProgram}
+use Rattle.tangle_faults.specs.declared.faults.FaultKind.{FaultKind}
+use Rattle.tangle_faults.specs.declared.faults.FaultKind.TheVariants.{ChangeMismatch, ChangeUnused, EmptyOld, StrayMark, MissingY, MissingZ, IncludeNoName, IncludeMissing, IncludeTooDeep}
+use Rattle.tangle_faults.specs.declared.faults.FaultKind.TheVariants.{CodeInC, MisplacedH, MacroName, ControlText, StringAt, StringEnd, VerbatimEnd, AsciiBad, CommentEnd, NameEnd, NameEquals, NoFullName, PrefixName, Undefined, Unused, NoProgram}
 use Rattle.tangle_files.specs.Lines.{FileTable, cut}
-use Rattle.tangle_lines.specs.Faults.{FaultRead, PlaceRead, fault_at, fault_about, fault_counting, fault_unplaced}
+use Rattle.tangle_faults.specs.Faults.{FaultRead, PlaceRead, fault_at, fault_about, fault_counting, fault_unplaced}
 use Rattle.tangle_lines.specs.Reading.{reads_in}
 use Rattle.tangle_lexer.specs.Steps.{tokens_from, lexeme, occurrences_from}
 use Rattle.tangle_files.specs.Roles.{RolesRead, roles_of}

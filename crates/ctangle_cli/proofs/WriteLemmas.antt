@@ -43,7 +43,7 @@ wrote (Some xs) (Some ys) c s (Some all) name text first added put closed =
     let made : ys ≡ xs ++ (name, []) ∷ [] = cc in
     closed ∙ ap Some (ap (λ l. with_last l all) made ∙ with_last-push xs (name, []) all ∙ ap (λ b. xs ++ (name, b) ∷ []) held)
 
--- or a front of them
+-- or a prefix of them
 pub wrote_within : (a b c : Option (List File)) (s t : Option (List ℕ)) (name text : List ℕ)
     → Begins a s → b ≡ with_created a ((name, []) ∷ []) → Appends s t text → ClosesWithin b c t → (n : ℕ) × (c ≡ with_created a ((name, take n text) ∷ []))
 wrote_within None None c s t name text first added put closed = (0, closed)
@@ -55,7 +55,7 @@ wrote_within (Some xs) (Some ys) c s (Some all) name text first added put closed
     let made : ys ≡ xs ++ (name, []) ∷ [] = cc in
     (closed.0, closed.1 ∙ ap Some (ap (λ l. with_last l (take closed.0 all)) made ∙ with_last-push xs (name, []) (take closed.0 all) ∙ ap (λ b. xs ++ (name, take closed.0 b) ∷ []) held))
 
--- a front of a front is a front
+-- a prefix of a prefix is a prefix
 front_of_front : (n m : ℕ) (xs : List ℕ) → (k : ℕ) × (take n (take m xs) ≡ take k xs)
 front_of_front zero m xs = (0, refl)
 front_of_front (suc n) zero xs = (0, refl)

@@ -5,7 +5,7 @@ use Rattle.std.specs.Global.{Global}
 use Rattle.std.specs.List.{list_any}
 use Rattle.std.specs.Option.{option_map}
 use Rattle.std.specs.declared.vec.Vec.{Vec}
-use Rattle.tangle_lines.specs.Faults.{FaultRead, is_error}
+use Rattle.tangle_faults.specs.Faults.{FaultRead, is_error}
 use Rattle.tangle_files.specs.declared.edits.Edit.{Edit}
 use Rattle.tangle_files.specs.declared.edits.Edit.TheVariants as edit
 use Rattle.tangle_files.specs.declared.marks.MarkMode.{MarkMode}

@@ -32,7 +32,7 @@ is_of_list (Some held) _ = false
 -- none, and the list that is open before and after it, if one is.
 pub data IsCallOf (request : Request) (text : List ℕ) :
     Option (List Edit) → List Call → Option (List Edit) → Type 0 where
-  -- an edit was handed over, and answered as the text says
+  -- an edit was passed, and answered as the text says
   IsEdit : (edit : Edit) (answer : Result (Unit {0}) Refusal)
       → request_for edit ≡ request → text ≡ one_line answer
       → IsCallOf request text None ((OneEdit edit, one_answer answer) ∷ []) None
@@ -41,7 +41,7 @@ pub data IsCallOf (request : Request) (text : List ℕ) :
       → IsCallOf request text (Some held) [] (Some (held ++ edit ∷ []))
   -- a list was opened
   IsOpened : request ≡ Begin → text ≡ codes "ok\n" → IsCallOf request text None [] (Some [])
-  -- the edits of the list were handed over at once, and answered as the text says
+  -- the edits of the list were passed at once, and answered as the text says
   IsCommitted : (held : List Edit) (answer : Result (Unit {0}) ListRefusal) → request ≡ Commit
       → text ≡ list_line answer
       → IsCallOf request text (Some held) ((ListOf held, answer) ∷ []) None

@@ -2,9 +2,9 @@
 use Rattle.std.specs.Prelude.{◌≡◌, ◌⊎◌, ◌<◌, ◌≤◌, ⊤, ℕ, zero, suc, ◌-◌, ◌==◌, ◌||◌, not, nat_lt, length, map, filter, Bool, true, false, List, [], ◌∷◌, ◌++◌, Option, None, Some, IfSome, Result, Ok, Err, if◌then◌else◌, All}
 use Rattle.tangle_files.specs.declared.refusal.Refusal.{Refusal}
 use Rattle.tangle_files.specs.declared.refusal.Refusal.TheVariants.{BadName, NoMemory as NoRoom}
-use Rattle.tangle_lines.specs.declared.faults.FaultKind.{FaultKind}
-use Rattle.tangle_lines.specs.declared.faults.FaultKind.TheVariants.{IncludeMissing}
-use Rattle.tangle_lines.specs.Faults.{FaultRead}
+use Rattle.tangle_faults.specs.declared.faults.FaultKind.{FaultKind}
+use Rattle.tangle_faults.specs.declared.faults.FaultKind.TheVariants.{IncludeMissing}
+use Rattle.tangle_faults.specs.Faults.{FaultRead}
 use Rattle.std.specs.List.{list_any}
 use Rattle.tangle_files.specs.Lines.{FileTable, lines_at}
 use Rattle.tangle_lines.specs.Inclusion.{included_name}
@@ -12,7 +12,7 @@ use Rattle.tangle_files.specs.Adding.{add_refusal, with_file, has_file, is_name}
 use Rattle.tangle_lines.specs.Reading.{source_of}
 use Rattle.tangle_files.specs.Roles.{RolesRead}
 use Rattle.tangle_streams.specs.Streams.{Failed}
-use Rattle.tangle_folders.specs.Folder.{File, bytes_of, file_limit}
+use Rattle.tangle_folders.specs.Folder.{File, file_bytes, file_limit}
 use Rattle.ctangle_cli.specs.declared.loading.LoadFault.{LoadFault}
 use Rattle.ctangle_cli.specs.declared.loading.LoadFault.TheVariants.{CannotRead, Refused, NoMemory}
 
@@ -81,7 +81,7 @@ after_round files (Ok next) rest = if length next == length files then Ok next e
 module _ (all : List File) where
   -- the web, or the change file
   abbrev pub with_needed : FileTable → List ℕ → Loaded
-  with_needed files name = add_needed files name (bytes_of all name)
+  with_needed files name = add_needed files name (file_bytes all name)
 
   -- no change file, or one that is in the table already
   abbrev pub with_change : FileTable → Option (List ℕ) → Loaded
@@ -91,7 +91,7 @@ module _ (all : List File) where
   -- a missing inclusion: the folder isn't asked for a name that is no file name, nor for a file that is in the table
   abbrev pub with_inclusion : FileTable → List ℕ → Loaded
   with_inclusion files name =
-      if has_file files name || not (is_name name) then Ok files else add_present files name (bytes_of all name)
+      if has_file files name || not (is_name name) then Ok files else add_present files name (file_bytes all name)
 
   abbrev pub with_inclusions : List (List ℕ) → FileTable → Loaded
   with_inclusions [] files = Ok files
@@ -161,7 +161,7 @@ NamesLastAsked asked Memory = ⊤
 
 -- the folder, where it reports its files, has none of these names
 abbrev pub AreAbsent : Option (List File) → List (List ℕ) → Type 0
-AreAbsent reported names = IfSome reported (λ all. All (λ name. bytes_of all name ≡ None) names)
+AreAbsent reported names = IfSome reported (λ all. All (λ name. file_bytes all name ≡ None) names)
 
 -- a refusal ends a loading, and lack of memory does
 abbrev pub refused_as : List ℕ → Refusal → LoadEnd

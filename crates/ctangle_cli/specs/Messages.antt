@@ -3,8 +3,8 @@ use Rattle.std.specs.Prelude.{◌≡◌, ◌<◌, length, take, ℕ, List, [], �
 use Rattle.std.specs.Io.KnownBytes.{Appends}
 use Rattle.tangle_files.specs.declared.refusal.Refusal.{Refusal}
 use Rattle.tangle_files.specs.declared.refusal.Refusal.TheVariants.{BadName, FileExists, TooManyFiles, LineTooLong, TooManyLines, NoMemory, UnknownFile, NoSuchLine, BadLine, NoWeb, NoChange, RoleFile, NoOutput, WriteFault}
-use Rattle.tangle_lines.specs.Faults.{FaultRead, is_error}
-use Rattle.tangle_lines.specs.FaultText.{fault_line}
+use Rattle.tangle_faults.specs.Faults.{FaultRead, is_error}
+use Rattle.tangle_faults.specs.FaultText.{fault_line}
 use Rattle.tangle_streams.specs.Streams.{Stream, Failed}
 use Rattle.tangle_folders.specs.declared.folder.FolderFault.{FolderFault}
 use Rattle.tangle_folders.specs.declared.folder.FolderFault.TheVariants.{Missing, TooBig, Failed as IsFailed, NoMemory as NoRoom}
@@ -53,7 +53,7 @@ unwritten_line TooBig name = cannot_write_line name
 abbrev pub TakesAll : Stream → Stream → List ℕ → Type 0
 TakesAll old new text = Appends old.taken new.taken text × (new.failures ≡ old.failures)
 
--- it took a front of the text, and failed
+-- it took a prefix of the text, and failed
 abbrev pub TakesFront : Stream → Stream → List ℕ → Type 0
 TakesFront old new text = (n : ℕ) × (n < length text) × Appends old.taken new.taken (take n text) × Failed old.failures new.failures
 

@@ -6,7 +6,7 @@ use Rattle.tangle_files.specs.Adding.{is_name}
 use Rattle.tangle_files.specs.Lines.{FileTable, cut}
 use Rattle.tangle_files.specs.Roles.{RolesRead}
 use Rattle.tangle_streams.specs.Streams.{one_more_failure}
-use Rattle.tangle_folders.specs.Folder.{File, bytes_of, with_asked}
+use Rattle.tangle_folders.specs.Folder.{File, FolderRead, file_bytes, with_asked}
 use Rattle.ctangle_cli.specs.Loading.{LoadEnd, IsAskedLast, bad_name, missing_of}
 use Rattle.ctangle_cli.specs.Loading.LoadEnd.{Unreadable, Refuses, Memory}
 
@@ -26,7 +26,7 @@ file_if_there name (Some bytes) = (name, cut bytes) ∷ []
 
 abbrev pub files_under : List File → List (List ℕ) → FileTable
 files_under all [] = []
-files_under all (name ∷ names) = file_if_there name (bytes_of all name) ++ files_under all names
+files_under all (name ∷ names) = file_if_there name (file_bytes all name) ++ files_under all names
 
 -- the change file, if there is one
 abbrev pub named_in : Option (List ℕ) → List (List ℕ)
@@ -92,7 +92,7 @@ AsksUntil reported roles before now (Refuses name refusal) =
 AsksUntil reported roles before now Memory = AsksSome reported roles before now Memory
 
 -- A folder failed at no file that it was asked for, or at the last alone; so nothing was asked for after a failure.
-abbrev pub FailsLast : Option (List (List ℕ)) → Option (List (List ℕ)) → Option (List (List ℕ)) → ℕ → ℕ → Type 0
-FailsLast asked failed failed' failures failures' =
-    ((failed' ≡ failed) × (failures' ≡ failures))
-    ⊎ ((name : List ℕ) × IsAskedLast asked name × (failed' ≡ with_asked failed name) × (failures' ≡ one_more_failure failures))
+abbrev pub FailsLast : FolderRead → FolderRead → Type 0
+FailsLast old new =
+    ((new.failed ≡ old.failed) × (new.failures ≡ old.failures))
+    ⊎ ((name : List ℕ) × IsAskedLast new.asked name × (new.failed ≡ with_asked old.failed name) × (new.failures ≡ one_more_failure old.failures))

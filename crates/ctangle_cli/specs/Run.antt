@@ -6,28 +6,26 @@ use Rattle.tangle_files.specs.Roles.{RolesRead}
 use Rattle.tangle_session.specs.Tangle.{Tangling, IsTanglingOf}
 use Rattle.tangle_folders.specs.declared.folder.FolderFault.{FolderFault}
 use Rattle.tangle_folders.specs.declared.folder.FolderFault.TheVariants.{NoMemory}
-use Rattle.tangle_folders.specs.Folder.{File, with_created}
+use Rattle.tangle_folders.specs.Folder.{File, FolderRead, with_created}
 use Rattle.ctangle_cli.specs.Writing.{IsPart}
 use Rattle.ctangle_cli.specs.Arguments.{names_of}
 use Rattle.ctangle_cli.specs.Loading.{LoadEnd, LoadsTo, StopsFor, NamesLastAsked, load_of}
 use Rattle.ctangle_cli.specs.Questions.{AsksAll, AsksUntil, FailsLast}
 use Rattle.ctangle_cli.specs.Messages.{TakesAll, TakesFront, usage_line, ending_line, no_memory_line, unwritten_line, fault_lines, faults_status}
 
--- What is known of the folder and of the error stream at a moment: the folder's files, those created in it, the names that
--- it was asked for, those at which it failed, and how often it failed; the bytes that the stream took, and how often it failed.
+-- what is known of the folder and of the error stream at a moment
 pub record Moment : Type 0 where
-  pub files : Option (List File)
-  pub created : Option (List File)
-  pub asked : Option (List (List ℕ))
-  pub failed : Option (List (List ℕ))
-  pub folder_failures : ℕ
+  pub folder : FolderRead
   pub stream : Stream
+
+abbrev pub moment : FolderRead → Stream → Moment
+moment folder stream = record { folder = folder; stream = stream }
 
 -- the error stream took the text, and did not fail
 abbrev pub Writes : Moment → Moment → List ℕ → Type 0
 Writes old new text = TakesAll old.stream new.stream text
 
--- the error stream failed, and took a front of the text
+-- the error stream failed, and took a prefix of the text
 abbrev pub IsCutOff : Moment → Moment → List ℕ → Type 0
 IsCutOff old new text = TakesFront old.stream new.stream text
 
@@ -36,35 +34,35 @@ abbrev pub TriesToWrite : Moment → Moment → List ℕ → Type 0
 TriesToWrite old new text = Writes old new text ⊎ IsCutOff old new text
 
 abbrev pub CreatesNothing : Moment → Moment → Type 0
-CreatesNothing old new = new.created ≡ old.created
+CreatesNothing old new = new.folder.created ≡ old.folder.created
 
 -- it is asked for no file, and so fails at none
 abbrev pub AsksNothing : Moment → Moment → Type 0
-AsksNothing old new = (new.asked ≡ old.asked) × (new.failed ≡ old.failed)
+AsksNothing old new = (new.folder.asked ≡ old.folder.asked) × (new.folder.failed ≡ old.folder.failed)
 
 -- the folder is not used: nothing is created in it, it is asked for nothing, and it does not fail
 abbrev pub LeavesFolder : Moment → Moment → Type 0
-LeavesFolder old new = CreatesNothing old new × AsksNothing old new × (new.folder_failures ≡ old.folder_failures)
+LeavesFolder old new = CreatesNothing old new × AsksNothing old new × (new.folder.failures ≡ old.folder.failures)
 
 -- The files of these names are loaded, and nothing else is done: the folder was asked for just the names of loading, and did
 -- not fail.
 pub record Loads (names : RolesRead) (old new : Moment) (files : FileTable) : Type 0 where
-  pub loaded : LoadsTo old.files (λ all. load_of all names) old.folder_failures new.folder_failures files
-  pub asks : AsksAll old.files names old.asked new.asked
-  pub unfailed : new.failed ≡ old.failed
-  pub files_stay : new.files ≡ old.files
+  pub loaded : LoadsTo old.folder.files (λ all. load_of all names) old.folder.failures new.folder.failures files
+  pub asks : AsksAll old.folder.files names old.folder.asked new.folder.asked
+  pub unfailed : new.folder.failed ≡ old.folder.failed
+  pub files_stay : new.folder.files ≡ old.folder.files
   pub nothing_created : CreatesNothing old new
   pub nothing_written : new.stream ≡ old.stream
 
 -- Loading ended without its files: why; for which names the folder was asked until then, of which the last is the one that
 -- can't be read; and that it failed at none before that one.
 pub record StopsLoading (names : RolesRead) (old new : Moment) (ending : LoadEnd) : Type 0 where
-  pub why : StopsFor old.files (λ all. load_of all names) old.folder_failures new.folder_failures ending
-  pub asks : AsksUntil old.files names old.asked new.asked ending
-  pub reported : NamesLastAsked new.asked ending
-  pub fails : FailsLast new.asked old.failed new.failed old.folder_failures new.folder_failures
+  pub why : StopsFor old.folder.files (λ all. load_of all names) old.folder.failures new.folder.failures ending
+  pub asks : AsksUntil old.folder.files names old.folder.asked new.folder.asked ending
+  pub reported : NamesLastAsked new.folder.asked ending
+  pub fails : FailsLast old.folder new.folder
 
--- The outputs before the one of this name are created whole, and of that one this part: no file, or a front of its bytes; where
+-- The outputs before the one of this name are created whole, and of that one this part: no file, or a prefix of its bytes; where
 -- memory ran out, no file. No output after it is created.
 pub record StopsAt (outputs : List File) (old new : Option (List File)) (name : List ℕ) (fault : FolderFault) : Type 0 where
   pub before : List File
@@ -77,13 +75,13 @@ pub record StopsAt (outputs : List File) (old new : Option (List File)) (name : 
   pub created : new ≡ with_created old (before ++ part)
 
 -- Writing the outputs stopped at one of them: the folder failed, or an allocation failed. The lines of the faults were
--- written before, and then the line of that output, or a front of it.
+-- written before, and then the line of that output, or a prefix of it.
 pub record IsStopped (tangling : Tangling) (old new : Moment) : Type 0 where
   pub name : List ℕ
   pub fault : FolderFault
-  pub stops : StopsAt tangling.outputs old.created new.created name fault
-  pub why : fault ≢ NoMemory → Failed old.folder_failures new.folder_failures
-  pub no_failure : fault ≡ NoMemory → new.folder_failures ≡ old.folder_failures
+  pub stops : StopsAt tangling.outputs old.folder.created new.folder.created name fault
+  pub why : fault ≢ NoMemory → Failed old.folder.failures new.folder.failures
+  pub no_failure : fault ≡ NoMemory → new.folder.failures ≡ old.folder.failures
   -- when the lines of the faults are written, and no file is created yet
   pub between : Moment
   pub nothing_yet : CreatesNothing old between
@@ -93,8 +91,8 @@ pub record IsStopped (tangling : Tangling) (old new : Moment) : Type 0 where
 -- how a run ends that has tangled
 pub data TangledEnds (tangling : Tangling) (old new : Moment) (status : ℕ) : Type 0 where
   -- 0 or 1: the lines of the faults are written, and the outputs and no other files are created
-  IsDone : Writes old new (fault_lines tangling.faults) → new.created ≡ with_created old.created tangling.outputs
-      → new.folder_failures ≡ old.folder_failures → status ≡ faults_status tangling.faults → TangledEnds tangling old new status
+  IsDone : Writes old new (fault_lines tangling.faults) → new.folder.created ≡ with_created old.folder.created tangling.outputs
+      → new.folder.failures ≡ old.folder.failures → status ≡ faults_status tangling.faults → TangledEnds tangling old new status
   -- 3: the error stream fails at the lines of the faults, and no file is created
   IsUnheard : IsCutOff old new (fault_lines tangling.faults) → LeavesFolder old new → status ≡ 3 → TangledEnds tangling old new status
   -- 3: an output can't be written
@@ -132,4 +130,7 @@ pub data RunEnds (arguments : List (List ℕ)) (old new : Moment) (status : ℕ)
 
 -- nothing was read, created, asked for or written, and nothing failed
 abbrev pub quiet : Moment
-quiet = record { files = Some []; created = Some []; asked = Some []; failed = Some []; folder_failures = 0; stream = record { taken = Some []; failures = 0 } }
+quiet = record {
+  folder = record { files = Some []; created = Some []; asked = Some []; failed = Some []; failures = 0 };
+  stream = record { taken = Some []; failures = 0 };
+}

@@ -9,7 +9,7 @@ use Rattle.tangle_folders.specs.Folder.{File, with_created}
 abbrev pub output_file : FileTable → RolesRead → List ℕ → File
 output_file files roles name = (name, unwrap_or (output_at files roles name) [])
 
--- of this file nothing was created, or it has a front of its bytes
+-- of this file nothing was created, or it has a prefix of its bytes
 abbrev pub IsPart : File → List File → Type 0
 IsPart file part = (part ≡ []) ⊎ ((n : ℕ) × (part ≡ (file.0, take n file.1) ∷ []))
 

@@ -1,13 +1,14 @@
 //! The arguments of a run of `ctangle`.
-ghost use Rattle.std.specs.Prelude.{◌≡◌, ◌≢◌, ◌≤◌, ◌-◌, ◌++◌, ◌==◌, length, not, ℕ, List, Option};
-ghost use Rattle.std.specs.Prelude.{Some, None, codes, filter, map, IfErr, IfOk};
+ghost use Rattle.std.specs.Prelude.{◌≡◌, ◌≢◌, ◌++◌, ◌==◌, not, Option};
+ghost use Rattle.std.specs.Prelude.{Some, None, filter, map, IfErr, IfOk};
 ghost use Rattle.std.specs.Option.{option_copied, option_map};
-ghost use Rattle.std.specs.List.{before_last, suffix_len};
+ghost use Rattle.std.specs.List.{before_last};
 ghost use Rattle.ctangle_cli.specs.Arguments.{base_name, change_of, completed_names};
 ghost use Rattle.ctangle_cli.specs.Arguments.{has_extension as name_has_extension, is_flag};
 ghost use Rattle.ctangle_cli.specs.Arguments.{named_by, names_of, out_of, with_extension};
 ghost use Rattle.ctangle_cli.specs.declared.arguments.WordFault.TheVariants.{NoMemory};
 
+use bstr::ByteSlice;
 use std::alloc::{AllocError, Global};
 
 // What the arguments of a run give: names that nobody has tested.
@@ -31,38 +32,30 @@ fn is_flag_argument(argument: &[u8]) -> bool
     }
 }
 
-// The place after the last of these bytes, or 0 where there is none.
-fn place_after_last(byte: u8, name: &[u8]) -> usize
-    ensures place { result ≡ length name.now - suffix_len (λ b. not (b == byte)) name.now }
-    ensures within { result ≤ length name.now }
-{
-    let mut end = name.len();
-    while end > 0 && name[end - 1] != byte {
-        end -= 1;
-    }
-    end
-}
-
 // The part of a name after its last slash.
 fn after_slash(name: &[u8]) -> &[u8]
     ensures { result.now ≡ base_name name.now }
 {
-    let start = place_after_last(b'/', name);
-    &name[start..]
+    match name.rfind_byte(b'/') {
+        Some(slash) => &name[slash + 1..],
+        None => name,
+    }
 }
 
 // The part of a name before its last dot.
 fn before_dot(name: &[u8]) -> &[u8]
     ensures { result.now ≡ before_last (λ b. b == 46) name.now }
 {
-    let end = place_after_last(b'.', name).saturating_sub(1);
-    &name[..end]
+    match name.rfind_byte(b'.') {
+        Some(dot) => &name[..dot],
+        None => &[],
+    }
 }
 
 fn has_extension(name: &[u8]) -> bool
     ensures { result ≡ name_has_extension name.now }
 {
-    after_slash(name).iter().any(|b| *b == b'.')
+    after_slash(name).find_byte(b'.').is_some()
 }
 
 fn joined(alloc: Global, front: &[u8], back: &[u8]) -> Result<Vec<u8>, AllocError>

@@ -1,11 +1,11 @@
 //! A session answers the requests of a script, with a list of edits that is open at times.
 ghost use Rattle.std.specs.Prelude.{◌≡◌, ◌++◌, ◌∷◌, [], ℕ, List, Option, None, Some};
-ghost use Rattle.std.specs.Prelude.{codes, decimal, length, true, IfErr, IfOk, OnErr, OnOk};
+ghost use Rattle.std.specs.Prelude.{codes, decimal, true, IfErr, IfOk, OnErr, OnOk};
 ghost use Rattle.std.specs.List.{list_any};
 ghost use Rattle.tangle_files.specs.declared.edits.Edit.{Edit as EditRead};
 ghost use Rattle.tangle_files.specs.declared.refusal.Refusal.TheVariants.{NoMemory as no_memory};
 ghost use Rattle.tangle_streams.specs.Streams.{Stream};
-ghost use Rattle.tangle_lines.specs.Faults.{is_error};
+ghost use Rattle.tangle_faults.specs.Faults.{is_error};
 ghost use Rattle.tangle_script.specs.Endings.{ConversationEnds};
 ghost use Rattle.tangle_script.specs.Requests.{is_edit};
 ghost use Rattle.tangle_script.specs.Requests.Request.{Begin as begin_request};

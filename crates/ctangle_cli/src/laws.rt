@@ -2,7 +2,7 @@
 //! of scripts.
 ghost use Rattle.std.specs.Prelude.{◌≡◌, ◌≢◌, ◌⊎◌, ◌++◌, ℕ, List, None, Ok, Err, Contains, length};
 ghost use Rattle.std.specs.Prelude.{map, false};
-ghost use Rattle.tangle_folders.specs.Folder.{File, bytes_of};
+ghost use Rattle.tangle_folders.specs.Folder.{File, file_bytes};
 ghost use Rattle.tangle_files.specs.Adding.{has_file, is_name};
 ghost use Rattle.tangle_files.specs.Lines.{FileTable};
 ghost use Rattle.tangle_files.specs.Roles.{RolesRead};
@@ -38,7 +38,7 @@ pub fn missing_names_are_not_there()
     ensures { (all : List File) (names : RolesRead) (files : FileTable) → load_of all names
         ≡ Ok files
         → (name : List ℕ) → Contains (missing_of files names) name → has_file files name ≡ false
-        → (is_name name ≡ false) ⊎ (bytes_of all name ≡ None) }
+        → (is_name name ≡ false) ⊎ (file_bytes all name ≡ None) }
 {}
 
 /// No two outputs of files have one name, so none is written over another in a run.
@@ -50,7 +50,7 @@ pub fn output_names_differ()
 }
 
 /// Where commands of a script are answered, one after another, the history of the session goes on:
-/// each edit that is handed over, and each list of edits, is one call more, with the answer that
+/// each edit that is passed, and each list of edits, is one call more, with the answer that
 /// was written; held edits and questions change nothing, nor does an edit for which memory ran out.
 /// So the headline holds at each line of a script.
 pub fn the_answers_of_a_script_are_a_history()

@@ -2,7 +2,7 @@
 //! run.
 //!
 //! [`run_ctangle`] is a whole run of `ctangle` over a [`Folder`] and an error stream: it starts a
-//! session and writes what that answers. The folders are those of `tangle_folders`, handed on.
+//! session and writes what that answers. The folders are those of `tangle_folders`, re-exported.
 //! [`run_retangle`] answers a script of edits and questions over a session.
 #![tactic(auto)]
 
@@ -11,6 +11,7 @@ mod conversation;
 mod laws;
 mod loading;
 mod messages;
+mod opening;
 mod retangle_arguments;
 mod run;
 mod writing;
@@ -23,6 +24,7 @@ pub use laws::{
 };
 pub use loading::{LoadFault, load};
 pub use messages::write_load;
+pub use opening::{command_line, lines_to};
 pub use retangle_arguments::{RetangleFault, read_retangle};
 pub use run::{Ended, run_ctangle, run_keeping_session, silence_is_no_failure};
 pub use tangle_folders::{

@@ -1,14 +1,13 @@
 //! Loading: the files that a run reads.
 ghost use Rattle.std.specs.Prelude.{◌≡◌, ◌≤◌, ◌∷◌, ◌||◌, ℕ, List, [], filter, length, map, true};
-ghost use Rattle.std.specs.Prelude.{false, Option, unwrap_or, IfOk, IfErr, IfSome, OnOk, OnErr};
+ghost use Rattle.std.specs.Prelude.{false, Option, IfOk, IfErr, IfSome, OnOk, OnErr};
 ghost use Rattle.std.specs.Prelude.{None};
 ghost use Rattle.std.specs.List.{list_any};
 ghost use Rattle.std.specs.Option.{option_copied};
 ghost use Rattle.std.specs.Str.{bytes_eq};
 ghost use Rattle.tangle_folders.specs.Folder.{file_limit};
 ghost use Rattle.tangle_files.specs.Adding.{has_file, is_name};
-ghost use Rattle.tangle_files.specs.Roles.{fits, is_there, is_there_if_any};
-ghost use Rattle.tangle_files.specs.Lines.{FileTable};
+ghost use Rattle.tangle_files.specs.Roles.{fits, has_file_if_any};
 ghost use Rattle.ctangle_cli.specs.Asking.{AsksForAll, AsksOnce};
 ghost use Rattle.ctangle_cli.specs.Questions.{AsksAll, AsksUntil, AsksWhole, FailsLast, StopsAmong};
 ghost use Rattle.ctangle_cli.specs.Questions.{asked_in, named_in};
@@ -130,7 +129,7 @@ fn add_file(alloc: Global, files: &mut Files, name: &[u8], bytes: Vec<u8>) -> Re
     requires { length bytes.items ≤ file_limit }
     ensures ok { OnOk result (add_bytes files.old name.now bytes.items ≡ Ok files.new) }
     ensures grows { OnOk result (Grows files.old files.new) }
-    ensures there { OnOk result (is_there files.new name.now ≡ true) }
+    ensures there { OnOk result (has_file files.new name.now ≡ true) }
     ensures err { IfErr result (λ fault. (reported : Option _) (n : ℕ)
         → StopsFor reported (λ _. add_bytes files.old name.now bytes.items) n n (ending_of fault)) }
     ensures reported { IfErr result
@@ -151,33 +150,33 @@ fn read_needed<F: Folder>(
     name: &[u8],
 ) -> Result<(), LoadFault>
     requires { has_file files.old name.now ≡ false }
-    ensures ok { OnOk result (LoadsTo (F.files folder.old)
+    ensures ok { OnOk result (LoadsTo (F.state folder.old).files
         (λ all. with_needed all files.old name.now)
-        (F.failures folder.old) (F.failures folder.new) files.new) }
+        (F.state folder.old).failures (F.state folder.new).failures files.new) }
     ensures err { IfErr result
-        (λ fault. StopsFor (F.files folder.old) (λ all. with_needed all files.old name.now)
-        (F.failures folder.old) (F.failures folder.new) (ending_of fault)) }
+        (λ fault. StopsFor (F.state folder.old).files (λ all. with_needed all files.old name.now)
+        (F.state folder.old).failures (F.state folder.new).failures (ending_of fault)) }
     ensures grows { OnOk result (Grows files.old files.new) }
-    ensures there { OnOk result (is_there files.new name.now ≡ true) }
+    ensures there { OnOk result (has_file files.new name.now ≡ true) }
     ensures reported { IfErr result
-        (λ fault. NamesLastAsked (F.asked folder.new) (ending_of fault)) }
+        (λ fault. NamesLastAsked (F.state folder.new).asked (ending_of fault)) }
     ensures asks { OnOk result
-        (AsksOn (tried (F.asked folder.old) files.old []) (tried (F.asked folder.new) files.new [])
+        (AsksOn (tried (F.state folder.old).asked files.old [])
+        (tried (F.state folder.new).asked files.new [])
         (name.now ∷ [])) }
     ensures stops { OnErr result
-        (StopsAsking (tried (F.asked folder.old) files.old []) (F.asked folder.new)) }
+        (StopsAsking (tried (F.state folder.old).asked files.old []) (F.state folder.new).asked) }
     ensures order { OnOk result
-        (GoesOn (F.files folder.old) (tried (F.asked folder.old) files.old [])
-        (tried (F.asked folder.new) files.new []) (name.now ∷ [])) }
+        (GoesOn (F.state folder.old).files (tried (F.state folder.old).asked files.old [])
+        (tried (F.state folder.new).asked files.new []) (name.now ∷ [])) }
     ensures ends { IfErr result
-        (λ fault. EndsAmong (F.files folder.old) (tried (F.asked folder.old) files.old [])
-        (F.asked folder.new) (name.now ∷ []) (ending_of fault)) }
-    ensures unfailed { OnOk result (F.failed folder.new ≡ F.failed folder.old) }
-    ensures fails { OnErr result
-        (FailsLast (F.asked folder.new) (F.failed folder.old) (F.failed folder.new)
-        (F.failures folder.old) (F.failures folder.new)) }
-    ensures files_stay { F.files folder.new ≡ F.files folder.old }
-    ensures created_stay { F.created folder.new ≡ F.created folder.old }
+        (λ fault. EndsAmong (F.state folder.old).files
+        (tried (F.state folder.old).asked files.old [])
+        (F.state folder.new).asked (name.now ∷ []) (ending_of fault)) }
+    ensures unfailed { OnOk result ((F.state folder.new).failed ≡ (F.state folder.old).failed) }
+    ensures fails { OnErr result (FailsLast (F.state folder.old) (F.state folder.new)) }
+    ensures files_stay { (F.state folder.new).files ≡ (F.state folder.old).files }
+    ensures created_stay { (F.state folder.new).created ≡ (F.state folder.old).created }
 {
     match folder.read_file(alloc, name) {
         Ok(bytes) => add_file(alloc, files, name, bytes),
@@ -195,33 +194,33 @@ fn read_change<F: Folder>(
     files: &mut Files,
     change: Option<&[u8]>,
 ) -> Result<(), LoadFault>
-    ensures ok { OnOk result (LoadsTo (F.files folder.old)
+    ensures ok { OnOk result (LoadsTo (F.state folder.old).files
         (λ all. with_change all files.old (option_copied change.entry))
-        (F.failures folder.old) (F.failures folder.new) files.new) }
-    ensures err { IfErr result (λ fault. StopsFor (F.files folder.old)
+        (F.state folder.old).failures (F.state folder.new).failures files.new) }
+    ensures err { IfErr result (λ fault. StopsFor (F.state folder.old).files
         (λ all. with_change all files.old (option_copied change.entry))
-        (F.failures folder.old) (F.failures folder.new) (ending_of fault)) }
+        (F.state folder.old).failures (F.state folder.new).failures (ending_of fault)) }
     ensures grows { OnOk result (Grows files.old files.new) }
-    ensures there { OnOk result (is_there_if_any files.new (option_copied change.entry) ≡ true) }
+    ensures there { OnOk result (has_file_if_any files.new (option_copied change.entry) ≡ true) }
     ensures reported { IfErr result
-        (λ fault. NamesLastAsked (F.asked folder.new) (ending_of fault)) }
+        (λ fault. NamesLastAsked (F.state folder.new).asked (ending_of fault)) }
     ensures asks { OnOk result
-        (AsksOn (tried (F.asked folder.old) files.old []) (tried (F.asked folder.new) files.new [])
+        (AsksOn (tried (F.state folder.old).asked files.old [])
+        (tried (F.state folder.new).asked files.new [])
         (named_in (option_copied change.entry))) }
     ensures stops { OnErr result
-        (StopsAsking (tried (F.asked folder.old) files.old []) (F.asked folder.new)) }
+        (StopsAsking (tried (F.state folder.old).asked files.old []) (F.state folder.new).asked) }
     ensures order { OnOk result
-        (GoesOn (F.files folder.old) (tried (F.asked folder.old) files.old [])
-        (tried (F.asked folder.new) files.new []) (named_in (option_copied change.entry))) }
+        (GoesOn (F.state folder.old).files (tried (F.state folder.old).asked files.old [])
+        (tried (F.state folder.new).asked files.new []) (named_in (option_copied change.entry))) }
     ensures ends { IfErr result
-        (λ fault. EndsAmong (F.files folder.old) (tried (F.asked folder.old) files.old [])
-        (F.asked folder.new) (named_in (option_copied change.entry)) (ending_of fault)) }
-    ensures unfailed { OnOk result (F.failed folder.new ≡ F.failed folder.old) }
-    ensures fails { OnErr result
-        (FailsLast (F.asked folder.new) (F.failed folder.old) (F.failed folder.new)
-        (F.failures folder.old) (F.failures folder.new)) }
-    ensures files_stay { F.files folder.new ≡ F.files folder.old }
-    ensures created_stay { F.created folder.new ≡ F.created folder.old }
+        (λ fault. EndsAmong (F.state folder.old).files
+        (tried (F.state folder.old).asked files.old [])
+        (F.state folder.new).asked (named_in (option_copied change.entry)) (ending_of fault)) }
+    ensures unfailed { OnOk result ((F.state folder.new).failed ≡ (F.state folder.old).failed) }
+    ensures fails { OnErr result (FailsLast (F.state folder.old) (F.state folder.new)) }
+    ensures files_stay { (F.state folder.new).files ≡ (F.state folder.old).files }
+    ensures created_stay { (F.state folder.new).created ≡ (F.state folder.old).created }
 {
     match change {
         None => Ok(()),
@@ -243,35 +242,35 @@ fn read_inclusion<F: Folder>(
     absent: &mut Absent,
     name: &[u8],
 ) -> Result<(), LoadFault>
-    requires { AreAbsent (F.files folder.old) absent.old }
-    ensures ok { OnOk result (LoadsTo (F.files folder.old)
+    requires { AreAbsent (F.state folder.old).files absent.old }
+    ensures ok { OnOk result (LoadsTo (F.state folder.old).files
         (λ all. with_inclusion all files.old name.now)
-        (F.failures folder.old) (F.failures folder.new) files.new) }
+        (F.state folder.old).failures (F.state folder.new).failures files.new) }
     ensures err { IfErr result
-        (λ fault. StopsFor (F.files folder.old) (λ all. with_inclusion all files.old name.now)
-        (F.failures folder.old) (F.failures folder.new) (ending_of fault)) }
+        (λ fault. StopsFor (F.state folder.old).files (λ all. with_inclusion all files.old name.now)
+        (F.state folder.old).failures (F.state folder.new).failures (ending_of fault)) }
     ensures grows { OnOk result (Grows files.old files.new) }
-    ensures absent { OnOk result (AreAbsent (F.files folder.old) absent.new) }
+    ensures absent { OnOk result (AreAbsent (F.state folder.old).files absent.new) }
     ensures reported { IfErr result
-        (λ fault. NamesLastAsked (F.asked folder.new) (ending_of fault)) }
-    ensures asks { OnOk result (AsksOn (tried (F.asked folder.old) files.old absent.old)
-        (tried (F.asked folder.new) files.new absent.new) (name.now ∷ [])) }
-    ensures tries { OnOk result (TriesAll (tried (F.asked folder.old) files.old absent.old)
-        (tried (F.asked folder.new) files.new absent.new) (name.now ∷ [])) }
+        (λ fault. NamesLastAsked (F.state folder.new).asked (ending_of fault)) }
+    ensures asks { OnOk result (AsksOn (tried (F.state folder.old).asked files.old absent.old)
+        (tried (F.state folder.new).asked files.new absent.new) (name.now ∷ [])) }
+    ensures tries { OnOk result (TriesAll (tried (F.state folder.old).asked files.old absent.old)
+        (tried (F.state folder.new).asked files.new absent.new) (name.now ∷ [])) }
     ensures stops { OnErr result
-        (StopsAsking (tried (F.asked folder.old) files.old absent.old) (F.asked folder.new)) }
+        (StopsAsking (tried (F.state folder.old).asked files.old absent.old)
+        (F.state folder.new).asked) }
     ensures order { OnOk result
-        (GoesOn (F.files folder.old) (tried (F.asked folder.old) files.old absent.old)
-        (tried (F.asked folder.new) files.new absent.new) (filter is_name (name.now ∷ []))) }
+        (GoesOn (F.state folder.old).files (tried (F.state folder.old).asked files.old absent.old)
+        (tried (F.state folder.new).asked files.new absent.new) (filter is_name (name.now ∷ []))) }
     ensures ends { IfErr result
-        (λ fault. EndsAmong (F.files folder.old) (tried (F.asked folder.old) files.old absent.old)
-        (F.asked folder.new) (filter is_name (name.now ∷ [])) (ending_of fault)) }
-    ensures unfailed { OnOk result (F.failed folder.new ≡ F.failed folder.old) }
-    ensures fails { OnErr result
-        (FailsLast (F.asked folder.new) (F.failed folder.old) (F.failed folder.new)
-        (F.failures folder.old) (F.failures folder.new)) }
-    ensures files_stay { F.files folder.new ≡ F.files folder.old }
-    ensures created_stay { F.created folder.new ≡ F.created folder.old }
+        (λ fault. EndsAmong (F.state folder.old).files
+        (tried (F.state folder.old).asked files.old absent.old)
+        (F.state folder.new).asked (filter is_name (name.now ∷ [])) (ending_of fault)) }
+    ensures unfailed { OnOk result ((F.state folder.new).failed ≡ (F.state folder.old).failed) }
+    ensures fails { OnErr result (FailsLast (F.state folder.old) (F.state folder.new)) }
+    ensures files_stay { (F.state folder.new).files ≡ (F.state folder.old).files }
+    ensures created_stay { (F.state folder.new).created ≡ (F.state folder.old).created }
 {
     if has(files, name) || !is_file_name(name) {
         return Ok(());
@@ -305,35 +304,36 @@ fn read_inclusions<F: Folder>(
     absent: &mut Absent,
     faults: &[Fault],
 ) -> Result<(), LoadFault>
-    requires { AreAbsent (F.files folder.old) absent.old }
-    ensures ok { OnOk result (LoadsTo (F.files folder.old)
+    requires { AreAbsent (F.state folder.old).files absent.old }
+    ensures ok { OnOk result (LoadsTo (F.state folder.old).files
         (λ all. with_inclusions all (missed_in faults.now) files.old)
-        (F.failures folder.old) (F.failures folder.new) files.new) }
-    ensures err { IfErr result (λ fault. StopsFor (F.files folder.old)
+        (F.state folder.old).failures (F.state folder.new).failures files.new) }
+    ensures err { IfErr result (λ fault. StopsFor (F.state folder.old).files
         (λ all. with_inclusions all (missed_in faults.now) files.old)
-        (F.failures folder.old) (F.failures folder.new) (ending_of fault)) }
+        (F.state folder.old).failures (F.state folder.new).failures (ending_of fault)) }
     ensures grows { OnOk result (Grows files.old files.new) }
-    ensures absent { OnOk result (AreAbsent (F.files folder.old) absent.new) }
+    ensures absent { OnOk result (AreAbsent (F.state folder.old).files absent.new) }
     ensures reported { IfErr result
-        (λ fault. NamesLastAsked (F.asked folder.new) (ending_of fault)) }
-    ensures asks { OnOk result (AsksOn (tried (F.asked folder.old) files.old absent.old)
-        (tried (F.asked folder.new) files.new absent.new) (missed_in faults.now)) }
-    ensures tries { OnOk result (TriesAll (tried (F.asked folder.old) files.old absent.old)
-        (tried (F.asked folder.new) files.new absent.new) (missed_in faults.now)) }
+        (λ fault. NamesLastAsked (F.state folder.new).asked (ending_of fault)) }
+    ensures asks { OnOk result (AsksOn (tried (F.state folder.old).asked files.old absent.old)
+        (tried (F.state folder.new).asked files.new absent.new) (missed_in faults.now)) }
+    ensures tries { OnOk result (TriesAll (tried (F.state folder.old).asked files.old absent.old)
+        (tried (F.state folder.new).asked files.new absent.new) (missed_in faults.now)) }
     ensures stops { OnErr result
-        (StopsAsking (tried (F.asked folder.old) files.old absent.old) (F.asked folder.new)) }
+        (StopsAsking (tried (F.state folder.old).asked files.old absent.old)
+        (F.state folder.new).asked) }
     ensures order { OnOk result
-        (GoesOn (F.files folder.old) (tried (F.asked folder.old) files.old absent.old)
-        (tried (F.asked folder.new) files.new absent.new) (filter is_name (missed_in faults.now))) }
+        (GoesOn (F.state folder.old).files (tried (F.state folder.old).asked files.old absent.old)
+        (tried (F.state folder.new).asked files.new absent.new)
+        (filter is_name (missed_in faults.now))) }
     ensures ends { IfErr result
-        (λ fault. EndsAmong (F.files folder.old) (tried (F.asked folder.old) files.old absent.old)
-        (F.asked folder.new) (filter is_name (missed_in faults.now)) (ending_of fault)) }
-    ensures unfailed { OnOk result (F.failed folder.new ≡ F.failed folder.old) }
-    ensures fails { OnErr result
-        (FailsLast (F.asked folder.new) (F.failed folder.old) (F.failed folder.new)
-        (F.failures folder.old) (F.failures folder.new)) }
-    ensures files_stay { F.files folder.new ≡ F.files folder.old }
-    ensures created_stay { F.created folder.new ≡ F.created folder.old }
+        (λ fault. EndsAmong (F.state folder.old).files
+        (tried (F.state folder.old).asked files.old absent.old)
+        (F.state folder.new).asked (filter is_name (missed_in faults.now)) (ending_of fault)) }
+    ensures unfailed { OnOk result ((F.state folder.new).failed ≡ (F.state folder.old).failed) }
+    ensures fails { OnErr result (FailsLast (F.state folder.old) (F.state folder.new)) }
+    ensures files_stay { (F.state folder.new).files ≡ (F.state folder.old).files }
+    ensures created_stay { (F.state folder.new).created ≡ (F.state folder.old).created }
 {
     for fault in faults {
         if is_missing(fault.kind()) {
@@ -399,34 +399,35 @@ fn read_rounds<F: Folder>(
     roles: &Roles,
 ) -> Result<(), LoadFault>
     requires { fits files.old roles.now ≡ true }
-    ensures ok { OnOk result (LoadsTo (F.files folder.old)
+    ensures ok { OnOk result (LoadsTo (F.state folder.old).files
         (λ all. rounds_from all roles.now files.old)
-        (F.failures folder.old) (F.failures folder.new) files.new) }
+        (F.state folder.old).failures (F.state folder.new).failures files.new) }
     ensures err { IfErr result
-        (λ fault. StopsFor (F.files folder.old) (λ all. rounds_from all roles.now files.old)
-        (F.failures folder.old) (F.failures folder.new) (ending_of fault)) }
+        (λ fault. StopsFor (F.state folder.old).files (λ all. rounds_from all roles.now files.old)
+        (F.state folder.old).failures (F.state folder.new).failures (ending_of fault)) }
     ensures fits { OnOk result (fits files.new roles.now ≡ true) }
     ensures reported { IfErr result
-        (λ fault. NamesLastAsked (F.asked folder.new) (ending_of fault)) }
+        (λ fault. NamesLastAsked (F.state folder.new).asked (ending_of fault)) }
     ensures asks { OnOk result
-        ((before : Option _) → RoundsOnce before (tried (F.asked folder.old) files.old []) roles.now
-        → AsksForAll before (F.asked folder.new) files.new roles.now) }
+        ((before : Option _)
+        → RoundsOnce before (tried (F.state folder.old).asked files.old []) roles.now
+        → AsksForAll before (F.state folder.new).asked files.new roles.now) }
     ensures stops { OnErr result
-        ((before : Option _) → RoundsOnce before (tried (F.asked folder.old) files.old []) roles.now
-        → AsksOnce before (F.asked folder.new)) }
-    ensures order { OnOk result (IfSome (F.files folder.old) (λ all. (before : List _)
-        → InRounds all roles.now before (tried (F.asked folder.old) files.old [])
-        → AsksWhole all roles.now before (F.asked folder.new))) }
-    ensures ends { IfErr result (λ fault. IfSome (F.files folder.old) (λ all. (before : List _)
-        → InRounds all roles.now before (tried (F.asked folder.old) files.old [])
-        → (rounds : ℕ) × StopsAmong (asked_in all roles.now rounds) before (F.asked folder.new)
-        (ending_of fault))) }
-    ensures unfailed { OnOk result (F.failed folder.new ≡ F.failed folder.old) }
-    ensures fails { OnErr result
-        (FailsLast (F.asked folder.new) (F.failed folder.old) (F.failed folder.new)
-        (F.failures folder.old) (F.failures folder.new)) }
-    ensures files_stay { F.files folder.new ≡ F.files folder.old }
-    ensures created_stay { F.created folder.new ≡ F.created folder.old }
+        ((before : Option _)
+        → RoundsOnce before (tried (F.state folder.old).asked files.old []) roles.now
+        → AsksOnce before (F.state folder.new).asked) }
+    ensures order { OnOk result (IfSome (F.state folder.old).files (λ all. (before : List _)
+        → InRounds all roles.now before (tried (F.state folder.old).asked files.old [])
+        → AsksWhole all roles.now before (F.state folder.new).asked)) }
+    ensures ends { IfErr result
+        (λ fault. IfSome (F.state folder.old).files (λ all. (before : List _)
+        → InRounds all roles.now before (tried (F.state folder.old).asked files.old [])
+        → (rounds : ℕ) × StopsAmong (asked_in all roles.now rounds) before
+        (F.state folder.new).asked (ending_of fault))) }
+    ensures unfailed { OnOk result ((F.state folder.new).failed ≡ (F.state folder.old).failed) }
+    ensures fails { OnErr result (FailsLast (F.state folder.old) (F.state folder.new)) }
+    ensures files_stay { (F.state folder.new).files ≡ (F.state folder.old).files }
+    ensures created_stay { (F.state folder.new).created ≡ (F.state folder.old).created }
 {
     let mut absent = Absent::new(alloc);
     loop {
@@ -458,29 +459,29 @@ fn first_bad(arguments: &Words) -> Option<&[u8]>
 
 // Loads the files of roles whose names are all file names.
 fn load_files<F: Folder>(alloc: Global, roles: &Roles, folder: &mut F) -> Result<Files, LoadFault>
-    ensures ok { IfOk result (λ files. LoadsTo (F.files folder.old)
+    ensures ok { IfOk result (λ files. LoadsTo (F.state folder.old).files
         (λ all. load_unless all roles.now None)
-        (F.failures folder.old) (F.failures folder.new) files) }
+        (F.state folder.old).failures (F.state folder.new).failures files) }
     ensures err { IfErr result
-        (λ fault. StopsFor (F.files folder.old) (λ all. load_unless all roles.now None)
-        (F.failures folder.old) (F.failures folder.new) (ending_of fault)) }
+        (λ fault. StopsFor (F.state folder.old).files (λ all. load_unless all roles.now None)
+        (F.state folder.old).failures (F.state folder.new).failures (ending_of fault)) }
     ensures fits { IfOk result (λ files. fits files roles.now ≡ true) }
     ensures reported { IfErr result
-        (λ fault. NamesLastAsked (F.asked folder.new) (ending_of fault)) }
+        (λ fault. NamesLastAsked (F.state folder.new).asked (ending_of fault)) }
     ensures asks { IfOk result
-        (λ files. AsksForAll (F.asked folder.old) (F.asked folder.new) files roles.now) }
-    ensures once { AsksOnce (F.asked folder.old) (F.asked folder.new) }
+        (λ files. AsksForAll (F.state folder.old).asked (F.state folder.new).asked files
+        roles.now) }
+    ensures once { AsksOnce (F.state folder.old).asked (F.state folder.new).asked }
     ensures order { OnOk result
-        (AsksAll (F.files folder.old) roles.now (F.asked folder.old) (F.asked folder.new)) }
+        (AsksAll (F.state folder.old).files roles.now (F.state folder.old).asked
+        (F.state folder.new).asked) }
     ensures ends { IfErr result (λ fault. bad_name roles.now ≡ None
-        → AsksUntil (F.files folder.old) roles.now (F.asked folder.old) (F.asked folder.new)
-        (ending_of fault)) }
-    ensures unfailed { OnOk result (F.failed folder.new ≡ F.failed folder.old) }
-    ensures fails { OnErr result
-        (FailsLast (F.asked folder.new) (F.failed folder.old) (F.failed folder.new)
-        (F.failures folder.old) (F.failures folder.new)) }
-    ensures files_stay { F.files folder.new ≡ F.files folder.old }
-    ensures created_stay { F.created folder.new ≡ F.created folder.old }
+        → AsksUntil (F.state folder.old).files roles.now (F.state folder.old).asked
+        (F.state folder.new).asked (ending_of fault)) }
+    ensures unfailed { OnOk result ((F.state folder.new).failed ≡ (F.state folder.old).failed) }
+    ensures fails { OnErr result (FailsLast (F.state folder.old) (F.state folder.new)) }
+    ensures files_stay { (F.state folder.new).files ≡ (F.state folder.old).files }
+    ensures created_stay { (F.state folder.new).created ≡ (F.state folder.old).created }
 {
     let mut files = Files::new(alloc);
     read_needed(alloc, folder, &mut files, roles.web())?;
@@ -506,35 +507,35 @@ fn load_files<F: Folder>(alloc: Global, roles: &Roles, folder: &mut F) -> Result
 /// `CannotRead` with the name of a web or change file that is missing, of a file over the limit, or
 /// of one at which the folder failed. `Refused` with a name and `BadName` where one of the three
 /// names is no file name, and with `TooManyFiles`, `LineTooLong` or `TooManyLines` where the table
-/// of files refuses a file. `NoMemory` where an allocation is refused.
+/// of files refuses a file. `NoMemory` where an allocation fails.
 pub fn load<F: Folder>(
     alloc: Global,
     arguments: &Words,
     folder: &mut F,
 ) -> Result<(Files, Roles), LoadFault>
-    ensures ok { IfOk result (λ r. LoadsTo (F.files folder.old) (λ all. load_of all arguments.now)
-        (F.failures folder.old) (F.failures folder.new) r.0) }
+    ensures ok { IfOk result
+        (λ r. LoadsTo (F.state folder.old).files (λ all. load_of all arguments.now)
+        (F.state folder.old).failures (F.state folder.new).failures r.0) }
     ensures roles { IfOk result (λ r. r.1 ≡ arguments.now) }
     ensures fits { IfOk result (λ r. fits r.0 r.1 ≡ true) }
     ensures err { IfErr result
-        (λ fault. StopsFor (F.files folder.old) (λ all. load_of all arguments.now)
-        (F.failures folder.old) (F.failures folder.new) (ending_of fault)) }
+        (λ fault. StopsFor (F.state folder.old).files (λ all. load_of all arguments.now)
+        (F.state folder.old).failures (F.state folder.new).failures (ending_of fault)) }
     ensures reported { IfErr result
-        (λ fault. NamesLastAsked (F.asked folder.new) (ending_of fault)) }
-    ensures asks { IfOk result (λ r. AsksForAll (F.asked folder.old) (F.asked folder.new) r.0 r.1) }
-    ensures once { AsksOnce (F.asked folder.old) (F.asked folder.new) }
+        (λ fault. NamesLastAsked (F.state folder.new).asked (ending_of fault)) }
+    ensures asks { IfOk result
+        (λ r. AsksForAll (F.state folder.old).asked (F.state folder.new).asked r.0 r.1) }
+    ensures once { AsksOnce (F.state folder.old).asked (F.state folder.new).asked }
     ensures order { OnOk result
-        (AsksAll (F.files folder.old) arguments.now (F.asked folder.old) (F.asked folder.new)) }
+        (AsksAll (F.state folder.old).files arguments.now (F.state folder.old).asked
+        (F.state folder.new).asked) }
     ensures ends { IfErr result
-        (λ fault. AsksUntil (F.files folder.old) arguments.now (F.asked folder.old)
-        (F.asked folder.new)
-        (ending_of fault)) }
-    ensures unfailed { OnOk result (F.failed folder.new ≡ F.failed folder.old) }
-    ensures fails { OnErr result
-        (FailsLast (F.asked folder.new) (F.failed folder.old) (F.failed folder.new)
-        (F.failures folder.old) (F.failures folder.new)) }
-    ensures files_stay { F.files folder.new ≡ F.files folder.old }
-    ensures created_stay { F.created folder.new ≡ F.created folder.old }
+        (λ fault. AsksUntil (F.state folder.old).files arguments.now (F.state folder.old).asked
+        (F.state folder.new).asked (ending_of fault)) }
+    ensures unfailed { OnOk result ((F.state folder.new).failed ≡ (F.state folder.old).failed) }
+    ensures fails { OnErr result (FailsLast (F.state folder.old) (F.state folder.new)) }
+    ensures files_stay { (F.state folder.new).files ≡ (F.state folder.old).files }
+    ensures created_stay { (F.state folder.new).created ≡ (F.state folder.old).created }
 {
     if let Some(name) = first_bad(arguments) {
         return Err(refused(alloc, name, Refusal::BadName));

@@ -1,5 +1,5 @@
 //! The lines that the programs write on the error stream.
-ghost use Rattle.std.specs.Prelude.{◌≡◌, ℕ, List, codes, OnOk, OnErr};
+ghost use Rattle.std.specs.Prelude.{◌≡◌, OnOk, OnErr};
 ghost use Rattle.tangle_streams.specs.Streams.{IsWritten};
 ghost use Rattle.ctangle_cli.specs.Loading.{ending_of};
 ghost use Rattle.ctangle_cli.specs.Loading.LoadEnd.{Memory, Refuses, Unreadable};

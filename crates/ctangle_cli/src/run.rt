@@ -1,7 +1,8 @@
 //! A run of `ctangle`.
 ghost use Rattle.std.specs.Prelude.{◌≡◌, ℕ, List, IfOk, map};
 ghost use Rattle.ctangle_cli.specs.Messages.{faults_status};
-ghost use Rattle.ctangle_cli.specs.Run.{Loads, Moment, NamedEnds, RunEnds, SessionEnds, quiet};
+ghost use Rattle.ctangle_cli.specs.Run.{Loads, Moment, NamedEnds, RunEnds, SessionEnds, moment};
+ghost use Rattle.ctangle_cli.specs.Run.{quiet};
 
 use crate::arguments::{WordFault, Words, read_words};
 use crate::laws::output_names_differ;
@@ -32,22 +33,8 @@ fn run_session<F: Folder, E: Sink>(
     err: &mut E,
 ) -> u8
     ensures { SessionEnds session.now.files session.now.roles
-        (record {
-          files = F.files folder.old;
-          created = F.created folder.old;
-          asked = F.asked folder.old;
-          failed = F.failed folder.old;
-          folder_failures = F.failures folder.old;
-          stream = E.stream err.old;
-        })
-        (record {
-          files = F.files folder.new;
-          created = F.created folder.new;
-          asked = F.asked folder.new;
-          failed = F.failed folder.new;
-          folder_failures = F.failures folder.new;
-          stream = E.stream err.new;
-        }) result }
+        (moment (F.state folder.old) (E.stream err.old))
+        (moment (F.state folder.new) (E.stream err.new)) result }
 {
     output_names_differ();
     let faults = session.faults();
@@ -103,23 +90,9 @@ fn run_loaded<F: Folder, E: Sink>(
     err: &mut E,
 ) -> Ended
     ensures { (old : Moment) → Loads roles old
-        (record {
-          files = F.files folder.old;
-          created = F.created folder.old;
-          asked = F.asked folder.old;
-          failed = F.failed folder.old;
-          folder_failures = F.failures folder.old;
-          stream = E.stream err.old;
-        }) files
+        (moment (F.state folder.old) (E.stream err.old)) files
         → NamedEnds roles old
-        (record {
-          files = F.files folder.new;
-          created = F.created folder.new;
-          asked = F.asked folder.new;
-          failed = F.failed folder.new;
-          folder_failures = F.failures folder.new;
-          stream = E.stream err.new;
-        }) result.status }
+        (moment (F.state folder.new) (E.stream err.new)) result.status }
 {
     match started(alloc, files, roles) {
         Err(_) => {
@@ -142,22 +115,8 @@ fn run_named<F: Folder, E: Sink>(
     err: &mut E,
 ) -> Ended
     ensures { NamedEnds arguments.now
-        (record {
-          files = F.files folder.old;
-          created = F.created folder.old;
-          asked = F.asked folder.old;
-          failed = F.failed folder.old;
-          folder_failures = F.failures folder.old;
-          stream = E.stream err.old;
-        })
-        (record {
-          files = F.files folder.new;
-          created = F.created folder.new;
-          asked = F.asked folder.new;
-          failed = F.failed folder.new;
-          folder_failures = F.failures folder.new;
-          stream = E.stream err.new;
-        }) result.status }
+        (moment (F.state folder.old) (E.stream err.old))
+        (moment (F.state folder.new) (E.stream err.new)) result.status }
 {
     match load(alloc, arguments, folder) {
         Err(fault) => {
@@ -177,22 +136,8 @@ pub fn run_keeping_session<F: Folder, E: Sink>(
     err: &mut E,
 ) -> Ended
     ensures { RunEnds (map (λ w. w.now) arguments.now)
-        (record {
-          files = F.files folder.old;
-          created = F.created folder.old;
-          asked = F.asked folder.old;
-          failed = F.failed folder.old;
-          folder_failures = F.failures folder.old;
-          stream = E.stream err.old;
-        })
-        (record {
-          files = F.files folder.new;
-          created = F.created folder.new;
-          asked = F.asked folder.new;
-          failed = F.failed folder.new;
-          folder_failures = F.failures folder.new;
-          stream = E.stream err.new;
-        }) result.status }
+        (moment (F.state folder.old) (E.stream err.old))
+        (moment (F.state folder.new) (E.stream err.new)) result.status }
 {
     match read_words(alloc, arguments) {
         Err(WordFault::Usage) => match write_usage(err) {
@@ -227,22 +172,8 @@ pub fn run_ctangle<F: Folder, E: Sink>(
     err: &mut E,
 ) -> u8
     ensures { RunEnds (map (λ w. w.now) arguments.now)
-        (record {
-          files = F.files folder.old;
-          created = F.created folder.old;
-          asked = F.asked folder.old;
-          failed = F.failed folder.old;
-          folder_failures = F.failures folder.old;
-          stream = E.stream err.old;
-        })
-        (record {
-          files = F.files folder.new;
-          created = F.created folder.new;
-          asked = F.asked folder.new;
-          failed = F.failed folder.new;
-          folder_failures = F.failures folder.new;
-          stream = E.stream err.new;
-        }) result }
+        (moment (F.state folder.old) (E.stream err.old))
+        (moment (F.state folder.new) (E.stream err.new)) result }
 {
     let ended = run_keeping_session(alloc, arguments, folder, err);
     ended.status

@@ -23,21 +23,21 @@ fn write_file<F: Folder>(
     name: &[u8],
 ) -> Result<(), FolderFault>
     requires { IsSome (output_at session.now.files session.now.roles name.now) }
-    ensures whole { OnOk result (F.created folder.new
-        ≡ with_created (F.created folder.old)
+    ensures whole { OnOk result ((F.state folder.new).created
+        ≡ with_created (F.state folder.old).created
         (output_file session.now.files session.now.roles name.now ∷ [])) }
-    ensures unfailed { OnOk result (F.failures folder.new ≡ F.failures folder.old) }
-    ensures part { OnErr result (AddsPart (F.created folder.old) (F.created folder.new)
+    ensures unfailed { OnOk result ((F.state folder.new).failures ≡ (F.state folder.old).failures) }
+    ensures part { OnErr result (AddsPart (F.state folder.old).created (F.state folder.new).created
         (output_file session.now.files session.now.roles name.now)) }
     ensures nothing { IfErr result
-        (λ fault. fault ≡ NoMemory → F.created folder.new ≡ F.created folder.old) }
-    ensures failed { IfErr result
-        (λ fault. fault ≢ NoMemory → Failed (F.failures folder.old) (F.failures folder.new)) }
-    ensures unfailed_memory { IfErr result
-        (λ fault. fault ≡ NoMemory → F.failures folder.new ≡ F.failures folder.old) }
-    ensures asked_stay { F.asked folder.new ≡ F.asked folder.old }
-    ensures failed_stay { F.failed folder.new ≡ F.failed folder.old }
-    ensures files_stay { F.files folder.new ≡ F.files folder.old }
+        (λ fault. fault ≡ NoMemory → (F.state folder.new).created ≡ (F.state folder.old).created) }
+    ensures failed { IfErr result (λ fault. fault ≢ NoMemory
+        → Failed (F.state folder.old).failures (F.state folder.new).failures) }
+    ensures unfailed_memory { IfErr result (λ fault. fault ≡ NoMemory
+        → (F.state folder.new).failures ≡ (F.state folder.old).failures) }
+    ensures asked_stay { (F.state folder.new).asked ≡ (F.state folder.old).asked }
+    ensures failed_stay { (F.state folder.new).failed ≡ (F.state folder.old).failed }
+    ensures files_stay { (F.state folder.new).files ≡ (F.state folder.old).files }
 {
     let mut out = folder.create(alloc, name)?;
     let written = session.write_output_at(index, name, &mut out);
@@ -64,17 +64,20 @@ pub fn write_outputs<'a, F: Folder>(
 ) -> Result<(), FileStop<'a>>
     requires { IsDistinct bytes_eq
         (map (λ output. output.0) (outputs_of session.now.files session.now.roles)) }
-    ensures whole { OnOk result (F.created folder.new
-        ≡ with_created (F.created folder.old) (outputs_of session.now.files session.now.roles)) }
-    ensures unfailed { OnOk result (F.failures folder.new ≡ F.failures folder.old) }
+    ensures whole { OnOk result ((F.state folder.new).created
+        ≡ with_created (F.state folder.old).created
+        (outputs_of session.now.files session.now.roles)) }
+    ensures unfailed { OnOk result ((F.state folder.new).failures ≡ (F.state folder.old).failures) }
     ensures stopped { IfErr result (λ stop. StopsAt (outputs_of session.now.files session.now.roles)
-        (F.created folder.old) (F.created folder.new) stop.name.now stop.fault) }
+        (F.state folder.old).created (F.state folder.new).created stop.name.now stop.fault) }
     ensures failed { IfErr result
-        (λ stop. stop.fault ≢ NoMemory → Failed (F.failures folder.old) (F.failures folder.new)) }
+        (λ stop. stop.fault ≢ NoMemory
+        → Failed (F.state folder.old).failures (F.state folder.new).failures) }
     ensures unfailed_memory { IfErr result
-        (λ stop. stop.fault ≡ NoMemory → F.failures folder.new ≡ F.failures folder.old) }
-    ensures asked_stay { F.asked folder.new ≡ F.asked folder.old }
-    ensures failed_stay { F.failed folder.new ≡ F.failed folder.old }
+        (λ stop. stop.fault ≡ NoMemory
+        → (F.state folder.new).failures ≡ (F.state folder.old).failures) }
+    ensures asked_stay { (F.state folder.new).asked ≡ (F.state folder.old).asked }
+    ensures failed_stay { (F.state folder.new).failed ≡ (F.state folder.old).failed }
 {
     let names = session.output_names();
     for (index, name) in names.enumerate() {

@@ -23,7 +23,7 @@ fn folder_of_three(alloc: Global) -> Result<MemoryFolder, Fail> {
     folder_with(alloc, &files)
 }
 
-// Each file that was created is the main file, or a front of it.
+// Each file that was created is the main file, or a prefix of it.
 fn assert_fronts(rt: &impl Abort, folder: &MemoryFolder) {
     for file in folder.created() {
         assert_eq!(rt; file.name.as_slice(), b"a.c".as_slice());

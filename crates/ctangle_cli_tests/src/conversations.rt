@@ -13,7 +13,8 @@ use tangle_test_support::files_with;
 const SCRIPT: &[u8] = b"work\nreplace 3 a.w\nint y;\nshow a.c\nremove 9 a.w\nfaults\nquit\n";
 
 const ANSWERS: &[u8] =
-    b"work 1\nok\n= a.c 36\n/*1:*/\n#line 2 \"a.w\"\n\nint y;\n/*:1*/\nno NoSuchLine\nfaults 0\nok\n";
+    b"work 1\nok\n= a.c 36\n/*1:*/\n#line 2 \"a.w\"\n\nint y;\n/*:1*/\nno NoSuchLine\nfaults 0\n\
+      ok\n";
 
 // Answers the script to a writer that takes so many bytes: the status, and what was written.
 fn converse(alloc: Global, session: &mut Session, room: usize) -> (u8, MemorySink) {

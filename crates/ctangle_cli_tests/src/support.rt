@@ -5,7 +5,7 @@ use std::process::Abort;
 use std::test::Fail;
 use tangle_folders::{MemoryFolder, MemorySink};
 
-/// Room for all that a test writes.
+/// Capacity for all that a test writes.
 pub(crate) const AMPLE: usize = 1_000_000;
 
 /// A folder with these files.

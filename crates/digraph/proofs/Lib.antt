@@ -8,5 +8,4 @@ pub mod CycleLemmas
 pub mod TitleLemmas
 pub mod PlacingLemmas
 pub mod OrderLemmas
-pub mod PassLemmas
 pub mod PathLemmas

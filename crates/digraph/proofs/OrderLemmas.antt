@@ -6,7 +6,7 @@ use Rattle.digraph.specs.Reach.{Reaches, here, on, ContainsItself, ReachesCycle,
 use Rattle.digraph.specs.Order.{IsAfterUses, IsOrder}
 use Rattle.digraph.proofs.GraphLemmas.{use_in}
 
--- what is among the first k is at a place below k
+-- what is among the first k is at a position below k
 earlier : (order : List ℕ) (k m : ℕ) → Contains (take k order) m → (j : ℕ) × (j < k) × (j < length order) × (get_or order j 0 ≡ m)
 earlier order k m c =
     let short : c.0 < length (take k order) = c.1 in

@@ -1,4 +1,4 @@
--- The users of each node: the places of the rows that have it.
+-- The users of each node: the positions of the rows that have it.
 use Rattle.std.proofs.Common.{◌≡◌, ◌≤◌, ◌<◌, ◌+◌, ◌∙◌, ◌||◌, ℕ, zero, suc, Bool, true, false, cond, eqb, List, [], ◌∷◌, ◌++◌, length, take, get_or, refl, ap, sym, subst, inl, inr, arith, append_assoc, append-nil, add-zero, zero-add, Vec, Contains, All}
 use Rattle.std.specs.Global.{Global}
 use Rattle.std.specs.List.{list_any}
@@ -11,21 +11,21 @@ use Rattle.std.proofs.lemmas.List.Elements.{Contains-get_or, All-nil, All-cons, 
 use Rattle.std.proofs.lemmas.List.Kept.{AllPairs-from_increasing}
 use Rattle.digraph.specs.Graph.{Graph, InRange, rows_of, row_at}
 use Rattle.digraph.specs.Rows.{IsRowsOf, GrowsBy, IsConverse}
-use Rattle.digraph.specs.Users.{places, users_of}
+use Rattle.digraph.specs.Users.{positions, users_of}
 use Rattle.digraph.proofs.GraphLemmas.{row_read, rows_size, node_in, use_in}
 use Rattle.digraph.proofs.RowLemmas.{grows_more}
 
-pub places_more : {X : Type 0} (p : X → Bool) (k : ℕ) (xs : List X) (i : ℕ) (d : X) → i < length xs
-    → places p k (take (i + 1) xs) ≡ places p k (take i xs) ++ cond (p (get_or xs i d)) ((k + i) ∷ []) []
-places_more p k [] i d h = absurd (omega (arith, h))
-places_more p k (x ∷ xs) zero d h = append-nil (cond (p x) (k ∷ []) []) ∙ ap (λ j. cond (p x) (j ∷ []) []) (sym (add-zero k))
-places_more p k (x ∷ xs) (suc i) d h =
+pub positions_more : {X : Type 0} (p : X → Bool) (k : ℕ) (xs : List X) (i : ℕ) (d : X) → i < length xs
+    → positions p k (take (i + 1) xs) ≡ positions p k (take i xs) ++ cond (p (get_or xs i d)) ((k + i) ∷ []) []
+positions_more p k [] i d h = absurd (omega (arith, h))
+positions_more p k (x ∷ xs) zero d h = append-nil (cond (p x) (k ∷ []) []) ∙ ap (λ j. cond (p x) (j ∷ []) []) (sym (add-zero k))
+positions_more p k (x ∷ xs) (suc i) d h =
     let one_more : suc i + 1 ≡ suc (i + 1) = omega arith in
-    let place : k + 1 + i ≡ k + suc i = omega arith in
+    let position : k + 1 + i ≡ k + suc i = omega arith in
     let low : i < length xs = omega (arith, h) in
-    ap (λ n. places p k (take n (x ∷ xs))) one_more
-    ∙ (ap (λ r. cond (p x) (k ∷ []) [] ++ r) (places_more p (k + 1) xs i d low ∙ ap (λ n. places p (k + 1) (take i xs) ++ cond (p (get_or xs i d)) (n ∷ []) []) place)
-    ∙ sym (append_assoc (cond (p x) (k ∷ []) []) (places p (k + 1) (take i xs)) (cond (p (get_or xs i d)) ((k + suc i) ∷ []) [])))
+    ap (λ n. positions p k (take n (x ∷ xs))) one_more
+    ∙ (ap (λ r. cond (p x) (k ∷ []) [] ++ r) (positions_more p (k + 1) xs i d low ∙ ap (λ n. positions p (k + 1) (take i xs) ++ cond (p (get_or xs i d)) (n ∷ []) []) position)
+    ∙ sym (append_assoc (cond (p x) (k ∷ []) []) (positions p (k + 1) (take i xs)) (cond (p (get_or xs i d)) ((k + suc i) ∷ []) [])))
 
 -- a number of a row that rises doesn't come twice
 pub not_before : (row : List ℕ) (j m : ℕ) → IsStrictlyIncreasing row → j < length row → get_or row j 0 ≡ m → list_any (λ x. eqb x m) (take j row) ≡ false
@@ -59,7 +59,7 @@ pub users_more : (rows : List (Vec ℕ Global)) (n m : ℕ) (row : Vec ℕ Globa
     → users_of (take (n + 1) (rows_of rows)) m ≡ users_of (take n (rows_of rows)) m ++ cond (list_any (λ x. eqb x m) seen) (n ∷ []) []
 users_more rows n m row seen h read shown =
     let inside : n < length (rows_of rows) = omega (arith, h, length-map rows (λ (v : Vec ℕ Global). v.items)) in
-    places_more (list_any (λ x. eqb x m)) 0 (rows_of rows) n [] inside
+    positions_more (list_any (λ x. eqb x m)) 0 (rows_of rows) n [] inside
     ∙ (λ i. users_of (take n (rows_of rows)) m ++ cond (list_any (λ x. eqb x m) ((row_read rows n row h read ∙ sym shown) i)) (zero-add n i ∷ []) [])
 
 pub user_more : (before after next : List (List ℕ)) (row : List ℕ) (j n : ℕ) → IsStrictlyIncreasing row → j < length row
@@ -71,7 +71,7 @@ user_more before after next row j n up h first second =
     before after next first second (λ m. added_more row j n m up h)
 
 module _ {X : Type 0} (p : X → Bool) (d : X) where
-  -- j is a place from k on of an element that passes
+  -- j is a position from k on of an element that passes
   abbrev pub Passes : ℕ → List X → ℕ → Type 0
   Passes k xs j = (i : ℕ) × (j ≡ k + i) × (i < length xs) × (p (get_or xs i d) ≡ true)
 
@@ -79,26 +79,26 @@ module _ {X : Type 0} (p : X → Bool) (d : X) where
   one_of true k j c = (refl, All-contains (λ v. k ≡ v) (k ∷ []) j (All-cons (λ v. k ≡ v) k [] refl (All-nil (λ v. k ≡ v))) c)
   one_of false k j c = absurd (omega (arith, c.1))
 
-  pub passes_from : (k : ℕ) (xs : List X) (j : ℕ) → Contains (places p k xs) j → Passes k xs j
+  pub passes_from : (k : ℕ) (xs : List X) (j : ℕ) → Contains (positions p k xs) j → Passes k xs j
   passes_from k [] j c = absurd (omega (arith, c.1))
-  passes_from k (x ∷ xs) j c = elim (Contains-append_cases (cond (p x) (k ∷ []) []) (places p (k + 1) xs) j c) [
+  passes_from k (x ∷ xs) j c = elim (Contains-append_cases (cond (p x) (k ∷ []) []) (positions p (k + 1) xs) j c) [
     | inl here ↦ (let is = one_of (p x) k j here in (0, sym is.1 ∙ sym (add-zero k), omega arith, is.0))
     | inr later ↦ (let is = passes_from (k + 1) xs j later in (suc is.0, omega (arith, is.1), omega (arith, is.2), is.3))
   ]
 
-  pub passes_into : (k : ℕ) (xs : List X) (i : ℕ) → i < length xs → p (get_or xs i d) ≡ true → Contains (places p k xs) (k + i)
+  pub passes_into : (k : ℕ) (xs : List X) (i : ℕ) → i < length xs → p (get_or xs i d) ≡ true → Contains (positions p k xs) (k + i)
   passes_into k [] i h is = absurd (omega (arith, h))
   passes_into k (x ∷ xs) zero h is =
-      subst (λ b. Contains (cond b (k ∷ []) [] ++ places p (k + 1) xs) (k + 0)) (sym is) (0, omega arith, sym (add-zero k))
+      subst (λ b. Contains (cond b (k ∷ []) [] ++ positions p (k + 1) xs) (k + 0)) (sym is) (0, omega arith, sym (add-zero k))
   passes_into k (x ∷ xs) (suc i) h is =
       let moved : k + 1 + i ≡ k + suc i = omega arith in
-      subst (Contains (places p k (x ∷ xs))) moved (Contains-append_right (cond (p x) (k ∷ []) []) (places p (k + 1) xs) (k + 1 + i) (passes_into (k + 1) xs i (omega (arith, h)) is))
+      subst (Contains (positions p k (x ∷ xs))) moved (Contains-append_right (cond (p x) (k ∷ []) []) (positions p (k + 1) xs) (k + 1 + i) (passes_into (k + 1) xs i (omega (arith, h)) is))
 
-  low_place : (k : ℕ) (xs : List X) (j : ℕ) → Contains (places p k xs) j → k ≤ j
-  low_place k xs j c = let is = passes_from k xs j c in omega (arith, is.1)
+  low_position : (k : ℕ) (xs : List X) (j : ℕ) → Contains (positions p k xs) j → k ≤ j
+  low_position k xs j c = let is = passes_from k xs j c in omega (arith, is.1)
 
-  pub places-low : (k : ℕ) (xs : List X) → All (λ j. k ≤ j) (places p k xs)
-  places-low k xs i e h = low_place k xs (get_or (places p k xs) i e) (Contains-get_or (places p k xs) i e h)
+  pub positions-low : (k : ℕ) (xs : List X) → All (λ j. k ≤ j) (positions p k xs)
+  positions-low k xs i e h = low_position k xs (get_or (positions p k xs) i e) (Contains-get_or (positions p k xs) i e h)
 
   increasing_cons : (k : ℕ) (ys : List ℕ) → All (λ j. k + 1 ≤ j) ys → IsStrictlyIncreasing ys → IsStrictlyIncreasing (k ∷ ys)
   increasing_cons k ys low up zero h = let first = low 0 0 (omega (arith, h)) in omega (arith, first)
@@ -110,9 +110,9 @@ module _ {X : Type 0} (p : X → Bool) (d : X) where
   increasing_head true k ys low up = increasing_cons k ys low up
   increasing_head false k ys low up = up
 
-  pub places-increasing : (k : ℕ) (xs : List X) → IsStrictlyIncreasing (places p k xs)
-  places-increasing k [] = λ i h. absurd (omega (arith, h))
-  places-increasing k (x ∷ xs) = increasing_head (p x) k (places p (k + 1) xs) (places-low (k + 1) xs) (places-increasing (k + 1) xs)
+  pub positions-increasing : (k : ℕ) (xs : List X) → IsStrictlyIncreasing (positions p k xs)
+  positions-increasing k [] = λ i h. absurd (omega (arith, h))
+  positions-increasing k (x ∷ xs) = increasing_head (p x) k (positions p (k + 1) xs) (positions-low (k + 1) xs) (positions-increasing (k + 1) xs)
 
 pub tested : (row : List ℕ) (m : ℕ) → list_any (λ x. eqb x m) row ≡ true → Contains row m
 tested row m is =
@@ -124,7 +124,7 @@ pub passed : (row : List ℕ) (m : ℕ) → Contains row m → list_any (λ x. e
 passed row m c = list_any-from_Any (λ x. eqb x m) row (c.0, m, c.1, c.2, (Decides-eqb m m).1 refl)
 
 rising : (rows : List (List ℕ)) (m : ℕ) → IsStrictlyIncreasing (users_of rows m)
-rising rows m = places-increasing (list_any (λ x. eqb x m)) [] 0 rows
+rising rows m = positions-increasing (list_any (λ x. eqb x m)) [] 0 rows
 
 user_uses : (rows : List (List ℕ)) (m n : ℕ) → Contains (users_of rows m) n → Contains (row_at rows n) m
 user_uses rows m n c =

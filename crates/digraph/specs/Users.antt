@@ -2,11 +2,11 @@
 use Rattle.std.specs.Prelude.{◌+◌, ℕ, Bool, List, [], ◌∷◌, ◌++◌, ◌==◌, if◌then◌else◌}
 use Rattle.std.specs.List.{list_any}
 
--- the places from k on of the elements that pass the test
-abbrev pub places : {X : Type 0} → (X → Bool) → ℕ → List X → List ℕ
-places p k [] = []
-places p k (x ∷ xs) = (if p x then k ∷ [] else []) ++ places p (k + 1) xs
+-- the positions from k on of the elements that pass the test
+abbrev pub positions : {X : Type 0} → (X → Bool) → ℕ → List X → List ℕ
+positions p k [] = []
+positions p k (x ∷ xs) = (if p x then k ∷ [] else []) ++ positions p (k + 1) xs
 
 -- the rows that have m
 abbrev pub users_of : List (List ℕ) → ℕ → List ℕ
-users_of rows m = places (list_any (λ x. x == m)) 0 rows
+users_of rows m = positions (list_any (λ x. x == m)) 0 rows

@@ -7,7 +7,7 @@ ghost use Rattle.digraph.specs.Evidence.{IsEvidence};
 
 use crate::proposals::{finishing, number};
 use crate::ranks::{lowest, never_falls};
-use crate::roots::{leads_to_root, reached_from_roots, reaching_roots};
+use crate::roots::{flag_reached, flag_reaching, leads_to_root};
 use std::alloc::{AllocError, Global};
 
 /// Ranks and roots that were proposed, and what was found of them.
@@ -34,8 +34,10 @@ impl Evidence {
         let mut ranks = vec![in alloc; 0usize; uses.len()]?;
         let mut roots = vec![in alloc; 0usize; uses.len()]?;
         let visits = number(alloc, users, &finished, &mut ranks, &mut roots)?;
-        let from_root = reached_from_roots(alloc, uses, &roots, &finished)?;
-        let to_root = reaching_roots(alloc, uses, &roots, &visits)?;
+        let mut from_root = vec![in alloc; false; uses.len()]?;
+        flag_reached(uses, &roots, &finished, &mut from_root);
+        let mut to_root = vec![in alloc; false; uses.len()]?;
+        flag_reaching(uses, &roots, &visits, &mut to_root);
         let rising = never_falls(uses, &ranks);
         Ok(Evidence {
             ranks,

@@ -4,22 +4,18 @@
 //! where it is right they take linear time.
 #![tactic(auto)]
 
-mod along;
 mod cycles;
 mod evidence;
 mod laws;
 mod ordering;
 mod proposals;
-mod range;
 mod ranks;
 mod reach;
 mod roots;
 mod rows;
 
-pub use along::reaching_along;
 pub use cycles::{reaching_cycles, self_containing};
 pub use laws::{order_holds_what_reaches_no_cycle, rows_grow};
 pub use ordering::order;
-pub use range::in_range;
 pub use reach::reaching;
 pub use rows::{all_once, empty_rows, once_each, push_to, users};

@@ -1,5 +1,4 @@
 //! Proposals: orders, and components of a graph, by searches. Nothing rests on them but time.
-ghost use Rattle.std.specs.Prelude.{◌≡◌, ◌<◌, ℕ, length};
 
 use std::alloc::{AllocError, Global};
 
@@ -100,11 +99,11 @@ pub fn number(
             let Some(n) = visits.get(head) else {
                 break;
             };
-            if let Some(place) = ranks.get_mut(*n) {
-                *place = rank;
+            if let Some(entry) = ranks.get_mut(*n) {
+                *entry = rank;
             }
-            if let Some(place) = roots.get_mut(*n) {
-                *place = *start;
+            if let Some(entry) = roots.get_mut(*n) {
+                *entry = *start;
             }
             let Some(row) = users.get(*n) else {
                 continue;

@@ -1,32 +1,24 @@
 //! Flags of nodes that their roots reach, and of nodes that reach their roots: each is right,
 //! whatever order the nodes are tried in.
-ghost use Rattle.std.specs.Prelude.{◌≡◌, ◌<◌, ◌⊎◌, ℕ, IfOk, true, All, Contains, length};
+ghost use Rattle.std.specs.Prelude.{◌≡◌, ◌<◌, ◌⊎◌, ℕ, true, All, Contains, length};
 ghost use Rattle.std.specs.Prelude.{slice_index};
 ghost use Rattle.digraph.specs.Graph.{InRange};
 ghost use Rattle.digraph.specs.Flags.{IsFlagged};
 ghost use Rattle.digraph.specs.Roots.{FromRoots, ToRoots};
 
-use std::alloc::{AllocError, Global};
-
-/// Flags nodes that their roots reach, where `backwards` is an order in which each of them comes
-/// after those it leads to.
-pub fn reached_from_roots(
-    alloc: Global,
-    uses: &[Vec<usize>],
-    roots: &[usize],
-    backwards: &[usize],
-) -> Result<Vec<bool>, AllocError>
+/// Flags nodes more that their roots reach, where `backwards` is an order in which each of them
+/// comes after those it leads to.
+pub fn flag_reached(uses: &[Vec<usize>], roots: &[usize], backwards: &[usize], flags: &mut [bool])
     requires range { InRange uses.now }
     requires roots { length roots.now ≡ length uses.now }
-    ensures { IfOk result (λ flags. FromRoots uses.now roots.now flags.items) }
+    requires flags { FromRoots uses.now roots.now flags.old }
+    ensures { FromRoots uses.now roots.now flags.new }
 {
-    let mut flags = vec![in alloc; false; uses.len()]?;
     for n in backwards.iter().rev() {
         if *n < uses.len() {
-            hand_on(uses, *n, roots, &mut flags);
+            hand_on(uses, *n, roots, flags);
         }
     }
-    Ok(flags)
 }
 
 /// Flags the node if it is a root, and where it is flagged, those of its root that it uses.
@@ -60,25 +52,19 @@ fn flag_row(row: &[usize], root: usize, roots: &[usize], flags: &mut [bool])
     }
 }
 
-/// Flags nodes that reach their roots, in an order in which each of them comes after one that it
-/// uses.
-pub fn reaching_roots(
-    alloc: Global,
-    uses: &[Vec<usize>],
-    roots: &[usize],
-    order: &[usize],
-) -> Result<Vec<bool>, AllocError>
+/// Flags nodes more that reach their roots, in an order in which each of them comes after one that
+/// it uses.
+pub fn flag_reaching(uses: &[Vec<usize>], roots: &[usize], order: &[usize], flags: &mut [bool])
     requires range { InRange uses.now }
     requires roots { length roots.now ≡ length uses.now }
-    ensures { IfOk result (λ flags. ToRoots uses.now roots.now flags.items) }
+    requires flags { ToRoots uses.now roots.now flags.old }
+    ensures { ToRoots uses.now roots.now flags.new }
 {
-    let mut flags = vec![in alloc; false; uses.len()]?;
     for n in order {
         if *n < uses.len() {
-            take_up(uses, *n, roots, &mut flags);
+            take_up(uses, *n, roots, flags);
         }
     }
-    Ok(flags)
 }
 
 /// Flags the node if it is a root or uses a flagged one of its root.

@@ -1,6 +1,6 @@
 //! Rows of numbers, one for each node.
-ghost use Rattle.std.specs.Prelude.{◌≡◌, ◌<◌, ◌++◌, ◌∷◌, [], ◌==◌, ℕ, IfOk, OnOk, length, vec_len};
-ghost use Rattle.std.specs.Prelude.{All, if◌then◌else◌};
+ghost use Rattle.std.specs.Prelude.{◌≡◌, ◌<◌, ◌∷◌, [], ◌==◌, ℕ, IfOk, OnOk, length, vec_len, All};
+ghost use Rattle.std.specs.Prelude.{if◌then◌else◌};
 ghost use Rattle.std.specs.List.{list_any};
 ghost use Rattle.std.specs.List.Sorted.{IsStrictlyIncreasing};
 ghost use Rattle.digraph.specs.Graph.{InRange, rows_of, row_at};

@@ -3,31 +3,14 @@
 #![tactic(auto)]
 
 use ctangle_cli::{
-    Disk, LoadFault, RetangleFault, Words, load, read_retangle, run_retangle, write_load,
+    Disk, LoadFault, RetangleFault, Words, command_line, lines_to, load, read_retangle,
+    run_retangle, write_load,
 };
-use std::io::{Error, ErrorKind, LineWriter, Write};
+use std::io::ErrorKind;
 use std::process::ExitCode;
-use std::{env, io};
-use tangle_lines::{IoSink, Sink};
+use tangle_lines::Sink;
 use tangle_session::Session;
 use tangle_streams::IoFeed;
-
-// The arguments of the command line, the program's name first.
-fn arguments_of(rt: &HostRuntime) -> io::Result<Vec<String>> {
-    match env::args(rt) {
-        Ok(arguments) => arguments.collect(rt.alloc()).map_err(Error::from),
-        Err(error) => Err(error),
-    }
-}
-
-// The stream, handed on line by line, so that each answer goes out at its end. Where there is no
-// memory for a line, each write is handed on.
-fn lines_to<W: Write + Drop + Copy>(rt: &HostRuntime, stream: W) -> IoSink<LineWriter<W>> {
-    match LineWriter::new(rt.alloc(), stream) {
-        Ok(lines) => IoSink::new(lines),
-        Err(_) => IoSink::new(LineWriter::with_capacity(rt.alloc(), 0, stream).unwrap()),
-    }
-}
 
 // Writes why there is nothing to answer from.
 fn report<E: Sink>(fault: &LoadFault, err: &mut E) -> u8 {
@@ -53,7 +36,7 @@ fn run_named<E: Sink>(rt: &HostRuntime, arguments: &Words, err: &mut E) -> u8 {
 // Runs `retangle`, and gives its status. With an argument that is not UTF-8 it has no arguments,
 // and `clap` reports its usage.
 fn run<E: Sink>(rt: &HostRuntime, err: &mut E) -> u8 {
-    let arguments = match arguments_of(rt) {
+    let arguments = match command_line(rt) {
         Ok(arguments) => arguments,
         Err(error) if error.kind() == ErrorKind::OutOfMemory => return report(
             &LoadFault::NoMemory,

@@ -4,15 +4,15 @@ use Rattle.std.specs.List.{filter}
 use Rattle.std.proofs.lemmas.List.{get_or-take}
 use Rattle.std.proofs.lemmas.List.Elements.{All-contains, All-filter, All-contains_itself, filter_passes}
 
--- where the element at a place of a filter is in the list, and what is before it
-pub record Place {X : Type 0} (p : X → Bool) (xs F : List X) (k : ℕ) (d : X) : Type 0 where
+-- where the element at a position of a filter is in the list, and what is before it
+pub record Position {X : Type 0} (p : X → Bool) (xs F : List X) (k : ℕ) (d : X) : Type 0 where
   pub at : ℕ
   pub inside : at < length xs
   pub same : get_or xs at d ≡ get_or F k d
   pub front : take k F ≡ filter p (take at xs)
 
 step : {X : Type 0} (p : X → Bool) (d x : X) (xs : List X) (b : Bool) (k : ℕ) → p x ≡ b → k < length (cond b (x ∷ filter p xs) (filter p xs))
-    → ((j : ℕ) → j < length (filter p xs) → Place p xs (filter p xs) j d) → Place p (x ∷ xs) (cond b (x ∷ filter p xs) (filter p xs)) k d
+    → ((j : ℕ) → j < length (filter p xs) → Position p xs (filter p xs) j d) → Position p (x ∷ xs) (cond b (x ∷ filter p xs) (filter p xs)) k d
 step p d x xs true zero e h more = record { at = 0; inside = omega arith; same = refl; front = refl }
 step p d x xs true (suc k) e h more =
     let low : k < length (filter p xs) = omega (arith, h) in
@@ -32,9 +32,9 @@ step p d x xs false k e h more =
       front = next.front ∙ ap (λ b. cond b (x ∷ filter p (take next.at xs)) (filter p (take next.at xs))) (sym e);
     }
 
-pub filter_place : {X : Type 0} (p : X → Bool) (xs : List X) (k : ℕ) (d : X) → k < length (filter p xs) → Place p xs (filter p xs) k d
-filter_place p [] k d h = absurd (omega (arith, h))
-filter_place p (x ∷ xs) k d h = step p d x xs (p x) k refl h (λ j low. filter_place p xs j d low)
+pub filter_position : {X : Type 0} (p : X → Bool) (xs : List X) (k : ℕ) (d : X) → k < length (filter p xs) → Position p xs (filter p xs) k d
+filter_position p [] k d h = absurd (omega (arith, h))
+filter_position p (x ∷ xs) k d h = step p d x xs (p x) k refl h (λ j low. filter_position p xs j d low)
 
 pub out_of_filter : {X : Type 0} (p : X → Bool) (xs : List X) (x : X) → Contains (filter p xs) x → Contains xs x × (p x ≡ true)
 out_of_filter p xs x c = (
@@ -54,7 +54,7 @@ passed p (y ∷ xs) x (suc k) h e t = one_more (p y) y (filter p xs) x (passed p
 pub into_filter : {X : Type 0} (p : X → Bool) (xs : List X) (x : X) → Contains xs x → p x ≡ true → Contains (filter p xs) x
 into_filter p xs x c t = passed p xs x c.0 c.1 c.2 t
 
--- what is among the first is in the list, at a place before the end of these
+-- what is among the first is in the list, at a position before the end of these
 pub in_front : {X : Type 0} (xs : List X) (i : ℕ) (x : X) → Contains (take i xs) x → (k : ℕ) × (k < i) × (k < length xs) × (get_or xs k x ≡ x)
 in_front xs i x c =
     let low : c.0 < i = omega (arith, c.1, length-take i xs) in

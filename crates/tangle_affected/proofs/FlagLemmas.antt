@@ -3,14 +3,14 @@ use Rattle.std.proofs.Common.{◌≡◌, ◌≢◌, ◌∙◌, ◌+◌, ◌<◌,
 use Rattle.std.proofs.lemmas.List.{get_or_default, take_more}
 use Rattle.std.proofs.Math.Decide.{ℕ_discrete}
 use Rattle.std.proofs.lemmas.List.Elements.{Contains-get_or, Contains-push_cases, Contains-append_left, Contains-append_right}
-use Rattle.tangle_expansion.specs.Shapes.{Title, Named, Shapes, Uses, Reaches, here, on}
-use Rattle.tangle_expansion.specs.Shapes as title
-use Rattle.tangle_expansion.specs.declared.nodes.Node.{Node}
-use Rattle.tangle_expansion.specs.declared.nodes.Node.TheVariants.{Program, Name}
+use Rattle.tangle_plans.specs.Shapes.{Title, Named, Shapes, Uses, Reaches, here, on}
+use Rattle.tangle_plans.specs.Shapes as title
+use Rattle.tangle_plans.specs.declared.nodes.Node.{Node}
+use Rattle.tangle_plans.specs.declared.nodes.Node.TheVariants.{Program, Name}
 use Rattle.tangle_graph.specs.Nodes.{IsNodeOf, UsesTitle}
 use Rattle.tangle_graph.specs.Ordering.{IsOrderIn}
 use Rattle.tangle_graph.specs.Stores.{StoreRead, IsStoreOf, IsNodeIn, uses_at, title_in_store}
-use Rattle.tangle_affected.specs.Flags.{number_of_node, flag_at, ReachesChanged, AreFlagged, AreListed}
+use Rattle.tangle_affected.specs.Flags.{number_of_node, flag_of_node, ReachesChanged, AreFlagged, AreListed}
 use Rattle.tangle_affected.proofs.FilterLemmas.{in_front, out_of_take}
 
 pub number_low : (names : List (List ℕ)) (a : Node) → IsNodeOf names a → number_of_node (length names) a ≤ length names
@@ -32,9 +32,9 @@ step_on shapes a title.Program c u r = absurd u
 step_on shapes a (Named name) c u r = on u r
 
 module _ (store : StoreRead) (order : List Node) (placed : IsOrderIn store order) where
-  -- the node at a place of the order, and another one before it
-  pub at_place : (i : ℕ) → i < length order → IsNodeIn store (get_or order i Program)
-  at_place i h = placed.inside (get_or order i Program) (Contains-get_or order i Program h)
+  -- the node at a position of the order, and another one before it
+  pub at_position : (i : ℕ) → i < length order → IsNodeIn store (get_or order i Program)
+  at_position i h = placed.inside (get_or order i Program) (Contains-get_or order i Program h)
 
   pub apart : (i : ℕ) (a : Node) → i < length order → Contains (take i order) a → a ≢ get_or order i Program
   apart i a h c same =
@@ -46,28 +46,28 @@ module _ (store : StoreRead) (order : List Node) (placed : IsOrderIn store order
         → (b ≡ true → ReachesChanged old new (title_in_store store (get_or order i Program))) → (b ≡ false → ReachesChanged old new (title_in_store store (get_or order i Program)) → ⊥)
         → AreFlagged old new store (set flags (number_of_node (length store.names) (get_or order i Program)) b) (take (i + 1) order)
     flagged_next b size reached not a c =
-        let low : number_of_node (length store.names) (get_or order i Program) < length flags = omega (arith, number_low store.names (get_or order i Program) (at_place i inside), size) in
+        let low : number_of_node (length store.names) (get_or order i Program) < length flags = omega (arith, number_low store.names (get_or order i Program) (at_position i inside), size) in
         let is_set = get_or-set_same flags (number_of_node (length store.names) (get_or order i Program)) b false low in
         elim (Contains-push_cases (take i order) (get_or order i Program) a (subst (λ l. Contains l a) (take_more order i Program inside) c)) [
           | inl before ↦ (let other : number_of_node (length store.names) a ≢ number_of_node (length store.names) (get_or order i Program) =
-              (λ e. apart i a inside before (same_number store.names a (get_or order i Program) (placed.inside a (out_of_take order i a before)) (at_place i inside) e)) in
+              (λ e. apart i a inside before (same_number store.names a (get_or order i Program) (placed.inside a (out_of_take order i a before)) (at_position i inside) e)) in
               let stays = get_or-set_other flags (number_of_node (length store.names) (get_or order i Program)) (number_of_node (length store.names) a) b false other in
               ((λ f. (are a before).0 (sym stays ∙ f)), (λ r. stays ∙ (are a before).1 r)))
-          | inr e ↦ subst (λ m. (flag_at (length store.names) (set flags (number_of_node (length store.names) (get_or order i Program)) b) m ≡ true) ↔ ReachesChanged old new (title_in_store store m)) e
+          | inr e ↦ subst (λ m. (flag_of_node (length store.names) (set flags (number_of_node (length store.names) (get_or order i Program)) b) m ≡ true) ↔ ReachesChanged old new (title_in_store store m)) e
               ((λ f. reached (sym is_set ∙ f)), (λ r. is_set ∙ true_unless b (λ off. not off r)))
         ]
 
     -- a use that is flagged
-    pub reached_by_use : (m : Node) → Contains (uses_at store (get_or order i Program)) m → flag_at (length store.names) flags m ≡ true
+    pub reached_by_use : (m : Node) → Contains (uses_at store (get_or order i Program)) m → flag_of_node (length store.names) flags m ≡ true
         → ReachesChanged old new (title_in_store store (get_or order i Program))
     reached_by_use m used is_flagged =
         let r = (are m (placed.after i m inside used)).0 is_flagged in
-        let u = (is.uses (get_or order i Program) m (at_place i inside)).0 used in
+        let u = (is.uses (get_or order i Program) m (at_position i inside)).0 used in
         (r.0, step_on new (title_in_store store (get_or order i Program)) (title_in_store store m) r.0 u.1 r.1, r.2)
 
     -- it is not changed, and no use is flagged
     pub not_reached : (changed : Bool) → ((changed ≡ true) ↔ (new (title_in_store store (get_or order i Program)) ≢ old (title_in_store store (get_or order i Program)))) → changed ≡ false
-        → ((m : Node) → Contains (uses_at store (get_or order i Program)) m → flag_at (length store.names) flags m ≡ false) → ReachesChanged old new (title_in_store store (get_or order i Program)) → ⊥
+        → ((m : Node) → Contains (uses_at store (get_or order i Program)) m → flag_of_node (length store.names) flags m ≡ false) → ReachesChanged old new (title_in_store store (get_or order i Program)) → ⊥
     not_reached changed reported same none r = from (title_in_store store (get_or order i Program)) r.0 r.1 r.2 refl
       where
         from : (a c : Title) → Reaches new a c → new c ≢ old c → a ≡ title_in_store store (get_or order i Program) → ⊥
@@ -75,8 +75,8 @@ module _ (store : StoreRead) (order : List Node) (placed : IsOrderIn store order
         from a c (on {name = name} u s) differs e =
             let this = title_in_store store (get_or order i Program) in
             let uses : Uses new (title_in_store store (get_or order i Program)) name = subst (λ t. Uses new t name) e u in
-            let m = is.used (get_or order i Program) name (at_place i inside) uses in
-            let used = (is.uses (get_or order i Program) m.0 (at_place i inside)).1 (m.1, subst (UsesTitle new this) (sym m.2) uses) in
+            let m = is.used (get_or order i Program) name (at_position i inside) uses in
+            let used = (is.uses (get_or order i Program) m.0 (at_position i inside)).1 (m.1, subst (UsesTitle new this) (sym m.2) uses) in
             let is_flagged = (are m.0 (placed.after i m.0 inside used)).1 (c, subst (λ t. Reaches new t c) (sym m.2) s, differs) in
             let both : true ≡ false = sym is_flagged ∙ none m.0 used in
             absurd (cc)

@@ -9,17 +9,17 @@ use Rattle.std.proofs.lemmas.List.Elements.{Contains-get_or, Contains-push_cases
 use Rattle.tangle_expansion.specs.Affected.{IsExpandable}
 use Rattle.tangle_expansion.specs.Kept.{kept_at, PutsKept}
 use Rattle.tangle_expansion.specs.Limits.{levels, heaviest, flat_of, IsExpandableNode}
-use Rattle.tangle_expansion.specs.Shapes.{Title, Named, Shapes, Uses}
+use Rattle.tangle_plans.specs.Shapes.{Title, Named, Shapes, Uses}
 use Rattle.tangle_expansion.specs.declared.kept.Kept.{Kept}
-use Rattle.tangle_expansion.specs.declared.nodes.Node.{Node}
-use Rattle.tangle_expansion.specs.declared.nodes.Node.TheVariants.{Program, Name}
+use Rattle.tangle_plans.specs.declared.nodes.Node.{Node}
+use Rattle.tangle_plans.specs.declared.nodes.Node.TheVariants.{Program, Name}
 use Rattle.tangle_graph.specs.Nodes.{IsNodeOf, UsesTitle, number_in, entry}
 use Rattle.tangle_graph.specs.Ordering.{IsOrderIn}
 use Rattle.tangle_graph.specs.Stores.{StoreRead, IsNodeIn, IsStoreOf, KeepsUsed, UsesPiece, is_expandable_at, title_in_store}
 use Rattle.tangle_graph.proofs.NodeLemmas.{title_inside}
 use Rattle.tangle_affected.specs.Keeping.{IsKeptRight, KeepsJust, KeepsDone, KeepsUnflagged, IsExpandableList, CanExpand}
 use Rattle.tangle_affected.specs.Affected.{ListsAffected}
-use Rattle.tangle_affected.specs.Flags.{number_of_node, flag_at, AreListed}
+use Rattle.tangle_affected.specs.Flags.{number_of_node, flag_of_node, AreListed}
 use Rattle.tangle_affected.proofs.FilterLemmas.{into_filter}
 use Rattle.tangle_affected.proofs.ListLemmas.{expandable_list}
 use Rattle.tangle_affected.proofs.FlagLemmas.{apart, same_number}
@@ -102,13 +102,13 @@ module _ (shapes : Shapes) (store : StoreRead) (order : List Node) (placed : IsO
 
   -- the unflagged nodes are kept, and those of the list, which are flagged, are to come
   pub unflagged_done : (flags : List Bool) (list : List Node) (kept : Kept) → AreListed store flags list
-      → KeepsUnflagged shapes store (flag_at (length store.names) flags) order kept → KeepsDone shapes store list 0 kept
+      → KeepsUnflagged shapes store (flag_of_node (length store.names) flags) order kept → KeepsDone shapes store list 0 kept
   unflagged_done flags list kept are keeps = record {
-    expandable = λ node e listed. by node e (flag_at (length store.names) flags node) refl listed;
+    expandable = λ node e listed. by node e (flag_of_node (length store.names) flags node) refl listed;
     others = keeps.others;
   }
     where
-      by : (node : Node) → is_expandable_at store node ≡ true → (b : Bool) → flag_at (length store.names) flags node ≡ b
+      by : (node : Node) → is_expandable_at store node ≡ true → (b : Bool) → flag_of_node (length store.names) flags node ≡ b
           → (Contains list node → Contains (take 0 list) node) → IsKeptRight shapes store kept node
       by node e true is_flagged listed = absurd (nothing_first list node (listed ((are node (expandable_in store node e)).0 is_flagged)))
       by node e false is_flagged listed = keeps.unflagged node (placed.expandable node (expandable_in store node e) e) e is_flagged
@@ -150,7 +150,7 @@ module _ (shapes : Shapes) (store : StoreRead) (order : List Node) (placed : IsO
   }
 
   pub affected_ready : (old : Shapes) (flags : List Bool) (list : List Node) (kept : Kept) → IsStoreOf shapes store → ListsAffected old shapes store list
-      → AreListed store flags list → KeepsUnflagged shapes store (flag_at (length store.names) flags) order kept → CanExpand shapes store list kept
+      → AreListed store flags list → KeepsUnflagged shapes store (flag_of_node (length store.names) flags) order kept → CanExpand shapes store list kept
   affected_ready old flags list kept is lists are keeps = record {
     store_is = is;
     list_is = record {

@@ -1,4 +1,4 @@
--- Nodes found by text.
+-- Nodes found by name.
 use Rattle.std.proofs.Common.{◌≡◌, ◌≢◌, ◌∙◌, ◌+◌, ◌<◌, ◌↔◌, ℕ, zero, suc, Bool, true, false, cond, not, List, [], ◌∷◌, length, get_or, Some, None, refl, ap, sym, arith, rules}
 use Rattle.std.specs.Prelude.{nat_lt, Option, IsSome}
 use Rattle.std.specs.List.{position, position_or_len}
@@ -6,10 +6,10 @@ use Rattle.std.specs.Str.{bytes_eq}
 use Rattle.std.proofs.lemmas.List.Quantifiers.{position-Some}
 use Rattle.std.proofs.lemmas.Slice.Eq.{bytes_eq-Decides}
 use Rattle.std.proofs.lemmas.Bool.Decides.{nat_tests}
-use Rattle.tangle_expansion.specs.Shapes.{Title, Named, Shape, Shapes}
-use Rattle.tangle_expansion.specs.Shapes as title
-use Rattle.tangle_expansion.specs.declared.nodes.Node.{Node}
-use Rattle.tangle_expansion.specs.declared.nodes.Node.TheVariants.{Program, Name}
+use Rattle.tangle_plans.specs.Shapes.{Title, Named, Shape, Shapes}
+use Rattle.tangle_plans.specs.Shapes as title
+use Rattle.tangle_plans.specs.declared.nodes.Node.{Node}
+use Rattle.tangle_plans.specs.declared.nodes.Node.TheVariants.{Program, Name}
 use Rattle.tangle_graph.specs.Nodes.{title_at, title_of_node}
 use Rattle.tangle_graph.specs.Stores.{StoreRead, IsStoreOf, IsNodeIn, title_in_store}
 use Rattle.tangle_graph.proofs.NodeLemmas.{title_inside, named_inside, body_of_named}

@@ -2,9 +2,9 @@
 use Rattle.std.specs.Prelude.{◌≡◌, ◌≢◌, ◌<◌, ◌++◌, ℕ, List, length, take, slice_index_or, AllPairs, Contains}
 use Rattle.tangle_expansion.specs.Affected.{IsAffected}
 use Rattle.tangle_expansion.specs.Limits.{levels, heaviest}
-use Rattle.tangle_expansion.specs.Shapes.{Title, Shapes}
-use Rattle.tangle_expansion.specs.declared.nodes.Node.{Node}
-use Rattle.tangle_expansion.specs.declared.nodes.Node.TheVariants.{Program}
+use Rattle.tangle_plans.specs.Shapes.{Title, Shapes}
+use Rattle.tangle_plans.specs.declared.nodes.Node.{Node}
+use Rattle.tangle_plans.specs.declared.nodes.Node.TheVariants.{Program}
 use Rattle.tangle_graph.specs.Nodes.{UsesTitle}
 use Rattle.tangle_graph.specs.Stores.{StoreRead, IsNodeIn, title_in_store}
 

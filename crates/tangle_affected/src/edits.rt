@@ -1,19 +1,19 @@
 //! The nodes that an edit affects.
-ghost use Rattle.std.specs.Prelude.{◌≡◌, ◌≢◌, ◌+◌, ◌↔◌, ℕ, length, true, false, filter, IfOk};
-ghost use Rattle.std.specs.Prelude.{IfSome, None, Contains, vec_len};
-ghost use Rattle.tangle_expansion.specs.Shapes.{Shapes};
-ghost use Rattle.tangle_expansion.specs.declared.nodes.Node.{Node};
+ghost use Rattle.std.specs.Prelude.{◌≡◌, ◌≢◌, ◌↔◌, true, false, filter, IfOk};
+ghost use Rattle.std.specs.Prelude.{IfSome, None, Contains};
+ghost use Rattle.tangle_plans.specs.Shapes.{Shapes};
+ghost use Rattle.tangle_plans.specs.declared.nodes.Node.{Node};
 ghost use Rattle.tangle_graph.specs.Nodes.{IsNodeOf, title_of_node};
 ghost use Rattle.tangle_graph.specs.Ordering.{IsOrderIn};
 ghost use Rattle.tangle_graph.specs.Stores.{IsStoreOf, IsNodeIn, title_in_store};
 ghost use Rattle.tangle_affected.specs.Affected.{ListsAffected};
-ghost use Rattle.tangle_affected.specs.Flags.{number_of_node, flag_at, AreFlagged, is_listed};
+ghost use Rattle.tangle_affected.specs.Flags.{number_of_node, flag_of_node, AreFlagged, is_listed};
 
 use std::alloc::Global;
-use tangle_expansion::{Node, PiecesByNode};
 use tangle_graph::{Store, same_shape};
 use tangle_lines::NoMemory;
 use tangle_names::NameTable;
+use tangle_plans::{Node, PiecesByNode};
 
 /// The nodes that an edit affects: those that are expandable in the new store and reach, in it, a
 /// node whose shape in the old one isn't the same. Each comes once, and after those of the list
@@ -125,7 +125,7 @@ pub(crate) fn number_of(count: usize, node: Node) -> usize
 
 /// Whether the node is flagged.
 pub(crate) fn is_flagged(count: usize, flags: &[bool], node: Node) -> bool
-    ensures { result ≡ flag_at count flags.now node }
+    ensures { result ≡ flag_of_node count flags.now node }
 {
     flags.get(number_of(count, node)) == Some(&true)
 }
@@ -133,8 +133,8 @@ pub(crate) fn is_flagged(count: usize, flags: &[bool], node: Node) -> bool
 /// Whether some node of the row is flagged.
 fn any_flagged(count: usize, flags: &[bool], row: &[Node]) -> bool
     ensures one { result ≡ true → (m : Node) × Contains row.now m
-        × (flag_at count flags.now m ≡ true) }
-    ensures none { result ≡ false → (m : Node) → Contains row.now m → flag_at count flags.now m
+        × (flag_of_node count flags.now m ≡ true) }
+    ensures none { result ≡ false → (m : Node) → Contains row.now m → flag_of_node count flags.now m
         ≡ false }
 {
     for m in row {

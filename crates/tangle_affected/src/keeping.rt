@@ -1,26 +1,25 @@
 //! The expansions of a web: all of them anew, or after an edit, where those that it doesn't affect
 //! are shared.
-ghost use Rattle.std.specs.Prelude.{◌≡◌, ◌++◌, ◌∷◌, [], ℕ, List, length, true, false, filter, IfOk};
+ghost use Rattle.std.specs.Prelude.{◌≡◌, ◌++◌, ◌∷◌, [], length, true, false, filter, IfOk};
 ghost use Rattle.std.specs.Prelude.{OnOk, None, Contains};
 ghost use Rattle.tangle_expansion.specs.Kept.{kept_at, PutsKept};
 ghost use Rattle.tangle_expansion.specs.Limits.{flat_of};
-ghost use Rattle.tangle_expansion.specs.Shapes.{Shapes};
+ghost use Rattle.tangle_plans.specs.Shapes.{Shapes};
 ghost use Rattle.tangle_graph.specs.Ordering.{IsOrderIn};
 ghost use Rattle.tangle_graph.specs.Stores.{IsStoreOf, IsNodeIn, KeepsUsed, is_expandable_at};
 ghost use Rattle.tangle_graph.specs.Stores.{title_in_store};
 ghost use Rattle.tangle_affected.specs.Affected.{EditedShapes, ListsAffectedBehind};
 ghost use Rattle.tangle_affected.specs.Keeping.{KeepsJust, KeepsUnflagged, ListsExpandableBehind};
 ghost use Rattle.tangle_affected.specs.Keeping.{IsEditOf, IsUnaffected, CanExpand};
-ghost use Rattle.tangle_affected.specs.Flags.{AreListed, FlagsAffected, flag_at};
+ghost use Rattle.tangle_affected.specs.Flags.{AreListed, FlagsAffected, flag_of_node};
 
 use crate::edits::{affected, is_flagged, node_before, number_of};
 use std::alloc::Global;
-use tangle_expansion::{
-    Expansion, Kept, Node, PiecesByNode, Work, unaffected_nodes_stay, used_names_are_expandable,
-};
+use tangle_expansion::{Expansion, Kept, Work, unaffected_nodes_stay, used_names_are_expandable};
 use tangle_graph::{Store, expand_one};
 use tangle_lines::NoMemory;
 use tangle_names::NameTable;
+use tangle_plans::{Node, PiecesByNode};
 
 /// Expands each expandable node of the store, and keeps what it expands to. The nodes go last in
 /// the work's list.
@@ -167,7 +166,8 @@ fn share_unflagged(
         → FlagsAffected change.old change.new new.now flags.now }
     requires empty { (node : Node) → kept_at kept.old node ≡ None }
     ensures { (change : EditedShapes) → IsEditOf old.now new.now old_kept.now change
-        → OnOk result (KeepsUnflagged change.new new.now (flag_at (length new.now.names) flags.now)
+        → OnOk result (KeepsUnflagged change.new new.now
+        (flag_of_node (length new.now.names) flags.now)
         order.now kept.new) }
 {
     let count = new.name_count();

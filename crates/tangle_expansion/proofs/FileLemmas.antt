@@ -3,7 +3,7 @@ use Rattle.std.proofs.Common.{◌≡◌, ◌∙◌, ℕ, ◌^◌, ◌<◌, ◌�
 use Rattle.std.specs.Prelude.{Result, Ok, if◌then◌else◌}
 use Rattle.tangle_streams.specs.declared.failures.WriteFault.{WriteFault}
 use Rattle.tangle_streams.specs.Streams.{Stream, IsWritten, IsWrittenBehind}
-use Rattle.tangle_expansion.specs.Flat.{Symbol}
+use Rattle.tangle_plans.specs.Flat.{Symbol}
 use Rattle.tangle_expansion.specs.Limits.{heaviest}
 use Rattle.tangle_expansion.specs.Numbers.{NumbersRead, text}
 use Rattle.tangle_expansion.specs.TextLimits.{SymbolsAreShort}

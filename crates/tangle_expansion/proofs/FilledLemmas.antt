@@ -10,11 +10,11 @@ use Rattle.tangle_scan.specs.Web.{WebRead, PieceRead}
 use Rattle.tangle_names.specs.declared.Resolved.{Resolved}
 use Rattle.tangle_names.specs.declared.Resolved.TheVariants.{Name, NoFullName, Ambiguous}
 use Rattle.tangle_names.specs.NameTable.{TableRead}
-use Rattle.tangle_expansion.specs.Shapes.{Title, IsUseOf, UsesInPiece, UsesInShape, Uses, Named}
-use Rattle.tangle_expansion.specs.Flat.{depth, flat, Symbol, Byte, Opening, MarkOf, marks_behind, item_flat, items_flat, pieces_flat}
-use Rattle.tangle_expansion.specs.WebShapes.{shapes, pieces_of, resolved_at, use_of, shape_item, IsNameBelow, ResolvesInside}
-use Rattle.tangle_expansion.specs.Slots.{Own, Used, filled_slot, filled}
-use Rattle.tangle_expansion.specs.ItemSlots.{marks_behind_item, name_slots, item_slots, items_slots, pieces_slots}
+use Rattle.tangle_plans.specs.Shapes.{Title, IsUseOf, UsesInPiece, UsesInShape, Uses, Named}
+use Rattle.tangle_plans.specs.Flat.{depth, flat, Symbol, Byte, Opening, MarkOf, marks_behind, item_flat, items_flat, pieces_flat}
+use Rattle.tangle_plans.specs.WebShapes.{shapes, pieces_of, resolved_at, use_of, shape_item, IsNameBelow, ResolvesInside}
+use Rattle.tangle_plans.specs.Slots.{Own, Used, filled_slot, filled}
+use Rattle.tangle_plans.specs.ItemSlots.{marks_behind_item, name_slots, item_slots, items_slots, pieces_slots}
 use Rattle.tangle_expansion.proofs.UseLemmas.{bytes_filled}
 use Rattle.tangle_expansion.proofs.SameShapes.{flat_by_uses}
 
@@ -43,7 +43,7 @@ module _ (texts : List (List ℕ)) (table : TableRead) (has_piece : ℕ → Bool
   item_filled piece marks (item.Code value) fit = bytes_filled symbols (decimal value)
   item_filled piece marks item.Blank fit = refl
   item_filled piece marks item.LineEnd fit = refl
-  item_filled piece marks (item.LineMark place) fit = refl
+  item_filled piece marks (item.LineMark origin) fit = refl
   item_filled piece marks (item.UseOf occurrence) fit = name_filled piece marks (resolved_at table occurrence) (inside occurrence) fit
   item_filled piece marks item.Defs fit = refl
 
@@ -61,7 +61,7 @@ module _ (texts : List (List ℕ)) (table : TableRead) (has_piece : ℕ → Bool
   item_marks marks (item.Code value) = refl
   item_marks marks item.Blank = refl
   item_marks marks item.LineEnd = refl
-  item_marks marks (item.LineMark place) = refl
+  item_marks marks (item.LineMark origin) = refl
   item_marks marks (item.UseOf occurrence) = sym (name_marks marks (resolved_at table occurrence))
   item_marks marks item.Defs = refl
 

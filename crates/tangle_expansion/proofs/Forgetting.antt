@@ -8,9 +8,9 @@ use Rattle.tangle_scan.specs.declared.items.Item.{Item}
 use Rattle.tangle_scan.specs.LineTruth.{Location, piece_locations}
 use Rattle.tangle_scan.specs.Web.{WebRead, PieceRead}
 use Rattle.tangle_names.specs.NameTable.{TableRead}
-use Rattle.tangle_expansion.specs.Shapes.{Title, Named, ShapeItem, Written, Mark, Macros, Use, NoUse, Shapes}
-use Rattle.tangle_expansion.specs.Flat.{Symbol, Byte, Opening, MarkOf, marks_behind, item_flat, items_flat, pieces_flat, flat}
-use Rattle.tangle_expansion.specs.WebShapes.{shape_item, is_piece_of, shapes}
+use Rattle.tangle_plans.specs.Shapes.{Title, Named, ShapeItem, Written, Mark, AllMacros, Use, NoUse, Shapes}
+use Rattle.tangle_plans.specs.Flat.{Symbol, Byte, Opening, MarkOf, marks_behind, item_flat, items_flat, pieces_flat, flat}
+use Rattle.tangle_plans.specs.WebShapes.{shape_item, is_piece_of, shapes}
 use Rattle.tangle_expansion.specs.Location.{Role, LocatedItem, LocatedSymbol, locations_behind, first_locations, located_items, located_pieces, located_shapes, located_item, items_located, pieces_located, located}
 
 bytes_forget : (role : Role) (bytes : List ℕ) → map (λ (p : LocatedSymbol). p.symbol) (map (λ b. record { symbol = Byte b; role = role }) bytes) ≡ map Byte bytes
@@ -22,7 +22,7 @@ module _ (used : List ℕ → List LocatedSymbol) (f : List ℕ → List Symbol)
       → map (λ p. p.symbol) (located_item used node piece marks role x) ≡ item_flat f node piece marks x
   item_forget node piece marks role (Written kind bytes) = bytes_forget role bytes
   item_forget node piece marks role Mark = refl
-  item_forget node piece marks role Macros = refl
+  item_forget node piece marks role AllMacros = refl
   item_forget node piece marks role (Use name) = ap (λ t. Byte space ∷ t) (same name)
   item_forget node piece marks role NoUse = refl
 

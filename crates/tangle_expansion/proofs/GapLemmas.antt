@@ -22,7 +22,7 @@ front_by x xs [] n true gap is = (0, rw gap)
 front_by x xs [] n false gap is = (1, rw gap)
 front_by x xs (y ∷ ys) n u gap is = (suc n, ap (λ t. x ∷ t) is)
 
--- they are a front of the items
+-- they are a prefix of the items
 pub is_front : (xs : List Item) → (n : ℕ) × (without_end_gaps xs ≡ take n xs)
 is_front [] = (0, refl)
 is_front (x ∷ xs) = front_by x xs (without_end_gaps xs) (is_front xs).0 (is_gap_item x) refl (is_front xs).1

@@ -1,65 +1,65 @@
--- Each byte of a text is at its own place, over a whole output.
+-- Each byte of a text is at its own origin, over a whole output.
 use Rattle.std.proofs.Common.{◌≡◌, ◌∙◌, ℕ, ◌+◌, zero, suc, Bool, true, false, List, [], ◌∷◌, ◌++◌, map, drop, get_or, Option, None, Some, refl, ap, subst, arith}
 use Rattle.std.specs.Prelude.{filter, flat_map, if◌then◌else◌, slice_index_or}
 use Rattle.std.specs.List.{AllZip}
-use Rattle.tangle_lines.specs.declared.faults.Origin.{Origin}
-use Rattle.tangle_lines.specs.Reading.{Line, SourceRead, place_at}
+use Rattle.tangle_faults.specs.declared.faults.Origin.{Origin}
+use Rattle.tangle_lines.specs.Reading.{Line, SourceRead, origin_at}
 use Rattle.tangle_scan.specs.declared.items.Item.{Item}
 use Rattle.tangle_scan.specs.declared.items.Item.TheVariants as item
-use Rattle.tangle_scan.specs.LineTruth.{with_line_end, placed_items, Location, IsOwn, IsAtItsLine, piece_locations, PiecesAreAtTheirLines}
+use Rattle.tangle_scan.specs.LineTruth.{with_line_end, counted_items, Location, IsOwn, IsAtItsLine, piece_locations, PiecesAreAtTheirLines}
 use Rattle.tangle_scan.specs.Web.{WebRead, PieceRead}
 use Rattle.tangle_names.specs.declared.Resolved.{Resolved}
 use Rattle.tangle_names.specs.declared.Resolved.TheVariants.{Name, NoFullName, Ambiguous}
 use Rattle.tangle_names.specs.NameTable.{TableRead}
-use Rattle.tangle_expansion.specs.Shapes.{Title, Named}
-use Rattle.tangle_expansion.specs.Flat.{Byte, marks_behind}
-use Rattle.tangle_expansion.specs.WebShapes.{is_piece_of, use_of, resolved_at, ResolvesInside}
+use Rattle.tangle_plans.specs.Shapes.{Title, Named}
+use Rattle.tangle_plans.specs.Flat.{Byte, marks_behind}
+use Rattle.tangle_plans.specs.WebShapes.{is_piece_of, use_of, resolved_at, ResolvesInside}
 use Rattle.tangle_expansion.proofs.NumberLemmas.{node_numbers_of}
-use Rattle.tangle_expansion.specs.Numbers.{NumbersRead, PieceNumbersRead, no_place, no_numbers, numbers_of, node_numbers, numbers_at, place_of_mark, piece_numbers, item_places}
-use Rattle.tangle_expansion.specs.Location.{Own, Other, LocatedItem, LocatedSymbol, place_behind, AreAtTheirPlaces, located_items, located_pieces, located_shapes, located_item, items_located, pieces_located, located}
+use Rattle.tangle_expansion.specs.Numbers.{NumbersRead, PieceNumbersRead, no_origin, no_numbers, numbers_of, node_numbers, numbers_at, origin_of_mark, piece_numbers, item_origins}
+use Rattle.tangle_expansion.specs.Location.{Own, Other, LocatedItem, LocatedSymbol, origin_behind, AreAtTheirOrigins, located_items, located_pieces, located_shapes, located_item, items_located, pieces_located, located}
 use Rattle.tangle_files.specs.declared.marks.MarkMode.TheVariants.{Full}
 
--- where the first place is known, the second is the same
+-- where the first origin is known, the second is the same
 abbrev pub Agrees : Option Origin → Option Origin → Type 0
 Agrees None q = Unit {0}
-Agrees (Some place) q = q ≡ Some place
+Agrees (Some origin) q = q ≡ Some origin
 
 Agrees-line_end : (p q : Option Origin) → Agrees p q → Agrees (with_line_end p) (with_line_end q)
 Agrees-line_end None q h = tt
-Agrees-line_end (Some place) q h = ap with_line_end h
+Agrees-line_end (Some origin) q h = ap with_line_end h
 
-Agrees-at : (p q : Option Origin) (place : Origin) → Agrees p q → p ≡ Some place → q ≡ Some place
-Agrees-at p q place h e = subst (λ t. Agrees t q) e h
+Agrees-at : (p q : Option Origin) (origin : Origin) → Agrees p q → p ≡ Some origin → q ≡ Some origin
+Agrees-at p q origin h e = subst (λ t. Agrees t q) e h
 
 module _ (numbers : NumbersRead) where
-  pub located-append : (q : Option Origin) (xs ys : List LocatedSymbol) → AreAtTheirPlaces numbers q xs
-      → ((r : Option Origin) → AreAtTheirPlaces numbers r ys) → AreAtTheirPlaces numbers q (xs ++ ys)
+  pub located-append : (q : Option Origin) (xs ys : List LocatedSymbol) → AreAtTheirOrigins numbers q xs
+      → ((r : Option Origin) → AreAtTheirOrigins numbers r ys) → AreAtTheirOrigins numbers q (xs ++ ys)
   located-append q [] ys h k = k q
-  located-append q (x ∷ xs) ys h k = (h.0, located-append (place_behind numbers q x.symbol x.role) xs ys h.1 k)
+  located-append q (x ∷ xs) ys h k = (h.0, located-append (origin_behind numbers q x.symbol x.role) xs ys h.1 k)
 
-  text_is_located : (q : Option Origin) (place : Origin) (in_stretch : Bool) (bytes : List ℕ) (ys : List LocatedSymbol)
-      → (in_stretch ≡ false → q ≡ Some place) → AreAtTheirPlaces numbers q ys
-      → AreAtTheirPlaces numbers q (map (λ b. record { symbol = Byte b; role = Own place in_stretch }) bytes ++ ys)
-  text_is_located q place in_stretch [] ys own h = h
-  text_is_located q place in_stretch (b ∷ bytes) ys own h = (own, text_is_located q place in_stretch bytes ys own h)
+  text_is_located : (q : Option Origin) (origin : Origin) (in_stretch : Bool) (bytes : List ℕ) (ys : List LocatedSymbol)
+      → (in_stretch ≡ false → q ≡ Some origin) → AreAtTheirOrigins numbers q ys
+      → AreAtTheirOrigins numbers q (map (λ b. record { symbol = Byte b; role = Own origin in_stretch }) bytes ++ ys)
+  text_is_located q origin in_stretch [] ys own h = h
+  text_is_located q origin in_stretch (b ∷ bytes) ys own h = (own, text_is_located q origin in_stretch bytes ys own h)
 
   use_is_located : (table : TableRead) (used : List ℕ → List LocatedSymbol) (node : Title) (piece marks : ℕ) (items : List LocatedItem)
-      → ((name : List ℕ) (q : Option Origin) → AreAtTheirPlaces numbers q (used name))
-      → ((q : Option Origin) → AreAtTheirPlaces numbers q (items_located used node piece marks items))
+      → ((name : List ℕ) (q : Option Origin) → AreAtTheirOrigins numbers q (used name))
+      → ((q : Option Origin) → AreAtTheirOrigins numbers q (items_located used node piece marks items))
       → (q : Option Origin) (r : Resolved)
-      → AreAtTheirPlaces numbers q (located_item used node piece marks Other (use_of table r) ++ items_located used node piece (marks_behind marks (use_of table r)) items)
+      → AreAtTheirOrigins numbers q (located_item used node piece marks Other (use_of table r) ++ items_located used node piece (marks_behind marks (use_of table r)) items)
   use_is_located table used node piece marks items all h q (Name id) =
       (tt, located-append q (used (slice_index_or table.names id [])) (items_located used node piece marks items) (all (slice_index_or table.names id []) q) h)
   use_is_located table used node piece marks items all h q NoFullName = (tt, h q)
   use_is_located table used node piece marks items all h q Ambiguous = (tt, h q)
 
 -- the next mark of a piece
-next_mark : (marks : List Origin) (k : ℕ) (place : Origin) (places : List Origin) → drop k marks ≡ place ∷ places → (get_or marks k no_place ≡ place) × (drop (k + 1) marks ≡ places)
-next_mark [] zero place places e = absurd (cc)
-next_mark [] (suc k) place places e = absurd (cc)
-next_mark (m ∷ marks) zero place places e = (cc, cc)
-next_mark (m ∷ marks) (suc k) place places e =
-    let rest = next_mark marks k place places e in
+next_mark : (marks : List Origin) (k : ℕ) (origin : Origin) (origins : List Origin) → drop k marks ≡ origin ∷ origins → (get_or marks k no_origin ≡ origin) × (drop (k + 1) marks ≡ origins)
+next_mark [] zero origin origins e = absurd (cc)
+next_mark [] (suc k) origin origins e = absurd (cc)
+next_mark (m ∷ marks) zero origin origins e = (cc, cc)
+next_mark (m ∷ marks) (suc k) origin origins e =
+    let rest = next_mark marks k origin origins e in
     let more : suc k + 1 ≡ suc (k + 1) = omega arith in
     (rest.0, ap (λ j. drop j (m ∷ marks)) more ∙ rest.1)
 
@@ -73,81 +73,81 @@ next_numbers (n ∷ numbers) (suc k) first rest e =
     (next.0, ap (λ j. drop j (n ∷ numbers)) more ∙ next.1)
 
 module _ (numbers : NumbersRead) (full : numbers.marks ≡ Full) (texts : List (List ℕ)) (table : TableRead) (lines : List Line)
-    (used : List ℕ → List LocatedSymbol) (all : (name : List ℕ) (q : Option Origin) → AreAtTheirPlaces numbers q (used name)) where
+    (used : List ℕ → List LocatedSymbol) (all : (name : List ℕ) (q : Option Origin) → AreAtTheirOrigins numbers q (used name)) where
   items_are_located : (node : Title) (piece marks : ℕ) (p q : Option Origin) → Agrees p q → (items : List Item) (ss : List Location)
-      → drop (marks + 1) (numbers_at numbers node piece).marks ≡ flat_map item_places items
-      → AllZip (IsOwn lines) (placed_items p items) ss
-      → AreAtTheirPlaces numbers q (items_located used node piece marks (located_items texts table lines ss items))
-  items_are_located node piece marks p q agrees [] ss places own = (tt, tt)
-  items_are_located node piece marks p q agrees (item.Word span ∷ items) [] places own = elim own [ ]
-  items_are_located node piece marks p q agrees (item.Word span ∷ items) (s ∷ ss) places own =
-      text_is_located numbers q (place_at lines s.line) s.in_stretch _ _ (λ out. Agrees-at p q _ agrees (own.0.place out))
-      (items_are_located node piece marks p q agrees items ss places own.1)
-  items_are_located node piece marks p q agrees (item.Sign span ∷ items) [] places own = elim own [ ]
-  items_are_located node piece marks p q agrees (item.Sign span ∷ items) (s ∷ ss) places own =
-      text_is_located numbers q (place_at lines s.line) s.in_stretch _ _ (λ out. Agrees-at p q _ agrees (own.0.place out))
-      (items_are_located node piece marks p q agrees items ss places own.1)
-  items_are_located node piece marks p q agrees (item.Quoted span ∷ items) [] places own = elim own [ ]
-  items_are_located node piece marks p q agrees (item.Quoted span ∷ items) (s ∷ ss) places own =
-      text_is_located numbers q (place_at lines s.line) s.in_stretch _ _ (λ out. Agrees-at p q _ agrees (own.0.place out))
-      (items_are_located node piece marks p q agrees items ss places own.1)
-  items_are_located node piece marks p q agrees (item.Verbatim span ∷ items) [] places own = elim own [ ]
-  items_are_located node piece marks p q agrees (item.Verbatim span ∷ items) (s ∷ ss) places own =
-      text_is_located numbers q (place_at lines s.line) s.in_stretch _ _ (λ out. Agrees-at p q _ agrees (own.0.place out))
-      (items_are_located node piece marks p q agrees items ss places own.1)
-  items_are_located node piece marks p q agrees (item.Code value ∷ items) [] places own = elim own [ ]
-  items_are_located node piece marks p q agrees (item.Code value ∷ items) (s ∷ ss) places own =
-      text_is_located numbers q (place_at lines s.line) s.in_stretch _ _ (λ out. Agrees-at p q _ agrees (own.0.place out))
-      (items_are_located node piece marks p q agrees items ss places own.1)
-  items_are_located node piece marks p q agrees (item.QuoteBreak ∷ items) ss places own =
-      (tt, items_are_located node piece marks (with_line_end p) (with_line_end q) (Agrees-line_end p q agrees) items ss places own)
-  items_are_located node piece marks p q agrees (item.LineEnd ∷ items) ss places own =
-      (tt, items_are_located node piece marks (with_line_end p) (with_line_end q) (Agrees-line_end p q agrees) items ss places own)
-  items_are_located node piece marks p q agrees (item.Blank ∷ items) ss places own =
-      (tt, items_are_located node piece marks p q agrees items ss places own)
-  items_are_located node piece marks p q agrees (item.LineMark place ∷ items) ss places own =
-      let next = next_mark (numbers_at numbers node piece).marks (marks + 1) place (flat_map item_places items) places in
-      rw full (tt, items_are_located node piece (marks + 1) (Some place) (Some (place_of_mark numbers node piece (marks + 1))) (ap Some next.0) items ss next.1 own)
-  items_are_located node piece marks p q agrees (item.UseOf occurrence ∷ items) ss places own =
+      → drop (marks + 1) (numbers_at numbers node piece).marks ≡ flat_map item_origins items
+      → AllZip (IsOwn lines) (counted_items p items) ss
+      → AreAtTheirOrigins numbers q (items_located used node piece marks (located_items texts table lines ss items))
+  items_are_located node piece marks p q agrees [] ss origins own = (tt, tt)
+  items_are_located node piece marks p q agrees (item.Word span ∷ items) [] origins own = elim own [ ]
+  items_are_located node piece marks p q agrees (item.Word span ∷ items) (s ∷ ss) origins own =
+      text_is_located numbers q (origin_at lines s.line) s.in_stretch _ _ (λ out. Agrees-at p q _ agrees (own.0.origin out))
+      (items_are_located node piece marks p q agrees items ss origins own.1)
+  items_are_located node piece marks p q agrees (item.Sign span ∷ items) [] origins own = elim own [ ]
+  items_are_located node piece marks p q agrees (item.Sign span ∷ items) (s ∷ ss) origins own =
+      text_is_located numbers q (origin_at lines s.line) s.in_stretch _ _ (λ out. Agrees-at p q _ agrees (own.0.origin out))
+      (items_are_located node piece marks p q agrees items ss origins own.1)
+  items_are_located node piece marks p q agrees (item.Quoted span ∷ items) [] origins own = elim own [ ]
+  items_are_located node piece marks p q agrees (item.Quoted span ∷ items) (s ∷ ss) origins own =
+      text_is_located numbers q (origin_at lines s.line) s.in_stretch _ _ (λ out. Agrees-at p q _ agrees (own.0.origin out))
+      (items_are_located node piece marks p q agrees items ss origins own.1)
+  items_are_located node piece marks p q agrees (item.Verbatim span ∷ items) [] origins own = elim own [ ]
+  items_are_located node piece marks p q agrees (item.Verbatim span ∷ items) (s ∷ ss) origins own =
+      text_is_located numbers q (origin_at lines s.line) s.in_stretch _ _ (λ out. Agrees-at p q _ agrees (own.0.origin out))
+      (items_are_located node piece marks p q agrees items ss origins own.1)
+  items_are_located node piece marks p q agrees (item.Code value ∷ items) [] origins own = elim own [ ]
+  items_are_located node piece marks p q agrees (item.Code value ∷ items) (s ∷ ss) origins own =
+      text_is_located numbers q (origin_at lines s.line) s.in_stretch _ _ (λ out. Agrees-at p q _ agrees (own.0.origin out))
+      (items_are_located node piece marks p q agrees items ss origins own.1)
+  items_are_located node piece marks p q agrees (item.QuoteBreak ∷ items) ss origins own =
+      (tt, items_are_located node piece marks (with_line_end p) (with_line_end q) (Agrees-line_end p q agrees) items ss origins own)
+  items_are_located node piece marks p q agrees (item.LineEnd ∷ items) ss origins own =
+      (tt, items_are_located node piece marks (with_line_end p) (with_line_end q) (Agrees-line_end p q agrees) items ss origins own)
+  items_are_located node piece marks p q agrees (item.Blank ∷ items) ss origins own =
+      (tt, items_are_located node piece marks p q agrees items ss origins own)
+  items_are_located node piece marks p q agrees (item.LineMark origin ∷ items) ss origins own =
+      let next = next_mark (numbers_at numbers node piece).marks (marks + 1) origin (flat_map item_origins items) origins in
+      rw full (tt, items_are_located node piece (marks + 1) (Some origin) (Some (origin_of_mark numbers node piece (marks + 1))) (ap Some next.0) items ss next.1 own)
+  items_are_located node piece marks p q agrees (item.UseOf occurrence ∷ items) ss origins own =
       use_is_located numbers table used node piece marks (located_items texts table lines ss items) all
-      (λ r. items_are_located node piece marks None r tt items ss places own) q (resolved_at table occurrence)
-  items_are_located node piece marks p q agrees (item.Defs ∷ items) ss places own =
-      (tt, items_are_located node piece marks None None tt items ss places own)
+      (λ r. items_are_located node piece marks None r tt items ss origins own) q (resolved_at table occurrence)
+  items_are_located node piece marks p q agrees (item.Defs ∷ items) ss origins own =
+      (tt, items_are_located node piece marks None None tt items ss origins own)
 
   -- the pieces of a node, from the one on that has this number among them
   pieces_are_located : (node : Title) (piece : ℕ) (pieces : List PieceRead) (text_lines : List (List Location))
       → drop piece (node_numbers numbers node) ≡ map piece_numbers (filter (is_piece_of table node) pieces)
-      → AllZip (λ p e. IsAtItsLine lines p.place p.items e) pieces text_lines
-      → (q : Option Origin) → AreAtTheirPlaces numbers q (pieces_located used node piece (located_pieces texts table lines node pieces text_lines))
-  pieces_are_located node piece [] text_lines places own q = tt
-  pieces_are_located node piece (p ∷ pieces) [] places own q = elim own [ ]
-  pieces_are_located node piece (p ∷ pieces) (e ∷ text_lines) places own q =
-      by (is_piece_of table node p) places (λ n h r. pieces_are_located node n pieces text_lines h own.1 r)
+      → AllZip (λ p e. IsAtItsLine lines p.origin p.items e) pieces text_lines
+      → (q : Option Origin) → AreAtTheirOrigins numbers q (pieces_located used node piece (located_pieces texts table lines node pieces text_lines))
+  pieces_are_located node piece [] text_lines origins own q = tt
+  pieces_are_located node piece (p ∷ pieces) [] origins own q = elim own [ ]
+  pieces_are_located node piece (p ∷ pieces) (e ∷ text_lines) origins own q =
+      by (is_piece_of table node p) origins (λ n h r. pieces_are_located node n pieces text_lines h own.1 r)
     where
       by : (t : Bool) → drop piece (node_numbers numbers node) ≡ map piece_numbers (if t then p ∷ filter (is_piece_of table node) pieces else filter (is_piece_of table node) pieces)
           → ((n : ℕ) → drop n (node_numbers numbers node) ≡ map piece_numbers (filter (is_piece_of table node) pieces)
-          → (r : Option Origin) → AreAtTheirPlaces numbers r (pieces_located used node n (located_pieces texts table lines node pieces text_lines)))
-          → AreAtTheirPlaces numbers q (pieces_located used node piece
+          → (r : Option Origin) → AreAtTheirOrigins numbers r (pieces_located used node n (located_pieces texts table lines node pieces text_lines)))
+          → AreAtTheirOrigins numbers q (pieces_located used node piece
           (if t then located_items texts table lines e p.items ∷ located_pieces texts table lines node pieces text_lines else located_pieces texts table lines node pieces text_lines))
       by true is more =
           let next = next_numbers (node_numbers numbers node) piece (piece_numbers p) (map piece_numbers (filter (is_piece_of table node) pieces)) is in
-          let mark : place_of_mark numbers node piece 0 ≡ p.place = ap (λ n. get_or n.marks 0 no_place) next.0 in
-          let marks : drop (0 + 1) (numbers_at numbers node piece).marks ≡ flat_map item_places p.items = ap (λ n. drop 1 n.marks) next.0 in rw full (
+          let mark : origin_of_mark numbers node piece 0 ≡ p.origin = ap (λ n. get_or n.marks 0 no_origin) next.0 in
+          let marks : drop (0 + 1) (numbers_at numbers node piece).marks ≡ flat_map item_origins p.items = ap (λ n. drop 1 n.marks) next.0 in rw full (
             tt,
             (
               tt,
-              located-append numbers (Some (place_of_mark numbers node piece 0)) _ _
-                  (items_are_located node piece 0 (Some p.place) (Some (place_of_mark numbers node piece 0)) (ap Some mark) p.items
+              located-append numbers (Some (origin_of_mark numbers node piece 0)) _ _
+                  (items_are_located node piece 0 (Some p.origin) (Some (origin_of_mark numbers node piece 0)) (ap Some mark) p.items
                   e marks own.0)
                   (λ r. more (piece + 1) next.1 r),
             ),
           )
       by false is more = more piece is q
 
--- what a node expands to, with any fuel and from any place of the compiler on
+-- what a node expands to, with any fuel and from any origin of the compiler on
 pub node_is_located : (source : SourceRead) (web : WebRead) (table : TableRead) → ResolvesInside table → PiecesAreAtTheirLines source web
     → (fuel : ℕ) (node : Title) (q : Option Origin)
-    → AreAtTheirPlaces (numbers_of web table Full) q (located fuel (located_shapes source web table) node)
+    → AreAtTheirOrigins (numbers_of web table Full) q (located fuel (located_shapes source web table) node)
 node_is_located source web table inside own zero node q = tt
 node_is_located source web table inside own (suc fuel) node q =
     pieces_are_located (numbers_of web table Full) refl web.texts table source.lines (λ name. located fuel (located_shapes source web table) (Named name))

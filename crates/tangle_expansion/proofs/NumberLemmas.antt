@@ -10,8 +10,8 @@ use Rattle.tangle_scan.specs.Web.{WebRead, PieceRead}
 use Rattle.tangle_names.specs.declared.Resolved.{Resolved}
 use Rattle.tangle_names.specs.declared.Resolved.TheVariants.{Name, NoFullName, Ambiguous}
 use Rattle.tangle_names.specs.NameTable.{TableRead}
-use Rattle.tangle_expansion.specs.Shapes.{Title, Program, Named}
-use Rattle.tangle_expansion.specs.WebShapes.{is_node, node_of, node_of_name, is_piece_of, pieces_of, resolved_at, IsNameBelow, ResolvesInside}
+use Rattle.tangle_plans.specs.Shapes.{Title, Program, Named}
+use Rattle.tangle_plans.specs.WebShapes.{is_node, node_of, node_of_name, is_piece_of, pieces_of, resolved_at, IsNameBelow, ResolvesInside}
 use Rattle.tangle_expansion.specs.Numbers.{piece_numbers, numbers_of, node_numbers}
 use Rattle.tangle_files.specs.declared.marks.MarkMode.{MarkMode}
 

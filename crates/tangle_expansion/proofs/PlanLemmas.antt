@@ -1,18 +1,15 @@
 -- How the writing of a plan goes on by a step.
-use Rattle.std.proofs.Common.{◌≡◌, ◌∙◌, ℕ, ◌+◌, ◌<◌, ◌≤◌, suc, true, false, List, [], ◌∷◌, ◌++◌, map, drop, length, get_or, refl, ap, sym, append_assoc, arith, drop-cons, add-one}
+use Rattle.std.proofs.Common.{◌≡◌, ◌∙◌, ℕ, ◌+◌, ◌<◌, ◌≤◌, true, false, List, [], ◌∷◌, ◌++◌, map, drop, length, get_or, refl, ap, sym, append_assoc, arith}
 use Rattle.std.specs.Prelude.{if◌then◌else◌}
-use Rattle.std.proofs.lemmas.List.{at_drop_all}
-use Rattle.tangle_expansion.specs.Shapes.{Title}
+use Rattle.tangle_plans.specs.Shapes.{Title}
 use Rattle.tangle_files.specs.Bytes.{space}
-use Rattle.tangle_expansion.specs.Flat.{Symbol, Byte, Opening, MarkOf, Closing, AllMacros}
+use Rattle.tangle_plans.specs.Flat.{Symbol, Byte, Opening, MarkOf, Closing, AllMacros}
 use Rattle.tangle_expansion.specs.Numbers.{NumbersRead, text}
-use Rattle.tangle_expansion.specs.Meaning.{bytes_between, plan_flat, is_use, pieces_passed, marks_passed, bytes_passed, own_symbols, before_use, Rest, behind_use}
-use Rattle.tangle_expansion.specs.declared.expansion.Step.{Step}
-use Rattle.tangle_expansion.specs.declared.expansion.Step.TheVariants as step
+use Rattle.tangle_plans.specs.Meaning.{bytes_between, plan_flat, is_use, pieces_passed, marks_passed, bytes_passed, own_symbols, before_use, Rest, behind_use}
+use Rattle.tangle_plans.specs.declared.steps.Step.{Step}
+use Rattle.tangle_plans.specs.declared.steps.Step.TheVariants as step
 use Rattle.tangle_expansion.proofs.TextLemmas.{text-append}
-
-pub drop_at : {X : Type 0} (xs : List X) (i : ℕ) (x : X) → i < length xs → x ≡ get_or xs i x → drop i xs ≡ x ∷ drop (i + 1) xs
-drop_at xs i x h e = drop-cons xs i x h ∙ ap (λ v. v ∷ drop (suc i) xs) (sym e) ∙ ap (λ j. x ∷ drop j xs) (sym (add-one i))
+use Rattle.tangle_plans.proofs.DropLemmas.{drop_at, drop_all}
 
 -- a step that is no use
 pub record GoesOn (numbers : NumbersRead) (node : Title) (bytes : List ℕ) (plan : List Step) (piece marks start i : ℕ) (s : Step) (piece' marks' start' i' : ℕ) : Type 0 where
@@ -44,7 +41,7 @@ stays piece marks start (step.Use id) e = (refl, refl, refl)
 stays piece marks start step.Open e = absurd (cc)
 stays piece marks start (step.Run end) e = absurd (cc)
 stays piece marks start step.Mark e = absurd (cc)
-stays piece marks start step.Macros e = absurd (cc)
+stays piece marks start step.AllMacros e = absurd (cc)
 stays piece marks start step.Space e = absurd (cc)
 stays piece marks start step.Close e = absurd (cc)
 
@@ -66,9 +63,6 @@ stops_at_use numbers node bytes plan piece marks start i s piece' marks' start' 
           ∙ ap (λ t. if t then record { piece = piece; marks = marks; start = start; plan = drop (i + 1) plan } else behind_use (pieces_passed piece s) (marks_passed marks s) (bytes_passed start s) (drop (i + 1) plan)) used;
     })
 
-pub drop_all : {X : Type 0} (xs : List X) (i : ℕ) → length xs ≤ i → drop i xs ≡ []
-drop_all xs i h = at_drop_all (λ l. l) xs i h
-
 pub stops_at_end : (numbers : NumbersRead) (node : Title) (bytes : List ℕ) (plan : List Step) (piece marks start i : ℕ) → length plan ≤ i
     → StopsAtUse numbers node bytes plan piece marks start i piece marks start i
 stops_at_end numbers node bytes plan piece marks start i h =
@@ -84,7 +78,7 @@ plan_none node bytes piece marks start [] = refl
 plan_none node bytes piece marks start (step.Open ∷ plan) = ap (λ l. Opening node piece ∷ MarkOf node piece 0 ∷ l) (plan_none node bytes piece 0 start plan)
 plan_none node bytes piece marks start (step.Run end ∷ plan) = ap (λ l. map Byte (bytes_between bytes start end) ++ l) (plan_none node bytes piece marks end plan)
 plan_none node bytes piece marks start (step.Mark ∷ plan) = ap (λ l. MarkOf node piece (marks + 1) ∷ l) (plan_none node bytes piece (marks + 1) start plan)
-plan_none node bytes piece marks start (step.Macros ∷ plan) = ap (λ l. AllMacros ∷ l) (plan_none node bytes piece marks start plan)
+plan_none node bytes piece marks start (step.AllMacros ∷ plan) = ap (λ l. AllMacros ∷ l) (plan_none node bytes piece marks start plan)
 plan_none node bytes piece marks start (step.Space ∷ plan) = ap (λ l. Byte space ∷ l) (plan_none node bytes piece marks start plan)
 plan_none node bytes piece marks start (step.Use id ∷ plan) = refl
 plan_none node bytes piece marks start (step.Close ∷ plan) = ap (λ l. Closing node piece ∷ l) (plan_none node bytes (piece + 1) 0 start plan)
@@ -102,7 +96,7 @@ plan_some node bytes piece marks start (step.Run end ∷ plan) symbols used =
     ap (λ l. map Byte (bytes_between bytes start end) ++ l) (plan_some node bytes piece marks end plan symbols used)
     ∙ sym (append_assoc (map Byte (bytes_between bytes start end)) (before_use node bytes piece marks end plan) (Byte space ∷ symbols ++ rest_flat node bytes (behind_use piece marks end plan) used))
 plan_some node bytes piece marks start (step.Mark ∷ plan) symbols used = ap (λ l. MarkOf node piece (marks + 1) ∷ l) (plan_some node bytes piece (marks + 1) start plan symbols used)
-plan_some node bytes piece marks start (step.Macros ∷ plan) symbols used = ap (λ l. AllMacros ∷ l) (plan_some node bytes piece marks start plan symbols used)
+plan_some node bytes piece marks start (step.AllMacros ∷ plan) symbols used = ap (λ l. AllMacros ∷ l) (plan_some node bytes piece marks start plan symbols used)
 plan_some node bytes piece marks start (step.Space ∷ plan) symbols used = ap (λ l. Byte space ∷ l) (plan_some node bytes piece marks start plan symbols used)
 plan_some node bytes piece marks start (step.Use id ∷ plan) symbols used = refl
 plan_some node bytes piece marks start (step.Close ∷ plan) symbols used = ap (λ l. Closing node piece ∷ l) (plan_some node bytes (piece + 1) 0 start plan symbols used)

@@ -1,8 +1,8 @@
 -- What a node expands to follows from the shapes that it reaches.
 use Rattle.std.proofs.Common.{◌≡◌, ◌∙◌, ℕ, ◌+◌, ◌<◌, ◌≤◌, zero, suc, min, List, [], ◌∷◌, ◌++◌, refl, ap, sym, inl, inr, arith}
 use Rattle.tangle_files.specs.Bytes.{space}
-use Rattle.tangle_expansion.specs.Shapes.{Title, Named, ShapeItem, Written, Mark, Macros, Use, NoUse, Shape, Shapes, IsUseOf, UsesInPiece, UsesInShape, Uses, Reaches, here, on, ContainsItself}
-use Rattle.tangle_expansion.specs.Flat.{Symbol, Byte, Opening, MarkOf, marks_behind, item_flat, items_flat, pieces_flat, flat, item_weight, items_weight, pieces_weight, weight, item_depth, items_depth, pieces_depth, depth}
+use Rattle.tangle_plans.specs.Shapes.{Title, Named, ShapeItem, Written, Mark, AllMacros, Use, NoUse, Shape, Shapes, IsUseOf, UsesInPiece, UsesInShape, Uses, Reaches, here, on, ContainsItself}
+use Rattle.tangle_plans.specs.Flat.{Symbol, Byte, Opening, MarkOf, marks_behind, item_flat, items_flat, pieces_flat, flat, item_weight, items_weight, pieces_weight, weight, item_depth, items_depth, pieces_depth, depth}
 
 -- what is said of an item, of a piece and of a shape by what is said of the names that it uses
 
@@ -10,7 +10,7 @@ item_flat-same : (f g : List ℕ → List Symbol) (node : Title) (piece marks : 
     → item_flat f node piece marks item ≡ item_flat g node piece marks item
 item_flat-same f g node piece marks (Written kind bytes) same = refl
 item_flat-same f g node piece marks Mark same = refl
-item_flat-same f g node piece marks Macros same = refl
+item_flat-same f g node piece marks AllMacros same = refl
 item_flat-same f g node piece marks (Use name) same = ap (λ l. Byte space ∷ l) (same name refl)
 item_flat-same f g node piece marks NoUse same = refl
 
@@ -33,7 +33,7 @@ item_weight-alike : (cap : ℕ) (f g : List ℕ → ℕ) (item : ShapeItem) → 
     → min cap (item_weight f item) ≡ min cap (item_weight g item)
 item_weight-alike cap f g (Written kind bytes) same = refl
 item_weight-alike cap f g Mark same = refl
-item_weight-alike cap f g Macros same = refl
+item_weight-alike cap f g AllMacros same = refl
 item_weight-alike cap f g (Use name) same = same name refl
 item_weight-alike cap f g NoUse same = refl
 
@@ -53,7 +53,7 @@ item_depth-alike : (cap : ℕ) (f g : List ℕ → ℕ) (item : ShapeItem) → (
     → min cap (item_depth f item) ≡ min cap (item_depth g item)
 item_depth-alike cap f g (Written kind bytes) same = refl
 item_depth-alike cap f g Mark same = refl
-item_depth-alike cap f g Macros same = refl
+item_depth-alike cap f g AllMacros same = refl
 item_depth-alike cap f g (Use name) same = same name refl
 item_depth-alike cap f g NoUse same = refl
 
@@ -74,7 +74,7 @@ pieces_depth-alike cap f g (items ∷ pieces) same =
 item_depth-use : (f : List ℕ → ℕ) (item : ShapeItem) (name : List ℕ) → IsUseOf item name → f name ≤ item_depth f item
 item_depth-use f (Written kind bytes) name u = elim u [ ]
 item_depth-use f Mark name u = elim u [ ]
-item_depth-use f Macros name u = elim u [ ]
+item_depth-use f AllMacros name u = elim u [ ]
 item_depth-use f (Use other) name u = let same : f other ≡ f name = ap f u in omega arith
 item_depth-use f NoUse name u = elim u [ ]
 
@@ -95,7 +95,7 @@ pieces_depth-use f (items ∷ pieces) name u = elim u [
 item_weight-use : (f : List ℕ → ℕ) (item : ShapeItem) (name : List ℕ) → IsUseOf item name → suc (f name) ≤ item_weight f item
 item_weight-use f (Written kind bytes) name u = elim u [ ]
 item_weight-use f Mark name u = elim u [ ]
-item_weight-use f Macros name u = elim u [ ]
+item_weight-use f AllMacros name u = elim u [ ]
 item_weight-use f (Use other) name u = let same : f other ≡ f name = ap f u in omega arith
 item_weight-use f NoUse name u = elim u [ ]
 
@@ -118,7 +118,7 @@ pieces_weight-use f (items ∷ pieces) name u = elim u [
 item_depth-bound : (cap : ℕ) (f : List ℕ → ℕ) (item : ShapeItem) → ((name : List ℕ) → f name ≤ cap) → item_depth f item ≤ cap
 item_depth-bound cap f (Written kind bytes) h = omega arith
 item_depth-bound cap f Mark h = omega arith
-item_depth-bound cap f Macros h = omega arith
+item_depth-bound cap f AllMacros h = omega arith
 item_depth-bound cap f (Use name) h = h name
 item_depth-bound cap f NoUse h = omega arith
 

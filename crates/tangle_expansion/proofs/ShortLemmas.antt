@@ -7,10 +7,10 @@ use Rattle.std.specs.Str.{bytes_eq}
 use Rattle.std.specs.List.{AllByRecursion}
 use Rattle.std.proofs.lemmas.Fmt.{length-decimal-le}
 use Rattle.std.proofs.Math.Nat.{mul-le-mul_right}
-use Rattle.tangle_expansion.specs.Shapes.{Title, Program, Named}
-use Rattle.tangle_expansion.specs.Flat.{Symbol, Byte, Opening, MarkOf, Closing, AllMacros}
+use Rattle.tangle_plans.specs.Shapes.{Title, Program, Named}
+use Rattle.tangle_plans.specs.Flat.{Symbol, Byte, Opening, MarkOf, Closing, AllMacros}
 use Rattle.tangle_expansion.specs.Limits.{heaviest}
-use Rattle.tangle_expansion.specs.Numbers.{PieceNumbersRead, NumbersRead, no_numbers, no_place, node_numbers, numbers_at, place_of_mark, opening_text, closing_text, mark_text, marked_text, symbol_text, text}
+use Rattle.tangle_expansion.specs.Numbers.{PieceNumbersRead, NumbersRead, no_numbers, no_origin, node_numbers, numbers_at, origin_of_mark, opening_text, closing_text, mark_text, marked_text, symbol_text, text}
 use Rattle.tangle_files.specs.declared.marks.MarkMode.{MarkMode}
 use Rattle.tangle_files.specs.declared.marks.MarkMode.TheVariants.{Full, Bare}
 use Rattle.tangle_expansion.specs.TextLimits.{longest_symbol, SymbolsAreShort, IsLow, IsShort, EntryIsShort, AreShort}
@@ -69,8 +69,8 @@ module _ (numbers : NumbersRead) (h : AreShort numbers) where
   piece_short : (node : Title) (piece : ℕ) → IsShort (numbers_at numbers node piece)
   piece_short node piece = all_or IsShort (node_numbers numbers node) no_numbers none_short (node_short node) piece
 
-  place_low : (node : Title) (piece mark : ℕ) → IsLow (place_of_mark numbers node piece mark)
-  place_low node piece mark = all_or IsLow (numbers_at numbers node piece).marks no_place (omega arith) (piece_short node piece).marks mark
+  origin_low : (node : Title) (piece mark : ℕ) → IsLow (origin_of_mark numbers node piece mark)
+  origin_low node piece mark = all_or IsLow (numbers_at numbers node piece).marks no_origin (omega arith) (piece_short node piece).marks mark
 
   file_short : (file : ℕ) → length (get_or numbers.file_names file []) < 2 ^ 64
   file_short file = all_or (λ (name : List ℕ). length name < 2 ^ 64) numbers.file_names [] (omega arith) h.file_names file
@@ -80,8 +80,8 @@ module _ (numbers : NumbersRead) (h : AreShort numbers) where
   symbols_short (Byte b) = omega arith
   symbols_short (Opening node piece) = opening_short (numbers_at numbers node piece).section (piece_short node piece).section
   symbols_short (MarkOf node piece mark) =
-      let place = place_of_mark numbers node piece mark in
-      marked_short numbers.marks (get_or numbers.file_names place.file []) place.line (file_short place.file) (place_low node piece mark)
+      let origin = origin_of_mark numbers node piece mark in
+      marked_short numbers.marks (get_or numbers.file_names origin.file []) origin.line (file_short origin.file) (origin_low node piece mark)
   symbols_short (Closing node piece) = closing_short (numbers_at numbers node piece).section (piece_short node piece).section
   symbols_short AllMacros = omega (arith, h.macros)
 

@@ -2,10 +2,10 @@
 use Rattle.std.proofs.Common.{◌*◌, arith, length-append, ◌≡◌, ◌∙◌, ℕ, ◌≤◌, List, [], ◌∷◌, ◌++◌, map, length, get_or, refl, ap, sym, append_assoc, append-nil}
 use native.Mathlib.Nat.{suc-mul}
 use Rattle.std.specs.List.{AllByRecursion}
-use Rattle.tangle_expansion.specs.Shapes.{Title}
-use Rattle.tangle_lines.specs.declared.faults.Origin.{Origin}
-use Rattle.tangle_expansion.specs.Flat.{Symbol, Byte, MarkOf, Closing, AllMacros}
-use Rattle.tangle_expansion.specs.Numbers.{NumbersRead, PieceNumbersRead, no_numbers, no_place, node_numbers, numbers_at, place_of_mark, place_text, closing_text, symbol_text, text}
+use Rattle.tangle_plans.specs.Shapes.{Title}
+use Rattle.tangle_faults.specs.declared.faults.Origin.{Origin}
+use Rattle.tangle_plans.specs.Flat.{Symbol, Byte, MarkOf, Closing, AllMacros}
+use Rattle.tangle_expansion.specs.Numbers.{NumbersRead, PieceNumbersRead, no_numbers, no_origin, node_numbers, numbers_at, origin_of_mark, origin_text, closing_text, symbol_text, text}
 
 pub text-append : (numbers : NumbersRead) (xs ys : List Symbol) → text numbers (xs ++ ys) ≡ text numbers xs ++ text numbers ys
 text-append numbers [] ys = refl
@@ -17,10 +17,10 @@ text-bytes numbers [] = refl
 text-bytes numbers (b ∷ bytes) = ap (λ t. b ∷ t) (text-bytes numbers bytes)
 
 -- what is written for a symbol
-pub mark_written : (numbers : NumbersRead) (node : Title) (pieces : List PieceNumbersRead) (piece mark : ℕ) (place : Origin) → pieces ≡ node_numbers numbers node
-    → place ≡ get_or (get_or pieces piece no_numbers).marks mark no_place → place_text numbers place ≡ text numbers (MarkOf node piece mark ∷ [])
-mark_written numbers node pieces piece mark place ours is =
-    ap (place_text numbers) (is ∙ ap (λ ps. get_or (get_or ps piece no_numbers).marks mark no_place) ours) ∙ sym (append-nil (place_text numbers (place_of_mark numbers node piece mark)))
+pub mark_written : (numbers : NumbersRead) (node : Title) (pieces : List PieceNumbersRead) (piece mark : ℕ) (origin : Origin) → pieces ≡ node_numbers numbers node
+    → origin ≡ get_or (get_or pieces piece no_numbers).marks mark no_origin → origin_text numbers origin ≡ text numbers (MarkOf node piece mark ∷ [])
+mark_written numbers node pieces piece mark origin ours is =
+    ap (origin_text numbers) (is ∙ ap (λ ps. get_or (get_or ps piece no_numbers).marks mark no_origin) ours) ∙ sym (append-nil (origin_text numbers (origin_of_mark numbers node piece mark)))
 
 pub closing_written : (numbers : NumbersRead) (node : Title) (pieces : List PieceNumbersRead) (piece section : ℕ) → pieces ≡ node_numbers numbers node
     → section ≡ (get_or pieces piece no_numbers).section → closing_text section ≡ text numbers (Closing node piece ∷ [])

@@ -4,8 +4,8 @@ use mathlib.Core.HLevel.{Discrete, ×_discrete}
 use mathlib.Core.List.{List-discrete}
 use native.Mathlib.Decide.{ℕ_discrete}
 use Rattle.std.proofs.Math.Decide.{map_dec}
-use Rattle.tangle_expansion.specs.Shapes.{Title, Kind, Word, Sign, Quoted, QuoteBreak, Verbatim, AsciiConstant, Blank, LineEnd, ShapeItem, Written, Mark, Macros, Use, NoUse, Shape, Shapes, here}
-use Rattle.tangle_expansion.specs.Flat.{flat, weight}
+use Rattle.tangle_plans.specs.Shapes.{Title, Kind, Word, Sign, Quoted, QuoteBreak, Verbatim, AsciiConstant, Blank, LineEnd, ShapeItem, Written, Mark, AllMacros, Use, NoUse, Shape, Shapes, here}
+use Rattle.tangle_plans.specs.Flat.{flat, weight}
 use Rattle.tangle_expansion.specs.Affected.{IsExpandable, IsAffected}
 use Rattle.tangle_expansion.proofs.SameShapes.{SameReached, flat-same, depth-same, ReachesCycle, cycle_deep}
 use Rattle.tangle_expansion.proofs.Weights.{weight-length}
@@ -46,14 +46,14 @@ tagged_kind-tag LineEnd = refl
 item_tag : ShapeItem → ℕ × (ℕ × List ℕ)
 item_tag (Written kind bytes) = (0, (kind_tag kind, bytes))
 item_tag Mark = (1, (0, []))
-item_tag Macros = (2, (0, []))
+item_tag AllMacros = (2, (0, []))
 item_tag (Use name) = (3, (0, name))
 item_tag NoUse = (4, (0, []))
 
 tagged_item : ℕ × (ℕ × List ℕ) → ShapeItem
 tagged_item (zero, (k, bytes)) = Written (tagged_kind k) bytes
 tagged_item (suc zero, rest) = Mark
-tagged_item (suc (suc zero), rest) = Macros
+tagged_item (suc (suc zero), rest) = AllMacros
 tagged_item (suc (suc (suc zero)), (k, name)) = Use name
 tagged_item (suc (suc (suc (suc n))), rest) = NoUse
 
@@ -61,7 +61,7 @@ tagged_item-tag : (x : ShapeItem) → tagged_item (item_tag x) ≡ x
 unfolding tagged_item item_tag
 tagged_item-tag (Written kind bytes) = ap (λ k. Written k bytes) (tagged_kind-tag kind)
 tagged_item-tag Mark = refl
-tagged_item-tag Macros = refl
+tagged_item-tag AllMacros = refl
 tagged_item-tag (Use name) = refl
 tagged_item-tag NoUse = refl
 

@@ -5,13 +5,13 @@ use Rattle.std.proofs.lemmas.List.{map-append}
 use Rattle.std.proofs.lemmas.List.Elements.{Contains-append_left, Contains-append_right}
 use Rattle.std.proofs.lemmas.Grind.{flat_map-append}
 use Rattle.tangle_files.specs.Bytes.{space}
-use Rattle.tangle_expansion.specs.Shapes.{Title}
-use Rattle.tangle_expansion.specs.Flat.{Symbol, Byte, Opening, MarkOf, Closing, AllMacros}
-use Rattle.tangle_expansion.specs.Meaning.{bytes_between, plan_flat}
-use Rattle.tangle_expansion.specs.Slots.{Own, slots, filled_slot, filled, step_uses, uses_of}
-use Rattle.tangle_expansion.specs.declared.expansion.Step.{Step}
-use Rattle.tangle_expansion.specs.declared.expansion.Step.TheVariants as step
-use Rattle.tangle_expansion.proofs.PlanLemmas.{drop_at, drop_all}
+use Rattle.tangle_plans.specs.Shapes.{Title}
+use Rattle.tangle_plans.specs.Flat.{Symbol, Byte, Opening, MarkOf, Closing, AllMacros}
+use Rattle.tangle_plans.specs.Meaning.{bytes_between, plan_flat}
+use Rattle.tangle_plans.specs.Slots.{Own, slots, filled_slot, filled, step_uses, uses_of}
+use Rattle.tangle_plans.specs.declared.steps.Step.{Step}
+use Rattle.tangle_plans.specs.declared.steps.Step.TheVariants as step
+use Rattle.tangle_plans.proofs.DropLemmas.{drop_at, drop_all}
 
 pub used_in_plan : (plan seen : List Step) (i : ℕ) (d : Step) (id : ℕ) → seen ≡ plan → i < length seen → Contains (step_uses (get_or seen i d)) id → Contains (uses_of plan) id
 used_in_plan plan seen i d id same h c = subst (λ l. Contains (uses_of l) id) same (among seen i h c)
@@ -52,7 +52,7 @@ plan_filled symbols node text piece marks start (step.Run end ∷ plan) =
     ∙ ap (λ l. l ++ filled symbols (slots node text piece marks end plan)) (sym (bytes_filled symbols (bytes_between text start end)))
     ∙ sym (flat_map-append (filled_slot symbols) (map (λ b. Own (Byte b)) (bytes_between text start end)) (slots node text piece marks end plan))
 plan_filled symbols node text piece marks start (step.Mark ∷ plan) = ap (λ l. MarkOf node piece (marks + 1) ∷ l) (plan_filled symbols node text piece (marks + 1) start plan)
-plan_filled symbols node text piece marks start (step.Macros ∷ plan) = ap (λ l. AllMacros ∷ l) (plan_filled symbols node text piece marks start plan)
+plan_filled symbols node text piece marks start (step.AllMacros ∷ plan) = ap (λ l. AllMacros ∷ l) (plan_filled symbols node text piece marks start plan)
 plan_filled symbols node text piece marks start (step.Space ∷ plan) = ap (λ l. Byte space ∷ l) (plan_filled symbols node text piece marks start plan)
 plan_filled symbols node text piece marks start (step.Use id ∷ plan) = ap (λ l. Byte space ∷ symbols id ++ l) (plan_filled symbols node text piece marks start plan)
 plan_filled symbols node text piece marks start (step.Close ∷ plan) = ap (λ l. Closing node piece ∷ l) (plan_filled symbols node text (piece + 1) 0 start plan)

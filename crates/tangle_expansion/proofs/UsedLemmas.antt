@@ -1,13 +1,13 @@
 -- What a used name expands to is shorter and less deep than what its user does.
 use Rattle.std.proofs.Common.{◌+◌, ◌<◌, ◌≤◌, ℕ, List, [], ◌∷◌, length, ap, inl, inr, arith, length-append}
-use Rattle.tangle_expansion.specs.Shapes.{Title, ShapeItem, Written, Mark, Macros, Use, NoUse, Shape, IsUseOf, UsesInPiece, UsesInShape}
-use Rattle.tangle_expansion.specs.Flat.{Symbol, marks_behind, item_flat, items_flat, pieces_flat, item_depth, items_depth, pieces_depth}
+use Rattle.tangle_plans.specs.Shapes.{Title, ShapeItem, Written, Mark, AllMacros, Use, NoUse, Shape, IsUseOf, UsesInPiece, UsesInShape}
+use Rattle.tangle_plans.specs.Flat.{Symbol, marks_behind, item_flat, items_flat, pieces_flat, item_depth, items_depth, pieces_depth}
 
 item_shorter : (used : List ℕ → List Symbol) (node : Title) (piece marks : ℕ) (item : ShapeItem) (name : List ℕ) → IsUseOf item name
     → length (used name) ≤ length (item_flat used node piece marks item)
 item_shorter used node piece marks (Written kind bytes) name u = absurd u
 item_shorter used node piece marks Mark name u = absurd u
-item_shorter used node piece marks Macros name u = absurd u
+item_shorter used node piece marks AllMacros name u = absurd u
 item_shorter used node piece marks (Use other) name u = omega (arith, ap (λ n. length (used n)) u)
 item_shorter used node piece marks NoUse name u = absurd u
 
@@ -34,7 +34,7 @@ pieces_shorter used node piece (items ∷ pieces) name (inr u) =
 item_shallower : (used : List ℕ → ℕ) (item : ShapeItem) (name : List ℕ) → IsUseOf item name → used name ≤ item_depth used item
 item_shallower used (Written kind bytes) name u = absurd u
 item_shallower used Mark name u = absurd u
-item_shallower used Macros name u = absurd u
+item_shallower used AllMacros name u = absurd u
 item_shallower used (Use other) name u = omega (arith, ap used u)
 item_shallower used NoUse name u = absurd u
 

@@ -1,14 +1,14 @@
 -- The weight of a node is the length of what it expands to.
 use Rattle.std.proofs.Common.{◌≡◌, ◌∙◌, ℕ, ◌+◌, zero, suc, List, [], ◌∷◌, length, refl, ap, sym, arith, length-append}
 use Rattle.std.proofs.lemmas.List.{length-map}
-use Rattle.tangle_expansion.specs.Shapes.{Title, Named, ShapeItem, Written, Mark, Macros, Use, NoUse, Shape, Shapes}
-use Rattle.tangle_expansion.specs.Flat.{Symbol, Byte, marks_behind, item_flat, items_flat, pieces_flat, flat, item_weight, items_weight, pieces_weight, weight}
+use Rattle.tangle_plans.specs.Shapes.{Title, Named, ShapeItem, Written, Mark, AllMacros, Use, NoUse, Shape, Shapes}
+use Rattle.tangle_plans.specs.Flat.{Symbol, Byte, marks_behind, item_flat, items_flat, pieces_flat, flat, item_weight, items_weight, pieces_weight, weight}
 
 item_weight-length : (used : List ℕ → List Symbol) (node : Title) (piece marks : ℕ) (item : ShapeItem)
     → item_weight (λ name. length (used name)) item ≡ length (item_flat used node piece marks item)
 item_weight-length used node piece marks (Written kind bytes) = sym (length-map bytes Byte)
 item_weight-length used node piece marks Mark = refl
-item_weight-length used node piece marks Macros = refl
+item_weight-length used node piece marks AllMacros = refl
 item_weight-length used node piece marks (Use name) = omega arith
 item_weight-length used node piece marks NoUse = refl
 
@@ -37,7 +37,7 @@ pieces_weight-length used node piece (items ∷ pieces) =
 item_weight-same : (f g : List ℕ → ℕ) (item : ShapeItem) → ((name : List ℕ) → f name ≡ g name) → item_weight f item ≡ item_weight g item
 item_weight-same f g (Written kind bytes) same = refl
 item_weight-same f g Mark same = refl
-item_weight-same f g Macros same = refl
+item_weight-same f g AllMacros same = refl
 item_weight-same f g (Use name) same = ap (λ n. 1 + n) (same name)
 item_weight-same f g NoUse same = refl
 

@@ -6,9 +6,9 @@ use Rattle.tangle_lines.specs.Reading.{Line, SourceRead}
 use Rattle.tangle_lexer.specs.Steps.{lexeme, occurrences_from, tokens_from}
 use Rattle.tangle_scan.specs.Web.{WebRead, web_of}
 use Rattle.tangle_names.specs.NameTable.{table_of}
-use Rattle.tangle_expansion.specs.Shapes.{Title, Program, Named, ContainsItself, here, on}
-use Rattle.tangle_expansion.specs.Flat.{flat, weight, depth}
-use Rattle.tangle_expansion.specs.WebShapes.{shapes}
+use Rattle.tangle_plans.specs.Shapes.{Title, Program, Named, ContainsItself, here, on}
+use Rattle.tangle_plans.specs.Flat.{flat, weight, depth}
+use Rattle.tangle_plans.specs.WebShapes.{shapes}
 use Rattle.tangle_expansion.specs.Numbers.{numbers_of, text}
 use Rattle.tangle_expansion.specs.Location.{Role, Own, Feed, Other, located, located_shapes}
 use Rattle.tangle_files.specs.declared.marks.MarkMode.TheVariants.{Full}
@@ -16,7 +16,7 @@ use Rattle.tangle_files.specs.declared.marks.MarkMode.TheVariants.{Full}
 -- the source lines of the file a.w from a line number on
 abbrev numbered_lines : ℕ → List (List ℕ) → List Line
 numbered_lines n [] = []
-numbered_lines n (line ∷ lines) = record { bytes = line; place = record { file = 0; line = n }; changed = false } ∷ numbered_lines (n + 1) lines
+numbered_lines n (line ∷ lines) = record { bytes = line; origin = record { file = 0; line = n }; changed = false } ∷ numbered_lines (n + 1) lines
 
 abbrev source : List (List ℕ) → SourceRead
 source lines = record { files = (codes "a.w", lines) ∷ []; lines = numbered_lines 1 lines; faults = [] }
@@ -83,7 +83,7 @@ one_use_name_depth : depth_in one_use (Named (codes "v")) ≡ 1
 unfolding lexeme tokens_from occurrences_from
 one_use_name_depth = refl
 
--- with a line in front, all places go on by one line
+-- with a line in front, all origins go on by one line
 shifted_output : output (codes "% top" ∷ one_use) ≡ lines_text (
     codes "/*1:*/" ∷ codes "#line 3 \"a.w\"" ∷ [] ∷ codes "int x= /*2:*/" ∷ codes "#line 5 \"a.w\"" ∷ [] ∷ codes "1" ∷ codes "/*:2*/"
     ∷ codes "#line 4 \"a.w\"" ∷ codes ";" ∷ codes "/*:1*/" ∷ [])
@@ -127,7 +127,7 @@ early_output : output early ≡ lines_text (
 unfolding lexeme tokens_from occurrences_from digits
 early_output = refl
 
--- with a section in front, section numbers and places go on
+-- with a section in front, section numbers and origins go on
 renumbered_output : output (codes "@ Z." ∷ one_use) ≡ lines_text (
     codes "/*2:*/" ∷ codes "#line 3 \"a.w\"" ∷ [] ∷ codes "int x= /*3:*/" ∷ codes "#line 5 \"a.w\"" ∷ [] ∷ codes "1" ∷ codes "/*:3*/"
     ∷ codes "#line 4 \"a.w\"" ∷ codes ";" ∷ codes "/*:2*/" ∷ [])
@@ -196,8 +196,8 @@ long_macro_text = refl
 
 -- where the texts of the joined lines are: the b and the sign behind it are in a stretch, and behind the mark it is over
 abbrev role_byte : Role → ℕ
-role_byte (Own place false) = 48 + place.line
-role_byte (Own place true) = 97 + place.line
+role_byte (Own origin false) = 48 + origin.line
+role_byte (Own origin true) = 97 + origin.line
 role_byte Feed = 10
 role_byte Other = 32
 

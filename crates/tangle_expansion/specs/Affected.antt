@@ -1,7 +1,7 @@
 -- Which nodes are expanded, and which of them an edit affects.
 use Rattle.std.specs.Prelude.{◌≢◌, ℕ, ◌≤◌, ◌<◌, []}
-use Rattle.tangle_expansion.specs.Shapes.{Title, Shapes, Reaches}
-use Rattle.tangle_expansion.specs.Flat.{weight, depth}
+use Rattle.tangle_plans.specs.Shapes.{Title, Shapes, Reaches}
+use Rattle.tangle_plans.specs.Flat.{weight, depth}
 
 -- It has a piece and is within both limits: levels is one more than the greatest depth. So it
 -- reaches no name that contains itself, since what reaches one is deeper and heavier than any

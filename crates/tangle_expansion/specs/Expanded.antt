@@ -2,11 +2,11 @@
 use Rattle.std.specs.Prelude.{ℕ, ◌+◌, ◌≤◌, List, [], ◌∷◌, length, map}
 use Rattle.std.proofs.Common.{arith, length-append}
 use denote.Param.Weighed.{most}
-use Rattle.tangle_expansion.specs.Shapes.{Title}
-use Rattle.tangle_expansion.specs.Flat.{Symbol, Byte}
-use Rattle.tangle_expansion.specs.Meaning.{title_of, bytes_between, left_over, plan_flat}
-use Rattle.tangle_expansion.specs.declared.expansion.Step.{Step}
-use Rattle.tangle_expansion.specs.declared.expansion.Step.TheVariants as step
+use Rattle.tangle_plans.specs.Shapes.{Title}
+use Rattle.tangle_plans.specs.Flat.{Symbol, Byte}
+use Rattle.tangle_plans.specs.Meaning.{title_of, bytes_between, left_over, plan_flat}
+use Rattle.tangle_plans.specs.declared.steps.Step.{Step}
+use Rattle.tangle_plans.specs.declared.steps.Step.TheVariants as step
 use Rattle.tangle_expansion.specs.declared.expansion.Expansion.TheInside.{Inside}
 
 abbrev pub meaning : Inside → List Symbol
@@ -27,7 +27,7 @@ plan_falls node text piece marks start (step.Run end ∷ plan) used =
       length-append (map Byte (bytes_between text start end)) (plan_flat node text piece marks end plan used),
     )
 plan_falls node text piece marks start (step.Mark ∷ plan) used = omega (arith, plan_falls node text piece (marks + 1) start plan used)
-plan_falls node text piece marks start (step.Macros ∷ plan) used = omega (arith, plan_falls node text piece marks start plan used)
+plan_falls node text piece marks start (step.AllMacros ∷ plan) used = omega (arith, plan_falls node text piece marks start plan used)
 plan_falls node text piece marks start (step.Space ∷ plan) used = omega (arith, plan_falls node text piece marks start plan used)
 plan_falls node text piece marks start (step.Use id ∷ plan) [] = omega arith
 plan_falls node text piece marks start (step.Use id ∷ plan) (symbols ∷ rest) =

@@ -1,7 +1,7 @@
 -- An expansion is longer than each one that it shares.
 use Rattle.std.specs.Prelude.{◌≤◌, length}
 use Rattle.std.proofs.Common.{arith}
-use Rattle.tangle_expansion.specs.Meaning.{title_of}
+use Rattle.tangle_plans.specs.Meaning.{title_of}
 use Rattle.tangle_expansion.specs.Expanded.{meaning, plan_falls}
 use Rattle.tangle_expansion.specs.declared.expansion.Expansion.TheInside.{Inside}
 use Rattle.tangle_expansion.specs.declared.expansion.Expansion.TheDeep.{deep-Expansion}

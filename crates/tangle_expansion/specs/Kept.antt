@@ -1,8 +1,8 @@
 -- Kept expansions, as a map from nodes.
 use Rattle.std.specs.Prelude.{◌≡◌, ◌≢◌, ℕ, List, [], Option, Some, None, unwrap_or, slice_index_or}
-use Rattle.tangle_expansion.specs.Flat.{Symbol}
-use Rattle.tangle_expansion.specs.declared.nodes.Node.{Node}
-use Rattle.tangle_expansion.specs.declared.nodes.Node.TheVariants.{Program, Name}
+use Rattle.tangle_plans.specs.Flat.{Symbol}
+use Rattle.tangle_plans.specs.declared.nodes.Node.{Node}
+use Rattle.tangle_plans.specs.declared.nodes.Node.TheVariants.{Program, Name}
 use Rattle.tangle_expansion.specs.declared.kept.Kept.{Kept}
 
 -- the expansion that is kept of the node

@@ -1,7 +1,7 @@
 -- The limits, and what is said at them.
 use Rattle.std.specs.Prelude.{ℕ, List, min}
-use Rattle.tangle_expansion.specs.Shapes.{Title, Shapes}
-use Rattle.tangle_expansion.specs.Flat.{Symbol, flat, weight, depth}
+use Rattle.tangle_plans.specs.Shapes.{Title, Shapes}
+use Rattle.tangle_plans.specs.Flat.{Symbol, flat, weight, depth}
 use Rattle.tangle_expansion.specs.Affected.{IsExpandable}
 
 -- one more than the greatest depth

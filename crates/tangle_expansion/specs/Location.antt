@@ -1,23 +1,24 @@
--- Line truth over a whole output: each byte of a text is at the compiler's place that is its own line's.
+-- Line truth over a whole output: each byte of a text is at the counted origin that is its own line's.
 use Rattle.std.specs.Prelude.{◌≡◌, ℕ, ◌+◌, zero, suc, Bool, false, List, [], ◌∷◌, ◌++◌, map, drop, if◌then◌else◌, Option, Some, None}
 use Rattle.tangle_files.specs.Bytes.{space}
-use Rattle.tangle_lines.specs.declared.faults.Origin.{Origin}
-use Rattle.tangle_lines.specs.Reading.{Line, SourceRead, place_at}
+use Rattle.tangle_faults.specs.declared.faults.Origin.{Origin}
+use Rattle.tangle_lines.specs.Reading.{Line, SourceRead, origin_at}
 use Rattle.tangle_scan.specs.declared.items.Item.{Item}
 use Rattle.tangle_scan.specs.declared.items.Item.TheVariants as item
 use Rattle.tangle_scan.specs.LineTruth.{with_line_end, Location, piece_locations}
 use Rattle.tangle_scan.specs.Web.{WebRead, PieceRead}
 use Rattle.tangle_names.specs.NameTable.{TableRead}
-use Rattle.tangle_expansion.specs.Shapes.{Title, Named, ShapeItem, Written, Mark, Macros, Use, NoUse}
-use Rattle.tangle_expansion.specs.Flat.{Symbol, Byte, Opening, MarkOf, Closing, AllMacros, marks_behind}
-use Rattle.tangle_expansion.specs.Numbers.{NumbersRead, place_of_mark, no_place}
-use Rattle.tangle_expansion.specs.WebShapes.{is_piece_of, shape_item}
+use Rattle.tangle_plans.specs.Shapes.{Title, Named, ShapeItem, Written, Mark, Use, NoUse}
+use Rattle.tangle_plans.specs.Shapes as shape
+use Rattle.tangle_plans.specs.Flat.{Symbol, Byte, Opening, MarkOf, Closing, AllMacros, marks_behind}
+use Rattle.tangle_expansion.specs.Numbers.{NumbersRead, origin_of_mark, no_origin}
+use Rattle.tangle_plans.specs.WebShapes.{is_piece_of, shape_item}
 use Rattle.tangle_files.specs.declared.marks.MarkMode.{MarkMode}
 use Rattle.tangle_files.specs.declared.marks.MarkMode.TheVariants.{Full, Bare}
 
--- what a byte is to the compiler's place
+-- what a byte is to the counted origin
 pub data Role : Type 0 where
-  -- of a word, a sign, a quoted or verbatim text or an ASCII constant: the place of the source line on which that is, and whether it is
+  -- of a word, a sign, a quoted or verbatim text or an ASCII constant: the origin of the source line on which that is, and whether it is
   -- in a stretch
   Own : Origin → Bool → Role
   -- the line feed of a line end, or of one inside a quoted text
@@ -38,8 +39,8 @@ pub record LocatedSymbol : Type 0 where
 
 -- no text is without a line; one that were would be nowhere
 abbrev pub own_role : List Line → List Location → Role
-own_role lines [] = Own no_place false
-own_role lines (s ∷ ss) = Own (place_at lines s.line) s.in_stretch
+own_role lines [] = Own no_origin false
+own_role lines (s ∷ ss) = Own (origin_at lines s.line) s.in_stretch
 
 abbrev pub role_of : List Line → List Location → Item → Role
 role_of lines ss (item.Word span) = own_role lines ss
@@ -50,7 +51,7 @@ role_of lines ss (item.Code value) = own_role lines ss
 role_of lines ss item.QuoteBreak = Feed
 role_of lines ss item.LineEnd = Feed
 role_of lines ss item.Blank = Other
-role_of lines ss (item.LineMark place) = Other
+role_of lines ss (item.LineMark origin) = Other
 role_of lines ss (item.UseOf occurrence) = Other
 role_of lines ss item.Defs = Other
 
@@ -64,7 +65,7 @@ locations_behind ss (item.Code value) = drop 1 ss
 locations_behind ss item.QuoteBreak = ss
 locations_behind ss item.LineEnd = ss
 locations_behind ss item.Blank = ss
-locations_behind ss (item.LineMark place) = ss
+locations_behind ss (item.LineMark origin) = ss
 locations_behind ss (item.UseOf occurrence) = ss
 locations_behind ss item.Defs = ss
 
@@ -99,7 +100,7 @@ other symbol = record { symbol = symbol; role = Other }
 abbrev pub located_item : (List ℕ → List LocatedSymbol) → Title → ℕ → ℕ → Role → ShapeItem → List LocatedSymbol
 located_item used node piece marks role (Written kind bytes) = map (λ b. record { symbol = Byte b; role = role }) bytes
 located_item used node piece marks role Mark = other (MarkOf node piece (marks + 1)) ∷ []
-located_item used node piece marks role Macros = other AllMacros ∷ []
+located_item used node piece marks role shape.AllMacros = other AllMacros ∷ []
 located_item used node piece marks role (Use name) = other (Byte space) ∷ used name
 located_item used node piece marks role NoUse = other (Byte space) ∷ []
 
@@ -117,34 +118,34 @@ abbrev pub located : ℕ → (Title → List (List LocatedItem)) → Title → L
 located zero shapes node = []
 located (suc fuel) shapes node = pieces_located (λ name. located fuel shapes (Named name)) node 0 (shapes node)
 
--- The compiler's place.
+-- The counted origin.
 
 abbrev pub feeds : Option Origin → Role → Option Origin
-feeds place (Own origin in_stretch) = place
-feeds place Feed = with_line_end place
-feeds place Other = place
+feeds origin (Own own in_stretch) = origin
+feeds origin Feed = with_line_end origin
+feeds origin Other = origin
 
--- a mark sets the place where it is written in full
-abbrev pub place_set : MarkMode → Option Origin → Origin → Option Origin
-place_set Full place own = Some own
-place_set Bare place own = place
+-- a mark sets the origin where it is written in full
+abbrev pub origin_set : MarkMode → Option Origin → Origin → Option Origin
+origin_set Full origin own = Some own
+origin_set Bare origin own = origin
 
--- A byte of a text that is in no stretch is at this place.
-abbrev pub IsOwnPlace : Option Origin → Role → Type 0
-IsOwnPlace place (Own origin in_stretch) = in_stretch ≡ false → place ≡ Some origin
-IsOwnPlace place Feed = Unit {0}
-IsOwnPlace place Other = Unit {0}
+-- A byte of a text that is in no stretch is at this origin.
+abbrev pub IsOwnOrigin : Option Origin → Role → Type 0
+IsOwnOrigin origin (Own own in_stretch) = in_stretch ≡ false → origin ≡ Some own
+IsOwnOrigin origin Feed = Unit {0}
+IsOwnOrigin origin Other = Unit {0}
 
 module _ (numbers : NumbersRead) where
-  -- the compiler's place behind a symbol: a mark that is written in full sets it to what the mark says, and behind the macros it is not known until the next mark
-  abbrev pub place_behind : Option Origin → Symbol → Role → Option Origin
-  place_behind place (Byte b) role = feeds place role
-  place_behind place (Opening node piece) role = place
-  place_behind place (MarkOf node piece mark) role = place_set numbers.marks place (place_of_mark numbers node piece mark)
-  place_behind place (Closing node piece) role = place
-  place_behind place AllMacros role = None
+  -- the counted origin behind a symbol: a mark that is written in full sets it to what the mark says, and behind the macros it is not known until the next mark
+  abbrev pub origin_behind : Option Origin → Symbol → Role → Option Origin
+  origin_behind origin (Byte b) role = feeds origin role
+  origin_behind origin (Opening node piece) role = origin
+  origin_behind origin (MarkOf node piece mark) role = origin_set numbers.marks origin (origin_of_mark numbers node piece mark)
+  origin_behind origin (Closing node piece) role = origin
+  origin_behind origin AllMacros role = None
 
-  -- each is at its own place, from this place of the compiler on
-  abbrev pub AreAtTheirPlaces : Option Origin → List LocatedSymbol → Type 0
-  AreAtTheirPlaces place [] = Unit {0}
-  AreAtTheirPlaces place (p ∷ symbols) = IsOwnPlace place p.role × AreAtTheirPlaces (place_behind place p.symbol p.role) symbols
+  -- each is at its own origin, from this counted origin on
+  abbrev pub AreAtTheirOrigins : Option Origin → List LocatedSymbol → Type 0
+  AreAtTheirOrigins origin [] = Unit {0}
+  AreAtTheirOrigins origin (p ∷ symbols) = IsOwnOrigin origin p.role × AreAtTheirOrigins (origin_behind origin p.symbol p.role) symbols

@@ -2,7 +2,7 @@
 use Rattle.std.specs.Prelude.{ℕ, Bool, true, false, List, [], ◌∷◌, ◌++◌, flat_map, codes, if◌then◌else◌}
 use Rattle.tangle_scan.specs.declared.items.Item.{Item}
 use Rattle.tangle_scan.specs.declared.items.Item.TheVariants as item
-use Rattle.tangle_expansion.specs.ItemTags.{bytes_in}
+use Rattle.tangle_plans.specs.ItemTags.{bytes_in}
 
 -- blanks and line ends, which are not written at the end of a macro
 abbrev pub is_gap_item : Item → Bool

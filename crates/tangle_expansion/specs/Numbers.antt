@@ -1,21 +1,21 @@
--- The section numbers, places and macro texts of a web, and the text that they make of an expansion.
+-- The section numbers, origins and macro texts of a web, and the text that they make of an expansion.
 use Rattle.std.specs.Prelude.{ℕ, ◌==◌, ◌||◌, List, [], ◌∷◌, ◌++◌, map, flat_map, get_or, codes, decimal, unwrap_or, if◌then◌else◌}
 use Rattle.std.specs.Map.{lookup}
 use Rattle.std.specs.Str.{bytes_eq}
 use Rattle.tangle_files.specs.Bytes.{line_feed}
-use Rattle.tangle_lines.specs.declared.faults.Origin.{Origin}
+use Rattle.tangle_faults.specs.declared.faults.Origin.{Origin}
 use Rattle.tangle_scan.specs.declared.items.Item.{Item}
 use Rattle.tangle_scan.specs.declared.items.Item.TheVariants as item
 use Rattle.tangle_scan.specs.Web.{WebRead, PieceRead}
 use Rattle.tangle_names.specs.NameTable.{TableRead}
-use Rattle.tangle_expansion.specs.Shapes.{Title, Program, Named}
-use Rattle.tangle_expansion.specs.Flat.{Symbol, Byte, Opening, MarkOf, Closing, AllMacros}
-use Rattle.tangle_expansion.specs.WebShapes.{pieces_of}
+use Rattle.tangle_plans.specs.Shapes.{Title, Program, Named}
+use Rattle.tangle_plans.specs.Flat.{Symbol, Byte, Opening, MarkOf, Closing, AllMacros}
+use Rattle.tangle_plans.specs.WebShapes.{pieces_of}
 use Rattle.tangle_files.specs.declared.marks.MarkMode.{MarkMode}
 use Rattle.tangle_files.specs.declared.marks.MarkMode.TheVariants.{Full, Bare}
 use Rattle.tangle_expansion.specs.MacroTexts.{macro_text}
 
--- of a piece the number of its section and the places of its marks, the opening mark's first
+-- of a piece the number of its section and the origins of its marks, the opening mark's first
 pub record PieceNumbersRead : Type 0 where
   pub section : ℕ
   pub marks : List Origin
@@ -43,12 +43,12 @@ escaped_byte b = if b == backslash || b == quote then backslash ∷ b ∷ [] els
 abbrev pub escaped : List ℕ → List ℕ
 escaped name = flat_map escaped_byte name
 
-abbrev pub item_places : Item → List Origin
-item_places (item.LineMark place) = place ∷ []
-item_places _ = []
+abbrev pub item_origins : Item → List Origin
+item_origins (item.LineMark origin) = origin ∷ []
+item_origins _ = []
 
 abbrev pub piece_numbers : PieceRead → PieceNumbersRead
-piece_numbers piece = record { section = piece.section; marks = piece.place ∷ flat_map item_places piece.items }
+piece_numbers piece = record { section = piece.section; marks = piece.origin ∷ flat_map item_origins piece.items }
 
 module _ (web : WebRead) (table : TableRead) where
   abbrev pub name_numbers : List (List ℕ × List PieceNumbersRead)
@@ -82,8 +82,8 @@ marked_text Bare file line = line_feed ∷ []
 abbrev pub no_numbers : PieceNumbersRead
 no_numbers = record { section = 0; marks = [] }
 
-abbrev pub no_place : Origin
-no_place = record { file = 0; line = 0 }
+abbrev pub no_origin : Origin
+no_origin = record { file = 0; line = 0 }
 
 module _ (numbers : NumbersRead) where
   -- the numbers of a node's pieces
@@ -94,16 +94,16 @@ module _ (numbers : NumbersRead) where
   abbrev pub numbers_at : Title → ℕ → PieceNumbersRead
   numbers_at node piece = get_or (node_numbers node) piece no_numbers
 
-  abbrev pub place_of_mark : Title → ℕ → ℕ → Origin
-  place_of_mark node piece mark = get_or (numbers_at node piece).marks mark no_place
+  abbrev pub origin_of_mark : Title → ℕ → ℕ → Origin
+  origin_of_mark node piece mark = get_or (numbers_at node piece).marks mark no_origin
 
-  abbrev pub place_text : Origin → List ℕ
-  place_text place = marked_text numbers.marks (get_or numbers.file_names place.file []) place.line
+  abbrev pub origin_text : Origin → List ℕ
+  origin_text origin = marked_text numbers.marks (get_or numbers.file_names origin.file []) origin.line
 
   abbrev pub symbol_text : Symbol → List ℕ
   symbol_text (Byte b) = b ∷ []
   symbol_text (Opening node piece) = opening_text (numbers_at node piece).section
-  symbol_text (MarkOf node piece mark) = place_text (place_of_mark node piece mark)
+  symbol_text (MarkOf node piece mark) = origin_text (origin_of_mark node piece mark)
   symbol_text (Closing node piece) = closing_text (numbers_at node piece).section
   symbol_text AllMacros = line_feed ∷ numbers.macros
 

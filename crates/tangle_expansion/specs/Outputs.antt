@@ -4,15 +4,15 @@ use Rattle.tangle_files.specs.Bytes.{line_feed}
 use Rattle.tangle_lines.specs.Reading.{SourceRead}
 use Rattle.tangle_scan.specs.Web.{WebRead}
 use Rattle.tangle_names.specs.NameTable.{table_of}
-use Rattle.tangle_expansion.specs.Shapes.{Title}
-use Rattle.tangle_expansion.specs.Flat.{Symbol}
+use Rattle.tangle_plans.specs.Shapes.{Title}
+use Rattle.tangle_plans.specs.Flat.{Symbol}
 use Rattle.tangle_expansion.specs.Limits.{levels, heaviest}
 use Rattle.tangle_expansion.specs.Numbers.{NumbersRead, numbers_of, text}
 use Rattle.tangle_expansion.specs.Kept.{kept_at}
 use Rattle.tangle_files.specs.declared.marks.MarkMode.TheVariants.{Full}
-use Rattle.tangle_expansion.specs.declared.nodes.Node.{Node}
+use Rattle.tangle_plans.specs.declared.nodes.Node.{Node}
 use Rattle.tangle_expansion.specs.declared.kept.Kept.{Kept}
-use Rattle.tangle_expansion.specs.Location.{LocatedSymbol, located, located_shapes, AreAtTheirPlaces}
+use Rattle.tangle_expansion.specs.Location.{LocatedSymbol, located, located_shapes, AreAtTheirOrigins}
 
 abbrev pub front_text : NumbersRead → Bool → List ℕ
 front_text numbers has_macros = if has_macros then numbers.macros else []
@@ -45,8 +45,8 @@ output_text numbers kept output = file_text numbers output.has_macros output.has
 abbrev pub located_of : SourceRead → WebRead → Title → List LocatedSymbol
 located_of source web node = located levels (located_shapes source web (table_of web)) node
 
--- The bytes are the text of what the node expands to, and each byte of a text in it that is in no stretch is at the compiler's place
--- that is its own line's, where marks are written in full. In front of a file's first mark no place is known.
+-- The bytes are the text of what the node expands to, and each byte of a text in it that is in no stretch is at the counted origin
+-- that is its own line's, where marks are written in full. In front of a file's first mark no origin is known.
 pub record IsTrueToLines (source : SourceRead) (web : WebRead) (node : Title) (bytes : List ℕ) : Type 0 where
   pub written : bytes ≡ text (numbers_of web (table_of web) Full) (map (λ p. p.symbol) (located_of source web node))
-  pub places : AreAtTheirPlaces (numbers_of web (table_of web) Full) None (located_of source web node)
+  pub origins : AreAtTheirOrigins (numbers_of web (table_of web) Full) None (located_of source web node)

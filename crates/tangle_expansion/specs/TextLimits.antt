@@ -1,8 +1,8 @@
 -- How long the text of a symbol can be.
 use Rattle.std.specs.Prelude.{◌<◌, ◌≤◌, ◌^◌, ℕ, List, length}
 use Rattle.std.specs.List.{All}
-use Rattle.tangle_lines.specs.declared.faults.Origin.{Origin}
-use Rattle.tangle_expansion.specs.Flat.{Symbol}
+use Rattle.tangle_faults.specs.declared.faults.Origin.{Origin}
+use Rattle.tangle_plans.specs.Flat.{Symbol}
 use Rattle.tangle_expansion.specs.Numbers.{PieceNumbersRead, NumbersRead, symbol_text}
 
 -- the text of a symbol has at most so many bytes: a file name and the macros have less than 2 ^ 64
@@ -13,7 +13,7 @@ abbrev pub SymbolsAreShort : NumbersRead → Type 0
 SymbolsAreShort numbers = (symbol : Symbol) → length (symbol_text numbers symbol) ≤ longest_symbol
 
 abbrev pub IsLow : Origin → Type 0
-IsLow place = place.line < 2 ^ 32
+IsLow origin = origin.line < 2 ^ 32
 
 pub record IsShort (piece : PieceNumbersRead) : Type 0 where
   pub section : piece.section < 2 ^ 64

@@ -1,79 +1,79 @@
-//! Taking the numbers of a web: of each node's pieces the section numbers and the places of the
+//! Taking the numbers of a web: of each node's pieces the section numbers and the origins of the
 //! marks.
-ghost use Rattle.std.specs.Prelude.{◌≡◌, ◌<◌, ◌^◌, ◌∷◌, ◌++◌, ℕ, length, map, flat_map, vec_len};
+ghost use Rattle.std.specs.Prelude.{◌≡◌, ◌<◌, ◌^◌, ◌∷◌, ◌++◌, length, map, flat_map, vec_len};
 ghost use Rattle.std.specs.Prelude.{IfOk, OnOk};
 ghost use Rattle.std.specs.List.{All};
 ghost use Rattle.tangle_names.specs.NameTable.{table_of};
-ghost use Rattle.tangle_expansion.specs.Shapes.{Program};
-ghost use Rattle.tangle_expansion.specs.WebShapes.{pieces_of};
-ghost use Rattle.tangle_expansion.specs.ItemSlots.{pieces_at};
-ghost use Rattle.tangle_expansion.specs.Nodes.{IsGroupedBy};
-ghost use Rattle.tangle_expansion.specs.Numbers.{escaped_byte, escaped, item_places};
+ghost use Rattle.tangle_plans.specs.Shapes.{Program};
+ghost use Rattle.tangle_plans.specs.ItemSlots.{pieces_at};
+ghost use Rattle.tangle_plans.specs.Nodes.{IsGroupedBy};
+ghost use Rattle.tangle_expansion.specs.Numbers.{escaped, item_origins};
 ghost use Rattle.tangle_expansion.specs.Numbers.{piece_numbers as numbers_of_piece_read};
 ghost use Rattle.tangle_expansion.specs.Numbers.{numbers_of, name_numbers};
 ghost use Rattle.tangle_expansion.specs.NumbersKept.{entries_of};
 ghost use Rattle.tangle_expansion.specs.TextLimits.{IsShort, IsLow, EntryIsShort};
 
 use crate::macros::macros_text;
-use crate::nodes::{Node, PiecesByNode};
 use crate::numbers::{Numbers, PieceNumbers};
+use bstr::ByteSlice;
 use indexmap::IndexMap;
 use std::alloc::Global;
 use tangle_lines::{MarkMode, NoMemory, Origin};
 use tangle_names::names_are_the_full_names;
+use tangle_plans::{Node, PiecesByNode};
 use tangle_scan::{Item, Piece, Web};
 
-/// The same place, whose line is below 2^32.
-fn low_place(place: Origin) -> Origin
-    ensures same { result ≡ place }
+/// The same origin, whose line is below 2^32.
+fn low_origin(origin: Origin) -> Origin
+    ensures same { result ≡ origin }
     ensures low { IsLow result }
 {
-    let line = place.line;
+    let line = origin.line;
     Origin {
-        file: place.file,
+        file: origin.file,
         line,
     }
 }
 
-/// Adds the place of a mark, if the item is one.
-fn add_place(places: &mut Vec<Origin>, item: Item) -> Result<(), NoMemory>
-    requires { All IsLow places.old.items }
-    ensures added { OnOk result (places.new.items ≡ places.old.items ++ item_places item) }
-    ensures low { OnOk result (All IsLow places.new.items) }
+/// Adds the origin of a mark, if the item is one.
+fn add_origin(origins: &mut Vec<Origin>, item: Item) -> Result<(), NoMemory>
+    requires { All IsLow origins.old.items }
+    ensures added { OnOk result (origins.new.items ≡ origins.old.items ++ item_origins item) }
+    ensures low { OnOk result (All IsLow origins.new.items) }
 {
-    if let Item::LineMark(place) = item {
-        places.push(low_place(place))?;
+    if let Item::LineMark(origin) = item {
+        origins.push(low_origin(origin))?;
     }
     Ok(())
 }
 
-/// The places of a piece's marks, its opening mark's first.
-fn mark_places(alloc: Global, piece: &Piece) -> Result<Vec<Origin>, NoMemory>
+/// The origins of a piece's marks, its opening mark's first.
+fn mark_origins(alloc: Global, piece: &Piece) -> Result<Vec<Origin>, NoMemory>
     ensures are { IfOk result
-        (λ places. places.items ≡ piece.now.place ∷ flat_map item_places piece.now.items) }
-    ensures low { IfOk result (λ places. All IsLow places.items) }
+        (λ origins. origins.items ≡ piece.now.origin ∷ flat_map item_origins piece.now.items) }
+    ensures low { IfOk result (λ origins. All IsLow origins.items) }
 {
-    let mut places = Vec::new(alloc);
-    places.push(low_place(piece.place()))?;
+    let mut origins = Vec::new(alloc);
+    origins.push(low_origin(piece.origin()))?;
     if !piece.may_have_mark() {
-        return Ok(places);
+        return Ok(origins);
     }
     for item in piece.items() {
-        add_place(&mut places, *item)?;
+        add_origin(&mut origins, *item)?;
     }
-    Ok(places)
+    Ok(origins)
 }
 
-/// The section number of a piece and the places of its marks.
+/// The section number of a piece and the origins of its marks.
 fn numbers_of_piece(alloc: Global, piece: &Piece) -> Result<PieceNumbers, NoMemory>
     ensures are { IfOk result (λ numbers. numbers ≡ numbers_of_piece_read piece.now) }
     ensures short { IfOk result IsShort }
 {
-    let marks = mark_places(alloc, piece)?;
+    let marks = mark_origins(alloc, piece)?;
     Ok(PieceNumbers::new(piece.section(), marks))
 }
 
-/// The numbers of the pieces with these numbers in the web.
+/// The section and the origins of the marks of each of these pieces of the web.
 fn numbers_of_pieces(
     alloc: Global,
     web: &Web,
@@ -92,25 +92,13 @@ fn numbers_of_pieces(
     Ok(all)
 }
 
-/// Writes a byte of a file name, a backslash and a double quote with a backslash before it.
-fn push_escaped(text: &mut Vec<u8>, byte: u8) -> Result<(), NoMemory>
-    ensures { OnOk result (text.new.items ≡ text.old.items ++ escaped_byte byte) }
-{
-    if byte == b'\\' || byte == b'"' {
-        text.push(b'\\')?;
-    }
-    text.push(byte)?;
-    Ok(())
-}
-
-/// The name of a file, as line marks have it.
+/// The name of a file, as line marks have it: backslashes and double quotes are escaped.
+// Backslashes first: those that the quotes get are not escaped.
 fn escaped_name(alloc: Global, name: &[u8]) -> Result<Vec<u8>, NoMemory>
     ensures { IfOk result (λ text. text.items ≡ escaped name.now) }
 {
-    let mut text = Vec::new(alloc);
-    for byte in name {
-        push_escaped(&mut text, *byte)?;
-    }
+    let slashed = name.replace(alloc, b"\\", b"\\\\")?;
+    let text = slashed.as_slice().replace(alloc, b"\"", b"\\\"")?;
     Ok(text)
 }
 
@@ -153,7 +141,7 @@ fn numbers_of_names<S: PiecesByNode>(
 }
 
 impl Numbers {
-    /// What the texts of a web's expansions take from it: section numbers, the places of marks and
+    /// What the texts of a web's expansions take from it: section numbers, the origins of marks and
     /// the text of the macros.
     ///
     /// # Errors

@@ -2,19 +2,19 @@
 ghost use Rattle.std.specs.Prelude.{◌≡◌, ◌++◌, ℕ, map, Contains, IfOk, OnOk, OnErr, IsSome, Some};
 ghost use Rattle.std.specs.Prelude.{◌∷◌, []};
 ghost use Rattle.tangle_expansion.specs.Kept.{kept_at, used_symbols};
-ghost use Rattle.tangle_expansion.specs.Meaning.{title_of};
-ghost use Rattle.tangle_expansion.specs.Slots.{slots, filled, step_uses, uses_of};
-ghost use Rattle.tangle_expansion.specs.NodeBodies.{plan_uses, plan_slots};
-ghost use Rattle.tangle_expansion.specs.declared.expansion.NodeBody.{NodeBody};
-ghost use Rattle.tangle_expansion.specs.declared.nodes.Node.TheVariants as node_kind;
+ghost use Rattle.tangle_plans.specs.Meaning.{title_of};
+ghost use Rattle.tangle_plans.specs.Slots.{slots, filled, step_uses, uses_of};
+ghost use Rattle.tangle_plans.specs.NodeBodies.{plan_uses, plan_slots};
+ghost use Rattle.tangle_plans.specs.declared.nodes.NodeBody.{NodeBody};
+ghost use Rattle.tangle_plans.specs.declared.nodes.Node.TheVariants as node_kind;
 
-use crate::expansion::{Expansion, NodeBody, SharedExpansion, Step};
+use crate::expansion::{Expansion, SharedExpansion};
 use crate::kept::Kept;
-use crate::nodes::{Node, PiecesByNode};
 use crate::work::Work;
 use std::alloc::Global;
 use std::rc::Rc;
 use tangle_lines::NoMemory;
+use tangle_plans::{Node, NodeBody, PiecesByNode, Step};
 
 /// Shares the expansion of the name that a step uses, if it uses one.
 fn share_used(used: &mut Vec<Expansion>, step: Step, kept: &Kept) -> Result<(), NoMemory>
@@ -29,7 +29,8 @@ fn share_used(used: &mut Vec<Expansion>, step: Step, kept: &Kept) -> Result<(), 
             used.push(share)?;
             Ok(())
         }
-        Step::Open | Step::Run(_) | Step::Mark | Step::Macros | Step::Space | Step::Close => Ok(()),
+        Step::Open | Step::Run(_) | Step::Mark => Ok(()),
+        Step::AllMacros | Step::Space | Step::Close => Ok(()),
     }
 }
 
@@ -70,10 +71,10 @@ pub fn expand<S: PiecesByNode>(
     kept: &Kept,
     work: &mut Work,
 ) -> Result<Expansion, NoMemory>
-    requires text { IsSome (S.texts store.now node) }
-    requires kept { (text : NodeBody) → S.texts store.now node ≡ Some text
+    requires text { IsSome (S.bodies store.now node) }
+    requires kept { (text : NodeBody) → S.bodies store.now node ≡ Some text
         → (id : ℕ) → Contains (plan_uses text) id → IsSome (kept_at kept.now (node_kind.Name id)) }
-    ensures right { IfOk result (λ e. (text : NodeBody) → S.texts store.now node ≡ Some text
+    ensures right { IfOk result (λ e. (text : NodeBody) → S.bodies store.now node ≡ Some text
         → e ≡ filled (used_symbols kept.now) (plan_slots text)) }
     ensures listed { OnOk result (work.new ≡ work.old ++ node ∷ []) }
     ensures err { OnErr result (work.new ≡ work.old) }

@@ -1,15 +1,15 @@
 //! Output files, and their writing.
-ghost use Rattle.std.specs.Prelude.{◌≡◌, Bool, length, IsSome};
+ghost use Rattle.std.specs.Prelude.{◌≡◌, length, IsSome};
 ghost use Rattle.tangle_streams.specs.Streams.{IsWritten};
 ghost use Rattle.tangle_expansion.specs.Kept.{kept_at};
 ghost use Rattle.tangle_expansion.specs.Outputs.{IsReady, front_text, node_symbols, output_text};
 
 use crate::expansion::Expansion;
 use crate::kept::Kept;
-use crate::nodes::Node;
 use crate::numbers::Numbers;
 use std::marker::Model;
 use tangle_lines::{Sink, WriteFault, put};
+use tangle_plans::Node;
 
 /// An output file of a web: the text of a node, with all macros in front where it is the main file
 /// and no C part has `@h`.

@@ -2,12 +2,12 @@
 ghost use Rattle.std.specs.Prelude.{◌≡◌, None, OnOk, OnErr};
 ghost use Rattle.std.specs.Option.{option_copied};
 ghost use Rattle.tangle_expansion.specs.Kept.{kept_at, PutsKept, SameKept};
-ghost use Rattle.tangle_expansion.specs.declared.nodes.Node.{Node};
+ghost use Rattle.tangle_plans.specs.declared.nodes.Node.{Node};
 
 use crate::expansion::Expansion;
-use crate::nodes::Node;
 use std::alloc::Global;
 use tangle_lines::NoMemory;
+use tangle_plans::Node;
 
 /// Expansions by node.
 #[derive(Drop)]
@@ -28,13 +28,13 @@ impl Kept {
         }
     }
 
-    /// Makes a place for the name with this number, if there is none.
-    fn make_place(&mut self, id: usize) -> Result<(), NoMemory>
+    /// Makes a position for the name with this number, if there is none.
+    fn make_position(&mut self, id: usize) -> Result<(), NoMemory>
         ensures { SameKept self.old self.new }
     {
-        let places = id.saturating_add(1);
-        self.names.reserve(places.saturating_sub(self.names.len()))?;
-        for _place in self.names.len()..places {
+        let size = id.saturating_add(1);
+        self.names.reserve(size.saturating_sub(self.names.len()))?;
+        for _position in self.names.len()..size {
             self.names.push(None)?;
         }
         Ok(())
@@ -51,7 +51,7 @@ impl Kept {
                 Ok(())
             }
             Node::Name(id) => {
-                self.make_place(id)?;
+                self.make_position(id)?;
                 if id >= self.names.len() {
                     return Err(NoMemory);
                 }
@@ -68,7 +68,7 @@ impl Kept {
         match node {
             Node::Program => self.program.as_ref(),
             Node::Name(id) => match self.names.get(id) {
-                Some(place) => place.as_ref(),
+                Some(held) => held.as_ref(),
                 None => None,
             },
         }

@@ -1,29 +1,28 @@
 //! Laws of the definitions.
 ghost use Rattle.std.specs.Prelude.{◌*◌, Bool, List, [], if◌then◌else◌, slice_index_or, ◌≡◌, ◌≢◌};
 ghost use Rattle.std.specs.Prelude.{◌<◌, ◌≤◌, ℕ, min, length, map, Option};
-ghost use Rattle.tangle_lines.specs.declared.faults.Origin.{Origin};
+ghost use Rattle.tangle_faults.specs.declared.faults.Origin.{Origin};
 ghost use Rattle.tangle_lines.specs.Reading.{SourceRead};
 ghost use Rattle.tangle_scan.specs.Web.{WebRead};
 ghost use Rattle.tangle_scan.specs.LineTruth.{PiecesAreAtTheirLines};
 ghost use Rattle.tangle_names.specs.NameTable.{TableRead, table_of};
 ghost use Rattle.tangle_files.specs.declared.marks.MarkMode.TheVariants.{Full};
-ghost use Rattle.tangle_expansion.specs.Tags.{shape_tags, shape_bytes, shape_names};
-ghost use Rattle.tangle_expansion.specs.Shapes.{Shape, Title, Named, Shapes, Uses, Reaches};
-ghost use Rattle.tangle_expansion.specs.Shapes.{ContainsItself};
-ghost use Rattle.tangle_expansion.specs.Slots.{filled};
-ghost use Rattle.tangle_expansion.specs.ItemSlots.{pieces_slots};
-ghost use Rattle.tangle_expansion.specs.Flat.{Symbol, flat, weight, depth, pieces_flat};
-ghost use Rattle.tangle_expansion.specs.Flat.{pieces_weight, pieces_depth};
+ghost use Rattle.tangle_plans.specs.Shapes.{Title, Named, Shapes, Uses, Reaches};
+ghost use Rattle.tangle_plans.specs.Shapes.{ContainsItself};
+ghost use Rattle.tangle_plans.specs.Slots.{filled};
+ghost use Rattle.tangle_plans.specs.ItemSlots.{pieces_slots};
+ghost use Rattle.tangle_plans.specs.Flat.{Symbol, flat, weight, depth, pieces_flat};
+ghost use Rattle.tangle_plans.specs.Flat.{pieces_weight, pieces_depth};
 ghost use Rattle.tangle_expansion.specs.Affected.{IsExpandable, IsAffected};
-ghost use Rattle.tangle_expansion.specs.WebShapes.{shapes, pieces_of, ResolvesInside};
+ghost use Rattle.tangle_plans.specs.WebShapes.{shapes, pieces_of, ResolvesInside};
 ghost use Rattle.tangle_expansion.specs.Numbers.{NumbersRead, numbers_of, symbol_text, text};
 ghost use Rattle.std.specs.List.{AllByRecursion};
 ghost use Rattle.tangle_expansion.specs.Limits.{flat_of, heaviest, IsExpandableNode};
 ghost use Rattle.tangle_expansion.specs.Outputs.{IsTrueToLines};
 ghost use Rattle.tangle_expansion.specs.Location.{LocatedSymbol, located, located_shapes};
-ghost use Rattle.tangle_expansion.specs.Location.{AreAtTheirPlaces};
+ghost use Rattle.tangle_expansion.specs.Location.{AreAtTheirOrigins};
 
-use tangle_names::occurrences_resolve_by_the_whole_web;
+use tangle_plans::names_resolve_inside;
 
 /// The weight of a node is the number of the symbols that it expands to.
 pub fn the_weight_is_the_length()
@@ -31,25 +30,18 @@ pub fn the_weight_is_the_length()
         ≡ length (flat fuel shapes node) }
 {}
 
-/// All occurrences of a web resolve to names of its table, if to any.
-pub fn names_resolve_inside()
-    ensures { (web : WebRead) → ResolvesInside (table_of web) }
-{
-    occurrences_resolve_by_the_whole_web();
-}
-
-/// Without what is said of places, what is in an output is what its node expands to. Where the
+/// Without what is said of origins, what is in an output is what its node expands to. Where the
 /// texts of each piece are at their lines, each byte of a text that is in no stretch is at the
-/// compiler's place that is its own line's, in the whole of an output.
-pub fn texts_are_at_their_places()
+/// counted origin that is its own line's, in the whole of an output.
+pub fn texts_are_at_their_origins()
     ensures symbols { (source : SourceRead) (web : WebRead) (table : TableRead) (fuel : ℕ)
         (node : Title)
         → map (λ (p : LocatedSymbol). p.symbol)
         (located fuel (located_shapes source web table) node) ≡ flat fuel (shapes web table) node }
-    ensures places { (source : SourceRead) (web : WebRead) (fuel : ℕ) (node : Title)
-        (place : Option Origin)
+    ensures origins { (source : SourceRead) (web : WebRead) (fuel : ℕ) (node : Title)
+        (origin : Option Origin)
         → PiecesAreAtTheirLines source web
-        → AreAtTheirPlaces (numbers_of web (table_of web) Full) place
+        → AreAtTheirOrigins (numbers_of web (table_of web) Full) origin
         (located fuel (located_shapes source web (table_of web)) node) }
 {
     names_resolve_inside();
@@ -62,7 +54,7 @@ pub fn texts_are_true_to_lines()
         → IsTrueToLines source web node
         (text (numbers_of web (table_of web) Full) (flat_of (shapes web (table_of web)) node)) }
 {
-    texts_are_at_their_places();
+    texts_are_at_their_origins();
 }
 
 /// A node that is expandable now and is not affected was expandable before, with the same symbols:
@@ -132,13 +124,6 @@ pub fn filled_plans_are_right()
         ≡ flat levels (shapes web table) (Named (slice_index_or table.names id [])))
         → filled symbols (pieces_slots web.texts table has_piece node 0 (pieces_of web table node))
         ≡ flat levels (shapes web table) node }
-{}
-
-/// Two shapes are the same where the tags of their items, their bytes and the names of their uses
-/// are.
-pub fn tags_settle_the_shape()
-    ensures { (s t : Shape) → shape_tags s ≡ shape_tags t → shape_bytes s ≡ shape_bytes t
-        → shape_names s ≡ shape_names t → s ≡ t }
 {}
 
 /// The text of a node has at most so many bytes for each symbol, and no more symbols than the node

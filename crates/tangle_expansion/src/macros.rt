@@ -1,8 +1,8 @@
 //! The text of the macros of a web.
-ghost use Rattle.std.specs.Prelude.{◌≡◌, ◌++◌, ◌<◌, ◌^◌, IfOk, OnOk, decimal, flat_map, length};
+ghost use Rattle.std.specs.Prelude.{◌≡◌, ◌++◌, ◌<◌, IfOk, OnOk, decimal, flat_map};
 ghost use Rattle.std.specs.List.{All};
 ghost use Rattle.tangle_scan.specs.SourceOrder.{IsInRange};
-ghost use Rattle.tangle_expansion.specs.ItemTags.{bytes_in};
+ghost use Rattle.tangle_plans.specs.ItemTags.{bytes_in};
 ghost use Rattle.tangle_expansion.specs.MacroTexts.{is_gap_item, without_end_gaps, macro_item_text};
 ghost use Rattle.tangle_expansion.specs.MacroTexts.{macro_text};
 

@@ -1,19 +1,17 @@
-//! The section numbers, places and macro texts of a web.
-ghost use Rattle.std.specs.Prelude.{◌≡◌, ◌<◌, ◌^◌, ℕ, [], get_or, map, vec_len};
+//! The section numbers, origins and macro texts of a web.
+ghost use Rattle.std.specs.Prelude.{◌≡◌, ◌<◌, ◌^◌, [], get_or, map, vec_len};
 ghost use Rattle.std.specs.List.{All};
-ghost use Rattle.tangle_expansion.specs.Meaning.{title_of};
+ghost use Rattle.tangle_plans.specs.Meaning.{title_of};
 ghost use Rattle.tangle_expansion.specs.Numbers.{PieceNumbersRead, node_numbers, no_numbers};
-ghost use Rattle.tangle_expansion.specs.Numbers.{no_place};
+ghost use Rattle.tangle_expansion.specs.Numbers.{no_origin};
 ghost use Rattle.tangle_expansion.specs.NumbersKept.{entries_of};
-ghost use Rattle.tangle_files.specs.declared.marks.MarkMode.TheVariants.{Full as full};
 ghost use Rattle.tangle_expansion.specs.TextLimits.{IsShort, EntryIsShort, SymbolsAreShort};
 
 use indexmap::IndexMap;
-use std::alloc::Global;
 use std::marker::Model;
 use tangle_lines::{MarkMode, Origin};
 
-/// The section number of a piece, and the places of its marks.
+/// The section number of a piece, and the origins of its marks.
 #[derive(Drop)]
 pub(crate) struct PieceNumbers {
     section: usize,
@@ -37,7 +35,7 @@ impl PieceNumbers {
     }
 }
 
-/// What the texts of a web's expansions take from it: section numbers, places and the text of the
+/// What the texts of a web's expansions take from it: section numbers, origins and the text of the
 /// macros.
 #[derive(Drop)]
 pub struct Numbers {
@@ -91,26 +89,6 @@ impl Numbers {
         }
     }
 
-    /// The numbers of a web without files, pieces and macros. It takes no memory yet.
-    pub fn none(alloc: Global) -> Self
-        ensures { result ≡ record {
-          file_names = [];
-          program = [];
-          names = [];
-          macros = [];
-          marks =
-              full;
-        } }
-    {
-        Numbers::new(
-            Vec::new(alloc),
-            Vec::new(alloc),
-            IndexMap::new(alloc),
-            Vec::new(alloc),
-            MarkMode::Full,
-        )
-    }
-
     /// The text of each symbol is short.
     pub(crate) fn symbols_are_short(&self)
         ensures { SymbolsAreShort self.now }
@@ -132,10 +110,10 @@ impl Numbers {
     }
 
     /// The name of a file, as line marks have it.
-    pub(crate) fn file_name(&self, place: Origin) -> &[u8]
-        ensures { result.now ≡ get_or self.now.file_names place.file [] }
+    pub(crate) fn file_name(&self, origin: Origin) -> &[u8]
+        ensures { result.now ≡ get_or self.now.file_names origin.file [] }
     {
-        match self.file_names.get(place.file as usize) {
+        match self.file_names.get(origin.file as usize) {
             Some(name) => name.as_slice(),
             None => &[],
         }
@@ -166,13 +144,13 @@ pub(crate) fn section_at(pieces: &[PieceNumbers], piece: usize) -> usize
     }
 }
 
-/// The place of a mark of a piece.
-pub(crate) fn place_at(pieces: &[PieceNumbers], piece: usize, mark: usize) -> Origin
-    ensures { result ≡ get_or (get_or pieces.now piece no_numbers).marks mark no_place }
+/// The origin of a mark of a piece.
+pub(crate) fn origin_at(pieces: &[PieceNumbers], piece: usize, mark: usize) -> Origin
+    ensures { result ≡ get_or (get_or pieces.now piece no_numbers).marks mark no_origin }
 {
     match pieces.get(piece) {
         Some(numbers) => match numbers.marks.get(mark) {
-            Some(place) => *place,
+            Some(origin) => *origin,
             None => Origin { file: 0, line: 0 },
         },
         None => Origin { file: 0, line: 0 },

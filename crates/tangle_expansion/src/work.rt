@@ -1,10 +1,10 @@
 //! The list of the nodes that were expanded.
 ghost use Rattle.std.specs.Prelude.{◌≡◌, ◌++◌, ◌∷◌, [], length, OnOk, OnErr};
 
-use crate::nodes::Node;
 use std::alloc::Global;
 use std::marker::Model;
 use tangle_lines::NoMemory;
+use tangle_plans::Node;
 
 /// The list of the nodes that were expanded, one after another.
 #[derive(Drop)]
@@ -14,7 +14,7 @@ pub struct Work {
 
 impl Model for Work {
     ghost use Rattle.std.specs.Prelude.{List};
-    ghost use Rattle.tangle_expansion.specs.declared.nodes.Node.{Node};
+    ghost use Rattle.tangle_plans.specs.declared.nodes.Node.{Node};
 
     ghost Value = { List Node };
 
@@ -36,13 +36,6 @@ impl Work {
         ensures { result ≡ length self.now }
     {
         self.nodes.len() as u64
-    }
-
-    /// The nodes that were expanded, in order.
-    pub fn nodes(&self) -> &[Node]
-        ensures { result.now ≡ self.now }
-    {
-        self.nodes.as_slice()
     }
 
     /// Notes that the node was expanded.

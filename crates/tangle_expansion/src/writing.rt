@@ -1,18 +1,18 @@
 //! Writing the text of an expansion.
-ghost use Rattle.std.specs.Prelude.{◌≡◌, ◌+◌, ◌-◌, ◌^◌, ◌<◌, ◌≤◌, take, drop, length};
+ghost use Rattle.std.specs.Prelude.{◌≡◌, ◌+◌, ◌-◌, ◌^◌, ◌<◌, ◌≤◌, ◌++◌, decimal, drop, length};
 ghost use Rattle.tangle_streams.specs.Streams.{IsWritten, IsWrittenBehind};
 ghost use Rattle.tangle_expansion.specs.Limits.{heaviest};
-ghost use Rattle.tangle_expansion.specs.Meaning.{title_of, bytes_between, is_use as is_use_step};
-ghost use Rattle.tangle_expansion.specs.Meaning.{pieces_passed, marks_passed, bytes_passed};
-ghost use Rattle.tangle_expansion.specs.Meaning.{own_symbols, before_use, behind_use};
+ghost use Rattle.tangle_plans.specs.Meaning.{title_of, bytes_between, is_use as is_use_step};
+ghost use Rattle.tangle_plans.specs.Meaning.{pieces_passed, marks_passed, bytes_passed};
+ghost use Rattle.tangle_plans.specs.Meaning.{own_symbols, before_use, behind_use};
 ghost use Rattle.tangle_expansion.specs.Numbers.{node_numbers, opening_text, closing_text};
-ghost use Rattle.tangle_expansion.specs.Numbers.{mark_text, place_text, text};
+ghost use Rattle.tangle_expansion.specs.Numbers.{mark_text, origin_text, text};
 
-use crate::expansion::{Expansion, NodeBody, SharedExpansion, Step};
-use crate::numbers::{Numbers, PieceNumbers, place_at, section_at};
-use crate::steps::{bytes_behind, marks_behind, pieces_behind};
+use crate::expansion::{Expansion, SharedExpansion};
+use crate::numbers::{Numbers, PieceNumbers, origin_at, section_at};
 use itoa::Buffer;
 use tangle_lines::{MarkMode, Origin, Sink, WriteFault, put};
+use tangle_plans::{NodeBody, Step, bytes_behind, marks_behind, pieces_behind};
 
 /// Where the writing of a plan is: behind so many steps, so many pieces, so many marks of this
 /// piece, and so many bytes of the text.
@@ -41,6 +41,24 @@ fn first() -> Cursor
     }
 }
 
+/// Writes a number with these bytes before and behind it.
+#[inline(always)]
+fn put_between<S: Sink>(
+    before: &[u8],
+    number: usize,
+    behind: &[u8],
+    sink: &mut S,
+    so_far: Result<u128, WriteFault>,
+) -> Result<u128, WriteFault>
+    ensures { IsWrittenBehind (S.stream sink.old) (S.stream sink.new)
+        so_far (before.now ++ decimal number ++ behind.now) result }
+{
+    let mut digits = Buffer::new();
+    let opened = put(sink, so_far, before);
+    let numbered = put(sink, opened, digits.format(number).as_bytes());
+    put(sink, numbered, behind)
+}
+
 /// Writes the opening of a piece.
 fn put_opening<S: Sink>(
     section: usize,
@@ -50,10 +68,7 @@ fn put_opening<S: Sink>(
     ensures { IsWrittenBehind (S.stream sink.old) (S.stream sink.new)
         so_far (opening_text section) result }
 {
-    let mut digits = Buffer::new();
-    let opened = put(sink, so_far, b"/*");
-    let numbered = put(sink, opened, digits.format(section).as_bytes());
-    put(sink, numbered, b":*/")
+    put_between(b"/*", section, b":*/", sink, so_far)
 }
 
 /// Writes the closing of a piece.
@@ -65,10 +80,7 @@ fn put_closing<S: Sink>(
     ensures { IsWrittenBehind (S.stream sink.old) (S.stream sink.new)
         so_far (closing_text section) result }
 {
-    let mut digits = Buffer::new();
-    let opened = put(sink, so_far, b"/*:");
-    let numbered = put(sink, opened, digits.format(section).as_bytes());
-    put(sink, numbered, b"*/")
+    put_between(b"/*:", section, b"*/", sink, so_far)
 }
 
 /// Writes a line mark in full.
@@ -92,20 +104,20 @@ fn put_full_mark<S: Sink>(
 /// Writes a line mark.
 fn put_mark<S: Sink>(
     numbers: &Numbers,
-    place: Origin,
+    origin: Origin,
     sink: &mut S,
     so_far: Result<u128, WriteFault>,
 ) -> Result<u128, WriteFault>
     ensures { IsWrittenBehind (S.stream sink.old) (S.stream sink.new)
-        so_far (place_text numbers.now place) result }
+        so_far (origin_text numbers.now origin) result }
 {
     match numbers.marks() {
-        MarkMode::Full => put_full_mark(numbers.file_name(place), place.line, sink, so_far),
+        MarkMode::Full => put_full_mark(numbers.file_name(origin), origin.line, sink, so_far),
         MarkMode::Bare => put(sink, so_far, b"\n"),
     }
 }
 
-/// The bytes from one place of a text up to another.
+/// The bytes from one position of a text up to another.
 fn between(text: &[u8], start: usize, end: usize) -> &[u8]
     ensures { result.now ≡ bytes_between text.now start end }
 {
@@ -118,7 +130,8 @@ fn is_use(step: Step) -> bool
 {
     match step {
         Step::Use(_) => true,
-        Step::Open | Step::Run(_) | Step::Mark | Step::Macros | Step::Space | Step::Close => false,
+        Step::Open | Step::Run(_) | Step::Mark | Step::AllMacros | Step::Space | Step::Close =>
+            false,
     }
 }
 
@@ -141,16 +154,16 @@ fn put_step<S: Sink>(
     match step {
         Step::Open => {
             let opened = put_opening(section_at(pieces, at.piece), sink, so_far);
-            put_mark(numbers, place_at(pieces, at.piece, 0), sink, opened)
+            put_mark(numbers, origin_at(pieces, at.piece, 0), sink, opened)
         }
         Step::Run(end) => put(sink, so_far, between(&node.text, at.start, end)),
         Step::Mark => put_mark(
             numbers,
-            place_at(pieces, at.piece, at.marks + 1),
+            origin_at(pieces, at.piece, at.marks + 1),
             sink,
             so_far,
         ),
-        Step::Macros => {
+        Step::AllMacros => {
             let fed = put(sink, so_far, b"\n");
             put(sink, fed, numbers.macros())
         }

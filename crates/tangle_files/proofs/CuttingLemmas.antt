@@ -85,7 +85,7 @@ trimmed_is_front (b ∷ bs) = by (trimmed bs) (trimmed_is_front bs) (b == 32) re
     by [] e false is = ap (λ l. take (length l) (b ∷ bs)) (ap (λ t. cond t [] (b ∷ [])) is) ∙ sym (ap (λ t. cond t [] (b ∷ [])) is)
     by (c ∷ cs) e s is = ap (λ l. b ∷ l) e
 
--- the first line behind a place, with its line feed and without one
+-- the first line behind a position, with its line feed and without one
 pub line_with_feed : (bs rest : List ℕ) (start n : ℕ) → rest ≡ drop start bs → n < length rest → ((k : ℕ) → k < n → (get_or rest k 0 == 10) ≡ false)
     → (get_or rest n 0 == 10) ≡ true
     → raw_lines (drop start bs) ≡ take (start + n - start) (drop start bs) ∷ raw_lines (drop (start + n + 1) bs)
@@ -114,7 +114,7 @@ pub line_fits : (text line : List ℕ) (start end : ℕ) → line ≡ trimmed (t
 line_fits text line start end is low high =
     omega (arith, ap length is, trimmed_shorter (take (end - start) (drop start text)), length-take (end - start) (drop start text))
 
--- the lines of a text up to a place
+-- the lines of a text up to a position
 pub record IsCutUpTo (text : List ℕ) (start : ℕ) (lines : List (List ℕ)) : Type 0 where
   pub made : lines ++ cut (drop start text) ≡ cut text
   pub short : list_any is_too_long (cut (drop start text)) ≡ list_any is_too_long (cut text)

@@ -125,7 +125,7 @@ IsWithinLimits-with_file files name bytes h within =
       lines = All-append (λ file. length file.1 ≤ most_lines) files _ within.lines (last_few (name, cut bytes) few);
     }
 
--- lists whose items are equal, place by place
+-- lists whose items are equal, one by one
 AllZip-same : {X : Type 0} (xs ys : List X) → AllZip (λ x y. y ≡ x) xs ys → ys ≡ xs
 AllZip-same [] [] h = refl
 AllZip-same [] (y ∷ ys) h = absurd h
@@ -159,16 +159,16 @@ files_of-with_file files name bytes old new k v none is key value inserted =
     ∙ map-insert_entry old.entries k v (rw (key, is) (accepted files name bytes none).absent)
     ∙ (λ i. is i ++ (key i, value i) ∷ [])
 
-place-entries : (name : List ℕ) (es : List (Vec ℕ Global × SharedLines))
+position_or_len-entries : (name : List ℕ) (es : List (Vec ℕ Global × SharedLines))
     → position_or_len (λ (f : List ℕ × List (List ℕ)). bytes_eq name f.0) (map file_of es) ≡ position_or_len (λ (k : Vec ℕ Global). bytes_eq name k.items) (map (λ e. e.0) es)
-place-entries name [] = refl
-place-entries name (e ∷ es) = ap (λ n. cond (not (bytes_eq name e.0.items)) (1 + n) 0) (place-entries name es)
+position_or_len-entries name [] = refl
+position_or_len-entries name (e ∷ es) = ap (λ n. cond (not (bytes_eq name e.0.items)) (1 + n) 0) (position_or_len-entries name es)
 
--- a name is at the same place in the table as among the files
+-- a name is at the same position in the table as among the files
 pub position-entries : (name : List ℕ) (es : List (Vec ℕ Global × SharedLines))
     → position (λ (f : List ℕ × List (List ℕ)). bytes_eq name f.0) (map file_of es) ≡ position (λ (k : Vec ℕ Global). bytes_eq name k.items) (map (λ e. e.0) es)
 position-entries name es =
-    let at = place-entries name es in
+    let at = position_or_len-entries name es in
     let len : length (map file_of es) ≡ length (map (λ e. e.0) es) = length-map es file_of ∙ sym (length-map es (λ e. e.0)) in
     λ i. cond (nat_lt (at i) (len i)) (Some (at i)) None
 

@@ -8,7 +8,7 @@ use Rattle.tangle_files.specs.declared.edits.Edit.TheVariants.{Insert, Remove, R
 use Rattle.tangle_files.specs.Lines.{FileTable, lines_of, trimmed}
 use Rattle.tangle_files.specs.Roles.{RolesRead}
 
--- the lines with new ones in place of those between two places
+-- the lines with new ones in place of those between two positions
 abbrev pub spliced : List (List ℕ) → ℕ → List (List ℕ) → ℕ → List (List ℕ)
 spliced lines start new_lines end = take start lines ++ new_lines ++ drop end lines
 

@@ -1,11 +1,11 @@
 -- The roles of files.
-use Rattle.std.specs.Prelude.{ℕ, Bool, true, ◌&&◌, List, if◌then◌else◌, Option, None, Some, is_some}
+use Rattle.std.specs.Prelude.{ℕ, Bool, true, ◌&&◌, List, if◌then◌else◌, Option, None, Some}
 use Rattle.tangle_files.specs.declared.refusal.Refusal.{Refusal}
 use Rattle.tangle_files.specs.declared.refusal.Refusal.TheVariants.{BadName}
 use Rattle.tangle_files.specs.declared.marks.MarkMode.{MarkMode}
 use Rattle.tangle_files.specs.declared.marks.MarkMode.TheVariants.{Full}
-use Rattle.tangle_files.specs.Adding.{is_name}
-use Rattle.tangle_files.specs.Lines.{FileTable, file_number}
+use Rattle.tangle_files.specs.Adding.{has_file, is_name}
+use Rattle.tangle_files.specs.Lines.{FileTable}
 
 -- the names of the web, of the change file if there is one, and of the main file, and how line
 -- marks are written
@@ -27,13 +27,10 @@ is_name_if_any (Some name) = is_name name
 abbrev pub roles_refusal : RolesRead → Option Refusal
 roles_refusal roles = if is_name roles.web && is_name_if_any roles.change && is_name roles.out then None else Some BadName
 
-abbrev pub is_there : FileTable → List ℕ → Bool
-is_there files name = is_some (file_number files name)
-
-abbrev pub is_there_if_any : FileTable → Option (List ℕ) → Bool
-is_there_if_any files None = true
-is_there_if_any files (Some name) = is_there files name
+abbrev pub has_file_if_any : FileTable → Option (List ℕ) → Bool
+has_file_if_any files None = true
+has_file_if_any files (Some name) = has_file files name
 
 -- the web and the change file that is named are there
 abbrev pub fits : FileTable → RolesRead → Bool
-fits files roles = is_there files roles.web && is_there_if_any files roles.change
+fits files roles = has_file files roles.web && has_file_if_any files roles.change

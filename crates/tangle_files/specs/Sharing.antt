@@ -1,10 +1,10 @@
 -- Lines that share a text: each is a part of it.
 use Rattle.std.specs.Prelude.{ℕ, ◌+◌, ◌*◌, ◌^◌, List, take, drop}
 
--- a place in a text, by its low 32 bits and those above them
-abbrev pub place_of : ℕ → ℕ → ℕ
-place_of low high = low + high * 2 ^ 32
+-- a position in a text, by its low 32 bits and those above them
+abbrev pub position_of : ℕ → ℕ → ℕ
+position_of low high = low + high * 2 ^ 32
 
--- so many bytes of a text from a place on
+-- so many bytes of a text from a position on
 abbrev pub part_of : List ℕ → ℕ → ℕ → List ℕ
-part_of text place size = take size (drop place text)
+part_of text position size = take size (drop position text)

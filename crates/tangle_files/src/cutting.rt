@@ -7,7 +7,7 @@ ghost use Rattle.tangle_files.specs.Adding.{cut_refusal, is_too_long};
 ghost use Rattle.tangle_files.specs.Sharing.{part_of};
 
 use crate::files::MOST_LINES;
-use crate::line::{Line, MOST_PLACES};
+use crate::line::{Line, MOST_POSITIONS};
 use crate::refusal::Refusal;
 use memchr::memchr;
 use std::alloc::{AllocError, Global};
@@ -90,7 +90,7 @@ fn share_lines(alloc: Global, text: &Rc<Vec<u8>>) -> Option<Vec<Line>>
     while start < bytes.len() {
         let end = end_of_line(bytes, start);
         let line = without_trailing_spaces(&bytes[start..end]);
-        if line.len() > LONGEST_LINE || lines.len() >= MOST_LINES || start >= MOST_PLACES {
+        if line.len() > LONGEST_LINE || lines.len() >= MOST_LINES || start >= MOST_POSITIONS {
             return None;
         }
         match add_line(&mut lines, text, start, line.len() as u16) {
@@ -108,7 +108,7 @@ fn bytes_of(text: &Rc<Vec<u8>>) -> &[u8]
     text.as_slice()
 }
 
-/// Adds the line of so many bytes from this place of the text on.
+/// Adds the line of so many bytes from this position of the text on.
 fn add_line(
     lines: &mut Vec<Line>,
     text: &Rc<Vec<u8>>,
@@ -124,7 +124,7 @@ fn add_line(
     Ok(())
 }
 
-/// Where the line ends that begins at this place.
+/// Where the line ends that begins at this position.
 fn end_of_line(bytes: &[u8], start: usize) -> usize
     requires { start < length bytes.now }
     ensures low { start ≤ result }

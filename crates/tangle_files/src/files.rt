@@ -30,7 +30,7 @@ pub(crate) const MOST_FILES: usize = 256;
 pub(crate) const MOST_LINES: usize = 1_000_000;
 
 /// Files with distinct names and their lines, in the order in which they were added: at most 256
-/// files, each of at most 1,000,000 lines. A file's number is its place in that order, from 0.
+/// files, each of at most 1,000,000 lines. A file's number is its position in that order, from 0.
 #[derive(Drop)]
 pub struct Files {
     table: IndexMap<Vec<u8>, Rc<Vec<Line>>>,
@@ -83,7 +83,7 @@ impl Files {
         self.add_owned(name, bytes)
     }
 
-    /// Adds a file as [`Files::add`] does. Its bytes are handed over, and its lines share them:
+    /// Adds a file as [`Files::add`] does. Its bytes are passed, and its lines share them:
     /// they are cut in one pass, and not copied.
     ///
     /// # Errors

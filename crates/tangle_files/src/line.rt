@@ -7,14 +7,14 @@ use std::alloc::AllocError;
 use std::marker::Model;
 use std::rc::Rc;
 
-/// How many places the low number of a place distinguishes.
-const LOW_PLACES: usize = 4_294_967_296;
+/// How many positions the low number of a position distinguishes.
+const LOW_POSITIONS: usize = 4_294_967_296;
 
-/// How many places the two numbers of a place distinguish: more than bytes that fit a memory.
-pub(crate) const MOST_PLACES: usize = 281_474_976_710_656;
+/// How many positions the two numbers of a position distinguish: more than bytes that fit a memory.
+pub(crate) const MOST_POSITIONS: usize = 281_474_976_710_656;
 
 /// A line without its trailing spaces and its line feed: at most 65,535 bytes. It is in a text that
-/// the lines of its file share. Its place there is two numbers, so that a line takes 16 bytes
+/// the lines of its file share. Its position there is two numbers, so that a line takes 16 bytes
 /// though a text may pass 4 GiB.
 #[derive(Drop)]
 pub struct Line {
@@ -26,26 +26,26 @@ pub struct Line {
 
 impl Model for Line {
     ghost use Rattle.std.specs.Prelude.{List, ℕ, ◌+◌, ◌≤◌, length};
-    ghost use Rattle.tangle_files.specs.Sharing.{part_of, place_of};
+    ghost use Rattle.tangle_files.specs.Sharing.{part_of, position_of};
 
     ghost Value = { List ℕ };
 
-    ghost view = { λ l. part_of l.text.value.items (place_of l.low l.high) l.size };
+    ghost view = { λ l. part_of l.text.value.items (position_of l.low l.high) l.size };
 
-    ghost invariant = { λ l. place_of l.low l.high + l.size ≤ length l.text.value.items };
+    ghost invariant = { λ l. position_of l.low l.high + l.size ≤ length l.text.value.items };
 }
 
 impl Line {
-    /// The line of so many bytes from this place of the text on.
-    pub(crate) fn new(text: Rc<Vec<u8>>, place: usize, size: u16) -> Self
-        requires near { place < 2 ^ 48 }
-        requires within { place + size ≤ length text.value.items }
-        ensures { result ≡ part_of text.value.items place size }
+    /// The line of so many bytes from this position of the text on.
+    pub(crate) fn new(text: Rc<Vec<u8>>, position: usize, size: u16) -> Self
+        requires near { position < 2 ^ 48 }
+        requires within { position + size ≤ length text.value.items }
+        ensures { result ≡ part_of text.value.items position size }
     {
         Line {
             text,
-            low: (place % LOW_PLACES) as u32,
-            high: (place / LOW_PLACES) as u16,
+            low: (position % LOW_POSITIONS) as u32,
+            high: (position / LOW_POSITIONS) as u16,
             size,
         }
     }
@@ -67,7 +67,7 @@ impl Line {
         ensures value { result.now ≡ self.now }
         ensures short { length result.now ≤ longest_line }
     {
-        let place = self.low as usize + self.high as usize * LOW_PLACES;
-        &self.text.as_slice()[place..place + self.size as usize]
+        let position = self.low as usize + self.high as usize * LOW_POSITIONS;
+        &self.text.as_slice()[position..position + self.size as usize]
     }
 }

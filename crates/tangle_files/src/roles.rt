@@ -2,7 +2,8 @@
 ghost use Rattle.std.specs.Prelude.{◌≡◌, IfOk, IfSome, IfNone, IsOkUnless, Err};
 ghost use Rattle.std.specs.Option.{option_copied, option_map};
 ghost use Rattle.tangle_files.specs.Roles.{roles_of, roles_refusal, is_name_if_any};
-ghost use Rattle.tangle_files.specs.Roles.{fits as roles_fit, is_there, is_there_if_any};
+ghost use Rattle.tangle_files.specs.Adding.{has_file};
+ghost use Rattle.tangle_files.specs.Roles.{fits as roles_fit, has_file_if_any};
 
 use crate::files::{Files, is_file_name};
 use crate::marks::MarkMode;
@@ -126,14 +127,14 @@ fn copy_if_any(alloc: Global, name: Option<&[u8]>) -> Result<Option<Vec<u8>>, No
 
 /// Whether the file is in the table.
 fn is_in(files: &Files, name: &[u8]) -> bool
-    ensures { result ≡ is_there files.now name.now }
+    ensures { result ≡ has_file files.now name.now }
 {
-    files.find(name).is_some()
+    files.has(name)
 }
 
 /// Whether the file is in the table, if one is named.
 fn is_in_if_any(files: &Files, name: Option<&[u8]>) -> bool
-    ensures { result ≡ is_there_if_any files.now (option_copied name.entry) }
+    ensures { result ≡ has_file_if_any files.now (option_copied name.entry) }
 {
     match name {
         Some(name) => is_in(files, name),

@@ -57,8 +57,8 @@ fn line_of_text(alloc: Global, text: &[u8]) -> Result<Line, AllocError>
     Ok(Line::new(shared, 0, bytes.len() as u16))
 }
 
-/// Puts a line, or none, in place of the line between two places, or of none, in the file of this
-/// name.
+/// Puts a line, or none, in place of the line between two positions, or of none, in the file of
+/// this name.
 fn change_lines(
     table: &mut IndexMap<Vec<u8>, Rc<Vec<Line>>>,
     file: &[u8],
@@ -66,7 +66,7 @@ fn change_lines(
     line: Option<Line>,
     end: usize,
 ) -> Result<(), AllocError>
-    requires places { (start ≤ end) × (end ≤ start + 1) }
+    requires positions { (start ≤ end) × (end ≤ start + 1) }
     requires within { IfSome (lines_of (files_of table.old) file.now)
         (λ lines. end ≤ length lines) }
     ensures ok { OnOk result (files_of table.new
@@ -80,15 +80,15 @@ fn change_lines(
     }
 }
 
-/// Puts a line, or none, in place of the line between two places, or of none. A list that another
-/// table shares stays as it is, and a new one is made.
+/// Puts a line, or none, in place of the line between two positions, or of none. A list that
+/// another table shares stays as it is, and a new one is made.
 fn splice_shared(
     shared: &mut Rc<Vec<Line>>,
     start: usize,
     line: Option<Line>,
     end: usize,
 ) -> Result<(), AllocError>
-    requires places { (start ≤ end) × (end ≤ start + 1) }
+    requires positions { (start ≤ end) × (end ≤ start + 1) }
     requires within { end ≤ length shared.old.value.items }
     ensures ok { OnOk result (shared.new.value.items
         ≡ spliced shared.old.value.items start (option_to_list line) end) }
@@ -112,7 +112,7 @@ fn splice_in_place(
     line: Option<Line>,
     end: usize,
 ) -> Result<(), AllocError>
-    requires places { (start ≤ end) × (end ≤ start + 1) }
+    requires positions { (start ≤ end) × (end ≤ start + 1) }
     requires within { end ≤ length lines.old.items }
     ensures ok { OnOk result (lines.new.items
         ≡ spliced lines.old.items start (option_to_list line) end) }
@@ -135,7 +135,7 @@ fn splice_in_place(
     Ok(())
 }
 
-/// The lines with one, or none, in place of those between two places.
+/// The lines with one, or none, in place of those between two positions.
 fn splice(
     alloc: Global,
     lines: &[Line],

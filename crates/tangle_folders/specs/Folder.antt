@@ -12,20 +12,29 @@ use Rattle.tangle_folders.specs.declared.folder.FolderFault.TheVariants.{Missing
 abbrev pub File : Type 0
 File = List ℕ × List ℕ
 
+-- What a folder reports: its files, those that it created, the names that it was asked for and those of them at which it
+-- failed, each in order and where it reports them; and how often it failed, a count that stays at its last value.
+pub record FolderRead : Type 0 where
+  pub files : Option (List File)
+  pub created : Option (List File)
+  pub asked : Option (List (List ℕ))
+  pub failed : Option (List (List ℕ))
+  pub failures : ℕ
+
 -- the most bytes of a file that a program reads
 abbrev pub file_limit : ℕ
 file_limit = 67108864
 
 -- the bytes of the file of this name
-abbrev pub bytes_of : List File → List ℕ → Option (List ℕ)
-bytes_of files name = lookup (bytes_eq name) files
+abbrev pub file_bytes : List File → List ℕ → Option (List ℕ)
+file_bytes files name = lookup (bytes_eq name) files
 
 -- what a folder answers that reports its files
 abbrev pub Reads : Option (List File) → List ℕ → Result (Vec ℕ Global) FolderFault → Type 0
 Reads None name result = ⊤
-Reads (Some files) name (Ok bytes) = bytes_of files name ≡ Some bytes.items
-Reads (Some files) name (Err Missing) = bytes_of files name ≡ None
-Reads (Some files) name (Err TooBig) = IsSomeAnd (bytes_of files name) (λ bytes. file_limit < length bytes)
+Reads (Some files) name (Ok bytes) = file_bytes files name ≡ Some bytes.items
+Reads (Some files) name (Err Missing) = file_bytes files name ≡ None
+Reads (Some files) name (Err TooBig) = IsSomeAnd (file_bytes files name) (λ bytes. file_limit < length bytes)
 Reads (Some files) name (Err Failed) = ⊤
 Reads (Some files) name (Err NoMemory) = ⊤
 
@@ -72,7 +81,7 @@ Closes None new taken = new ≡ None
 Closes (Some files) new None = ⊤
 Closes (Some files) new (Some bytes) = new ≡ Some (with_last files bytes)
 
--- or a front of them
+-- or a prefix of them
 abbrev pub ClosesWithin : Option (List File) → Option (List File) → Option (List ℕ) → Type 0
 ClosesWithin None new taken = new ≡ None
 ClosesWithin (Some files) new None = ⊤

@@ -12,8 +12,8 @@ abbrev pub file_of : CreatedFile → File
 file_of file = (file.name.items, file.bytes.items)
 
 -- the names that are held
-abbrev pub texts : List (Vec ℕ Global) → List (List ℕ)
-texts names = map (λ (name : Vec ℕ Global). name.items) names
+abbrev pub bytes_of_each : List (Vec ℕ Global) → List (List ℕ)
+bytes_of_each names = map (λ (name : Vec ℕ Global). name.items) names
 
 -- the files as they lie in memory
 abbrev pub Held : Type 0

@@ -71,15 +71,13 @@ fn create_at<R: Files>(rt: &R, alloc: Global, path: &str) -> io::Result<BufWrite
 impl<'r, R: Files> Folder for Disk<'r, R> {
     type Out = IoSink<BufWriter<R::File>>;
 
-    ghost files = { λ _. None };
-
-    ghost created = { λ _. None };
-
-    ghost asked = { λ _. None };
-
-    ghost failed = { λ _. None };
-
-    ghost failures = { λ disk. disk.failures };
+    ghost state = { λ disk. record {
+      files = None;
+      created = None;
+      asked = None;
+      failed = None;
+      failures = disk.failures;
+    } };
 
     fn read_file(&mut self, alloc: Global, name: &[u8]) -> Result<Vec<u8>, FolderFault> {
         let Some(path) = path_of(name) else {

@@ -1,9 +1,8 @@
 //! What a program reads its files from and writes its outputs to.
-ghost use Rattle.std.specs.Prelude.{◌≡◌, ◌≢◌, ◌∷◌, ◌≤◌, [], ℕ, List, Option, IfErr, IfOk, OnOk};
-ghost use Rattle.std.specs.Prelude.{OnErr, vec_len};
-ghost use Rattle.tangle_folders.specs.Folder.{AddsAsked, Begins, Closes, ClosesWithin, File, Reads};
-ghost use Rattle.tangle_folders.specs.Folder.{after_close, after_read, after_refusal, file_limit};
-ghost use Rattle.tangle_folders.specs.Folder.{with_created, with_failed};
+ghost use Rattle.std.specs.Prelude.{◌≡◌, ◌≢◌, ◌∷◌, ◌≤◌, [], IfErr, IfOk, OnErr, OnOk, vec_len};
+ghost use Rattle.tangle_folders.specs.Folder.{AddsAsked, Begins, Closes, ClosesWithin, FolderRead};
+ghost use Rattle.tangle_folders.specs.Folder.{Reads, after_close, after_read, after_refusal};
+ghost use Rattle.tangle_folders.specs.Folder.{file_limit, with_created, with_failed};
 ghost use Rattle.tangle_folders.specs.declared.folder.FolderFault.TheVariants.{NoMemory};
 
 use std::alloc::Global;
@@ -33,20 +32,9 @@ pub trait Folder {
     /// The writer of a file that was created.
     type Out: Sink + Drop;
 
-    // Its files, where it reports them.
-    ghost files: { Self → Option (List File) };
-
-    // The files that it created, in order, where it reports them.
-    ghost created: { Self → Option (List File) };
-
-    // The names that it was asked for, in order, where it reports them.
-    ghost asked: { Self → Option (List (List ℕ)) };
-
-    // Those of these names at which it failed, in order, where it reports them.
-    ghost failed: { Self → Option (List (List ℕ)) };
-
-    // How often it failed; at its last value the count stays.
-    ghost failures: { Self → ℕ };
+    // Its files, those that it created, the names that it was asked for and those of them at which
+    // it failed, where it reports them; and how often it failed.
+    ghost state: { Self → FolderRead };
 
     /// The bytes of its file of this name.
     ///
@@ -55,13 +43,14 @@ pub trait Folder {
     /// `Missing` where it has no such file, `TooBig` where the file is larger than [`FILE_LIMIT`],
     /// `NoMemory` where a allocation fails, and `Failed` where the folder failed, which it counts.
     fn read_file(&mut self, alloc: Global, name: &[u8]) -> Result<Vec<u8>, FolderFault>
-        ensures answer { Reads (files self.old) name.now result }
+        ensures answer { Reads (state self.old).files name.now result }
         ensures small { IfOk result (λ bytes. vec_len bytes ≤ file_limit) }
-        ensures counted { failures self.new ≡ after_read result (failures self.old) }
-        ensures asks { AddsAsked (asked self.old) (asked self.new) name.now result }
-        ensures fails { failed self.new ≡ with_failed (failed self.old) name.now result }
-        ensures files_stay { files self.new ≡ files self.old }
-        ensures created_stay { created self.new ≡ created self.old };
+        ensures counted { (state self.new).failures ≡ after_read result (state self.old).failures }
+        ensures asks { AddsAsked (state self.old).asked (state self.new).asked name.now result }
+        ensures fails { (state self.new).failed
+            ≡ with_failed (state self.old).failed name.now result }
+        ensures files_stay { (state self.new).files ≡ (state self.old).files }
+        ensures created_stay { (state self.new).created ≡ (state self.old).created };
 
     /// Creates a file without bytes, and gives its writer. Where this is refused, nothing is
     /// created.
@@ -71,17 +60,20 @@ pub trait Folder {
     /// `NoMemory` where an allocation fails. Any other fault is a failure of the folder, which it
     /// counts.
     fn create(&mut self, alloc: Global, name: &[u8]) -> Result<Self::Out, FolderFault>
-        ensures added { OnOk result
-            (created self.new ≡ with_created (created self.old) ((name.now, []) ∷ [])) }
-        ensures empty { IfOk result (λ out. Begins (created self.old) (Self.Out.stream out).taken) }
+        ensures added { OnOk result ((state self.new).created
+            ≡ with_created (state self.old).created ((name.now, []) ∷ [])) }
+        ensures empty { IfOk result
+            (λ out. Begins (state self.old).created (Self.Out.stream out).taken) }
         ensures unfailed { IfOk result (λ out. (Self.Out.stream out).failures ≡ 0) }
-        ensures refused { OnErr result (created self.new ≡ created self.old) }
-        ensures counted { failures self.new ≡ after_refusal result (failures self.old) }
-        ensures asked_stay { asked self.new ≡ asked self.old }
-        ensures failed_stay { failed self.new ≡ failed self.old }
-        ensures files_stay { files self.new ≡ files self.old };
+        ensures refused { OnErr result ((state self.new).created ≡ (state self.old).created) }
+        ensures counted { (state self.new).failures
+            ≡ after_refusal result (state self.old).failures }
+        ensures asked_stay { (state self.new).asked ≡ (state self.old).asked }
+        ensures failed_stay { (state self.new).failed ≡ (state self.old).failed }
+        ensures files_stay { (state self.new).files ≡ (state self.old).files };
 
-    /// Gives the file created last the bytes of its writer; where this is refused, a front of them.
+    /// Gives the file created last the bytes of its writer; where this is refused, a prefix of
+    /// them.
     ///
     /// # Errors
     ///
@@ -89,13 +81,13 @@ pub trait Folder {
     /// had failed too, also where this is `Ok`.
     fn close(&mut self, out: Self::Out) -> Result<(), FolderFault>
         ensures whole { OnOk result
-            (Closes (created self.old) (created self.new) (Self.Out.stream out).taken) }
-        ensures part { OnErr result
-            (ClosesWithin (created self.old) (created self.new) (Self.Out.stream out).taken) }
+            (Closes (state self.old).created (state self.new).created (Self.Out.stream out).taken) }
+        ensures part { OnErr result (ClosesWithin (state self.old).created (state self.new).created
+            (Self.Out.stream out).taken) }
         ensures needs_no_memory { IfErr result (λ fault. fault ≢ NoMemory) }
-        ensures counted { failures self.new ≡ after_close result ((Self.Out.stream out).failures)
-            (failures self.old) }
-        ensures asked_stay { asked self.new ≡ asked self.old }
-        ensures failed_stay { failed self.new ≡ failed self.old }
-        ensures files_stay { files self.new ≡ files self.old };
+        ensures counted { (state self.new).failures
+            ≡ after_close result ((Self.Out.stream out).failures) (state self.old).failures }
+        ensures asked_stay { (state self.new).asked ≡ (state self.old).asked }
+        ensures failed_stay { (state self.new).failed ≡ (state self.old).failed }
+        ensures files_stay { (state self.new).files ≡ (state self.old).files };
 }

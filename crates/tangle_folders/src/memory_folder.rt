@@ -1,13 +1,14 @@
 //! A folder in memory, for tests: it reports its files, and can be made to fail.
 ghost use Rattle.std.specs.Prelude.{◌≡◌, ◌≢◌, ◌⊎◌, ◌≤◌, ◌-◌, ◌∷◌, ◌++◌, ℕ, min, List, [], None};
-ghost use Rattle.std.specs.Prelude.{Some, Err, Option, map, option_map, length, true, vec_len};
+ghost use Rattle.std.specs.Prelude.{Some, Err, Option, map, length, true, vec_len};
 ghost use Rattle.std.specs.Prelude.{IfErr, IfOk, IfSome, OnErr, OnOk};
 ghost use Rattle.tangle_streams.specs.Streams.{Takes, counted, one_more_failure};
 ghost use Rattle.std.specs.Option.{option_copied};
 ghost use Rattle.tangle_folders.specs.Folder.{AddsAsked, Reads, after_close, after_read};
-ghost use Rattle.tangle_folders.specs.Folder.{after_refusal, bytes_of, file_limit, with_failed};
+ghost use Rattle.tangle_folders.specs.Folder.{after_refusal, file_bytes, file_limit, with_failed};
 ghost use Rattle.tangle_folders.specs.Folder.{with_last};
-ghost use Rattle.tangle_folders.specs.MemoryFolder.{after_call, file_of, held_files, is_due, texts};
+ghost use Rattle.tangle_folders.specs.MemoryFolder.{after_call, file_of, held_files, is_due};
+ghost use Rattle.tangle_folders.specs.MemoryFolder.{bytes_of_each};
 ghost use Rattle.tangle_folders.specs.declared.folder.FolderFault.TheVariants.{Failed, NoMemory};
 
 use crate::folder::{FILE_LIMIT, Folder, FolderFault};
@@ -123,10 +124,11 @@ impl MemoryFolder {
     ///
     /// `AllocError` where an allocation fails; the files are then what they were.
     pub fn put(&mut self, alloc: Global, name: &[u8], bytes: &[u8]) -> Result<(), AllocError>
-        ensures ok { OnOk result (bytes_of (held_files self.new.files) name.now ≡ Some bytes.now) }
+        ensures ok { OnOk result (file_bytes (held_files self.new.files) name.now
+            ≡ Some bytes.now) }
         ensures others { OnOk result ((other : List ℕ) → other ≢ name.now
-            → bytes_of (held_files self.new.files) other
-            ≡ bytes_of (held_files self.old.files) other) }
+            → file_bytes (held_files self.new.files) other
+            ≡ file_bytes (held_files self.old.files) other) }
         ensures err { OnErr result (held_files self.new.files ≡ held_files self.old.files) }
         ensures kept { self.new ≡ record self.old { files = self.new.files } }
     {
@@ -176,8 +178,8 @@ impl MemoryFolder {
 
     // Notes that it was asked for a file.
     fn note(&mut self, alloc: Global, name: &[u8]) -> Result<(), AllocError>
-        ensures ok { OnOk result (texts self.new.asked.items
-            ≡ texts self.old.asked.items ++ name.now ∷ []) }
+        ensures ok { OnOk result (bytes_of_each self.new.asked.items
+            ≡ bytes_of_each self.old.asked.items ++ name.now ∷ []) }
         ensures err { OnErr result (self.new.asked.items ≡ self.old.asked.items) }
         ensures others { self.new ≡ record self.old { asked = self.new.asked } }
     {
@@ -188,8 +190,8 @@ impl MemoryFolder {
 
     // Fails at a file that it was asked for, and notes the name.
     fn fail_at(&mut self, alloc: Global, name: &[u8]) -> Result<(), AllocError>
-        ensures ok { OnOk result (texts self.new.failed.items
-            ≡ texts self.old.failed.items ++ name.now ∷ []) }
+        ensures ok { OnOk result (bytes_of_each self.new.failed.items
+            ≡ bytes_of_each self.old.failed.items ++ name.now ∷ []) }
         ensures counted { OnOk result (self.new.failures ≡ one_more_failure self.old.failures) }
         ensures err { OnErr result (self.new.failed.items ≡ self.old.failed.items) }
         ensures uncounted { OnErr result (self.new.failures ≡ self.old.failures) }
@@ -204,7 +206,7 @@ impl MemoryFolder {
 
     // The bytes of its file of this name.
     fn bytes(&self, name: &[u8]) -> Option<&[u8]>
-        ensures { option_copied result ≡ bytes_of (held_files self.now.files) name.now }
+        ensures { option_copied result ≡ file_bytes (held_files self.now.files) name.now }
     {
         match self.files.get(name) {
             Some(bytes) => Some(bytes.as_slice()),
@@ -226,25 +228,23 @@ fn set_last(files: &mut Vec<CreatedFile>, bytes: Vec<u8>)
 impl Folder for MemoryFolder {
     type Out = MemorySink;
 
-    ghost files = { λ folder. Some (held_files folder.files) };
-
-    ghost created = { λ folder. Some (map file_of folder.created.items) };
-
-    ghost asked = { λ folder. Some (texts folder.asked.items) };
-
-    ghost failed = { λ folder. Some (texts folder.failed.items) };
-
-    ghost failures = { λ folder. folder.failures };
+    ghost state = { λ folder. record {
+      files = Some (held_files folder.files);
+      created = Some (map file_of folder.created.items);
+      asked = Some (bytes_of_each folder.asked.items);
+      failed = Some (bytes_of_each folder.failed.items);
+      failures = folder.failures;
+    } };
 
     // The clauses of the trait, and which call fails.
     fn read_file(&mut self, alloc: Global, name: &[u8]) -> Result<Vec<u8>, FolderFault>
         ensures answer { Reads (Some (held_files self.old.files)) name.now result }
         ensures small { IfOk result (λ bytes. vec_len bytes ≤ file_limit) }
         ensures counted { self.new.failures ≡ after_read result self.old.failures }
-        ensures asks { AddsAsked (Some (texts self.old.asked.items))
-            (Some (texts self.new.asked.items)) name.now result }
-        ensures fails { Some (texts self.new.failed.items)
-            ≡ with_failed (Some (texts self.old.failed.items)) name.now result }
+        ensures asks { AddsAsked (Some (bytes_of_each self.old.asked.items))
+            (Some (bytes_of_each self.new.asked.items)) name.now result }
+        ensures fails { Some (bytes_of_each self.new.failed.items)
+            ≡ with_failed (Some (bytes_of_each self.old.failed.items)) name.now result }
         ensures due { is_due self.old.calls_to_failure ≡ true → (result ≡ Err Failed)
             ⊎ (result ≡ Err NoMemory) }
         ensures only_due { result ≡ Err Failed → is_due self.old.calls_to_failure ≡ true }

@@ -6,15 +6,15 @@ use Rattle.std.proofs.lemmas.List.{get_or-map, get_or_past}
 use Rattle.std.proofs.lemmas.Option.{get_or_from_slice_get, slice_get_cases, slice_get_within}
 use Rattle.std.specs.Prelude.{nat_lt, if◌then◌else◌, Option, Some, None, unwrap_or}
 use Rattle.std.proofs.lemmas.Bool.Decides.{nat_tests}
-use Rattle.tangle_expansion.specs.Shapes.{Shapes}
+use Rattle.tangle_plans.specs.Shapes.{Shapes}
 use Rattle.tangle_expansion.specs.Kept.{used_symbols}
 use Rattle.tangle_expansion.specs.Limits.{flat_of}
-use Rattle.tangle_expansion.specs.NodeBodies.{plan_slots, plan_uses}
-use Rattle.tangle_expansion.specs.Slots.{filled}
-use Rattle.tangle_expansion.specs.declared.expansion.NodeBody.{NodeBody}
+use Rattle.tangle_plans.specs.NodeBodies.{plan_slots, plan_uses}
+use Rattle.tangle_plans.specs.Slots.{filled}
+use Rattle.tangle_plans.specs.declared.nodes.NodeBody.{NodeBody}
 use Rattle.tangle_expansion.specs.declared.kept.Kept.{Kept}
-use Rattle.tangle_expansion.specs.declared.nodes.Node.{Node}
-use Rattle.tangle_expansion.specs.declared.nodes.Node.TheVariants.{Program, Name}
+use Rattle.tangle_plans.specs.declared.nodes.Node.{Node}
+use Rattle.tangle_plans.specs.declared.nodes.Node.TheVariants.{Program, Name}
 use Rattle.tangle_graph.specs.Nodes.{IsNodeOf, number_in, entry, entry_if}
 use Rattle.tangle_graph.specs.Stores.{StoreRead, IsStoreOf, KeepsUsed, is_expandable_at, slots_at, plan_uses_at, body_at, title_in_store}
 use Rattle.tangle_graph.specs.Plans.{node_bodies, slots_of, uses_of_plans}
@@ -34,12 +34,12 @@ expanded_right shapes store kept node is e keeps =
     is.plans node (used_symbols kept) ha ((is.expandable node ha).0 e).shallow (λ id u. ap (λ o. unwrap_or o []) (keeps id u))
 
 -- of an expandable node something is kept
-pub body_there : (store : StoreRead) (node : Node) → length store.texts ≡ length store.expandable → is_expandable_at store node ≡ true → (text : NodeBody) × (body_at store node ≡ Some text)
+pub body_there : (store : StoreRead) (node : Node) → length store.bodies ≡ length store.expandable → is_expandable_at store node ≡ true → (body : NodeBody) × (body_at store node ≡ Some body)
 body_there store node size e = by (number_in (length store.names) node) e
   where
-    by : (o : Option ℕ) → entry false store.expandable o ≡ true → (text : NodeBody) × (entry_if store.texts o ≡ Some text)
+    by : (o : Option ℕ) → entry false store.expandable o ≡ true → (body : NodeBody) × (entry_if store.bodies o ≡ Some body)
     by None t = absurd (let no : false ≡ true = t in cc)
-    by (Some n) t = elim (slice_get_cases store.texts n).1 [
+    by (Some n) t = elim (slice_get_cases store.bodies n).1 [
       | inl found ↦ (found.0, found.2)
       | inr past ↦ absurd (let no : false ≡ true = sym (get_or_past store.expandable n false (omega (arith, past.0, size))) ∙ t in cc)
     ]
@@ -48,21 +48,21 @@ mapped : {X Y Z : Type 0} (f : Y → Z) (g : X → Y) (xs : List X) → map f (m
 mapped f g [] = refl
 mapped f g (x ∷ xs) = ap (λ l. f (g x) ∷ l) (mapped f g xs)
 
--- what is read of a text is what a list of all texts' has in its place
-read_at : {Y : Type 0} (f : NodeBody → List Y) (texts : List (Rc NodeBody Global)) (entries : List (List Y)) (o : Option ℕ) (text : NodeBody)
-    → map (λ (t : Rc NodeBody Global). f t.value) texts ≡ entries → entry_if (node_bodies texts) o ≡ Some text → entry [] entries o ≡ f text
-read_at f texts entries None text same e = absurd (let both : None ≡ Some text = e in cc)
-read_at f texts entries (Some n) text same e =
-    let low : n < length (node_bodies texts) = slice_get_within (node_bodies texts) n text e in
+-- what is read of a body is what a list of all bodies' has in its place
+read_at : {Y : Type 0} (f : NodeBody → List Y) (bodies : List (Rc NodeBody Global)) (entries : List (List Y)) (o : Option ℕ) (body : NodeBody)
+    → map (λ (t : Rc NodeBody Global). f t.value) bodies ≡ entries → entry_if (node_bodies bodies) o ≡ Some body → entry [] entries o ≡ f body
+read_at f bodies entries None body same e = absurd (let both : None ≡ Some body = e in cc)
+read_at f bodies entries (Some n) body same e =
+    let low : n < length (node_bodies bodies) = slice_get_within (node_bodies bodies) n body e in
     ap (λ l. get_or l n []) (sym same)
-    ∙ ap (λ l. get_or l n []) (sym (mapped f (λ (t : Rc NodeBody Global). t.value) texts))
-    ∙ get_or-map f (node_bodies texts) n text [] low
-    ∙ ap f (get_or_from_slice_get (node_bodies texts) n text text e)
+    ∙ ap (λ l. get_or l n []) (sym (mapped f (λ (t : Rc NodeBody Global). t.value) bodies))
+    ∙ get_or-map f (node_bodies bodies) n body [] low
+    ∙ ap f (get_or_from_slice_get (node_bodies bodies) n body body e)
 
-module _ (store : StoreRead) (texts : List (Rc NodeBody Global)) (node : Node) (text : NodeBody) (same : node_bodies texts ≡ store.texts) (there : body_at store node ≡ Some text) where
+module _ (store : StoreRead) (bodies : List (Rc NodeBody Global)) (node : Node) (body : NodeBody) (same : node_bodies bodies ≡ store.bodies) (there : body_at store node ≡ Some body) where
   -- what is kept of a node says what the store says of the node
-  pub plan_uses_read : uses_of_plans texts ≡ store.plan_uses → plan_uses text ≡ plan_uses_at store node
-  plan_uses_read is = sym (read_at plan_uses texts store.plan_uses (number_in (length store.names) node) text is (ap (λ ts. entry_if ts (number_in (length store.names) node)) same ∙ there))
+  pub plan_uses_read : uses_of_plans bodies ≡ store.plan_uses → plan_uses body ≡ plan_uses_at store node
+  plan_uses_read is = sym (read_at plan_uses bodies store.plan_uses (number_in (length store.names) node) body is (ap (λ ts. entry_if ts (number_in (length store.names) node)) same ∙ there))
 
-  pub slots_read : slots_of texts ≡ store.slots → plan_slots text ≡ slots_at store node
-  slots_read is = sym (read_at plan_slots texts store.slots (number_in (length store.names) node) text is (ap (λ ts. entry_if ts (number_in (length store.names) node)) same ∙ there))
+  pub slots_read : slots_of bodies ≡ store.slots → plan_slots body ≡ slots_at store node
+  slots_read is = sym (read_at plan_slots bodies store.slots (number_in (length store.names) node) body is (ap (λ ts. entry_if ts (number_in (length store.names) node)) same ∙ there))

@@ -3,25 +3,25 @@ use Rattle.std.proofs.Common.{◌≡◌, ◌∙◌, ◌<◌, ◌≤◌, ◌+◌,
 use Rattle.std.specs.List.{position_or_len, range_with_len}
 use Rattle.std.proofs.lemmas.List.{flat_map_more, get_or-map, take_all, take_more}
 use Rattle.std.specs.Prelude.{None, if◌then◌else◌}
-use Rattle.tangle_lines.specs.declared.faults.FaultKind.{FaultKind}
-use Rattle.tangle_lines.specs.declared.faults.FaultKind.TheVariants as kind
-use Rattle.tangle_lines.specs.Faults.{FaultRead, fault_unplaced}
+use Rattle.tangle_faults.specs.declared.faults.FaultKind.{FaultKind}
+use Rattle.tangle_faults.specs.declared.faults.FaultKind.TheVariants as kind
+use Rattle.tangle_faults.specs.Faults.{FaultRead, fault_unplaced}
 use Rattle.tangle_lexer.specs.Occurrences.{OccurrenceRead}
 use Rattle.tangle_scan.specs.Web.{PieceRead, WebRead}
 use Rattle.tangle_names.specs.declared.Resolved.{Resolved}
 use Rattle.tangle_names.specs.NameTable.{TableRead}
 use Rattle.tangle_names.specs.Numbers.{NotesNumber, is_number}
-use Rattle.tangle_expansion.specs.ItemSlots.{pieces_at}
-use Rattle.tangle_expansion.specs.WebShapes.{shapes, shape_item}
-use Rattle.tangle_expansion.specs.Shapes.{Title, Named, Shape, Shapes}
-use Rattle.tangle_expansion.specs.Shapes as title
+use Rattle.tangle_plans.specs.ItemSlots.{pieces_at}
+use Rattle.tangle_plans.specs.WebShapes.{shapes, shape_item}
+use Rattle.tangle_plans.specs.Shapes.{Title, Named, Shape, Shapes}
+use Rattle.tangle_plans.specs.Shapes as title
 use Rattle.digraph.specs.Graph.{Graph, HasUse, rows_of, row_at}
 use Rattle.digraph.specs.Flags.{FlagsJust}
 use Rattle.digraph.specs.Reach as graph
 use Rattle.digraph.proofs.GraphLemmas.{rows_size}
 use Rattle.digraph.proofs.TitleLemmas.{contains_alike, cycle_alike}
 use Rattle.tangle_graph.specs.FaultFlags.{first_use_by_number, flag_at}
-use Rattle.tangle_graph.specs.Faults.{is_use, is_defined, is_too_large, ReachesCycle, AreGraphFaults, fault_of, faults_of_names, first_occurrence, graph_faults, large_program, no_program}
+use Rattle.tangle_graph.specs.Faults.{is_use, is_defined, is_too_large, ReachesCycle, AreGraphFaults, fault_of, faults_of_names, first_occurrence_number, graph_faults, large_program, no_program}
 use Rattle.tangle_graph.specs.Groups.{IsGraphOf}
 use Rattle.tangle_graph.specs.Nodes.{title_at, UsesTitle}
 use Rattle.tangle_graph.specs.Outputs.{has_pieces, is_expandable}
@@ -56,10 +56,10 @@ use_step f os rs i id o r d needed old new h read all at is within sofar notes =
 pub range_more : (g : ℕ → List FaultRead) (a n : ℕ) → flat_map g (range_with_len a (n + 1)) ≡ flat_map g (range_with_len a n) ++ g (a + n)
 range_more g a zero = append-nil (g a) ∙ ap g (sym (add-zero a))
 range_more g a (suc n) =
-    let place : a + 1 + n ≡ a + suc n = omega arith in
+    let position : a + 1 + n ≡ a + suc n = omega arith in
     let one_more : suc n + 1 ≡ suc (n + 1) = omega arith in
     ap (λ k. flat_map g (range_with_len a k)) one_more ∙ ap (λ l. g a ++ l) (range_more g (a + 1) n) ∙ sym (append_assoc (g a) (flat_map g (range_with_len (a + 1) n)) (g (a + 1 + n)))
-    ∙ ap (λ k. (g a ++ flat_map g (range_with_len (a + 1) n)) ++ g k) place
+    ∙ ap (λ k. (g a ++ flat_map g (range_with_len (a + 1) n)) ++ g k) position
 
 pub listed_step : (g : ℕ → List FaultRead) (names : List ℕ) (i : ℕ) (before now next : List FaultRead) → i < length names → now ≡ before ++ flat_map g (take i names) → next ≡ now ++ g (get_or names i 0)
     → next ≡ before ++ flat_map g (take (i + 1) names)
@@ -157,11 +157,11 @@ module _ (web : WebRead) (table : TableRead) (out : List ℕ) (c d r s : ℕ →
 
   same_containing : faults_of_names web table out c r kind.SelfContaining ≡ faults_of_names web table out d s kind.SelfContaining
   same_containing = same_in_range _ _ 0 (length table.names) (λ k low high.
-      ap (λ b. fault_of web table kind.SelfContaining k (if b then first_occurrence web table k else None)) (containing k (omega (arith, high))))
+      ap (λ b. fault_of web table kind.SelfContaining k (if b then first_occurrence_number web table k else None)) (containing k (omega (arith, high))))
 
   same_too_large : faults_of_names web table out c r kind.TooLarge ≡ faults_of_names web table out d s kind.TooLarge
   same_too_large = same_in_range _ _ 0 (length table.names) (λ k low high.
-      ap (λ b. fault_of web table kind.TooLarge k (if b then first_occurrence web table k else None)) (same_large k (omega (arith, high))))
+      ap (λ b. fault_of web table kind.TooLarge k (if b then first_occurrence_number web table k else None)) (same_large k (omega (arith, high))))
 
   same_program : large_program web table out c r ≡ large_program web table out d s
   same_program = ap (λ b. if b then fault_unplaced kind.TooLarge ∷ [] else []) (same_large (length table.names) (omega arith))

@@ -12,20 +12,20 @@ use Rattle.tangle_scan.specs.Web.{WebRead, PieceRead}
 use Rattle.tangle_names.specs.declared.Resolved.{Resolved}
 use Rattle.tangle_names.specs.declared.Resolved.TheVariants as resolved
 use Rattle.tangle_names.specs.NameTable.{TableRead}
-use Rattle.tangle_expansion.specs.Shapes.{Title, Named, Uses}
-use Rattle.tangle_expansion.specs.Shapes as title
-use Rattle.tangle_expansion.specs.ItemSlots.{pieces_at, no_piece}
-use Rattle.tangle_expansion.specs.WebShapes.{resolved_at, IsNameBelow, ResolvesInside, shapes}
+use Rattle.tangle_plans.specs.Shapes.{Title, Named, Uses}
+use Rattle.tangle_plans.specs.Shapes as title
+use Rattle.tangle_plans.specs.ItemSlots.{pieces_at, no_piece}
+use Rattle.tangle_plans.specs.WebShapes.{resolved_at, IsNameBelow, ResolvesInside, shapes}
 use Rattle.digraph.specs.Graph.{Graph, HasUse, rows_of, row_at}
 use Rattle.digraph.specs.Rows.{IsRowsOf, IsOnceEach}
 use Rattle.digraph.specs.Titles.{IsTitled}
 use Rattle.digraph.proofs.GraphLemmas.{rows_size, node_in}
-use Rattle.tangle_graph.specs.Grouping.{number_of_name, used_by, used_in, is_piece_of_number, places_of, used_numbers}
+use Rattle.tangle_graph.specs.Grouping.{number_of_name, used_by, used_in, is_piece_of_number, positions_of, used_numbers}
 use Rattle.tangle_graph.specs.Groups.{IsGraphOf}
 use Rattle.tangle_graph.specs.Nodes.{title_at, UsesTitle}
 use Rattle.tangle_graph.proofs.GroupLemmas.{pieces_by_number, number_uses, title_uses}
 use Rattle.tangle_graph.proofs.NodeLemmas.{title_inside, once_titled}
-use Rattle.tangle_graph.proofs.RowLemmas.{places_below, places_read}
+use Rattle.tangle_graph.proofs.RowLemmas.{positions_below, positions_read}
 
 module _ (table : TableRead) (inside : ResolvesInside table) where
   resolved_below : (r : Resolved) → IsNameBelow (length table.names) r → All (λ m. m < length table.names) (option_to_list (number_of_name r))
@@ -43,7 +43,7 @@ module _ (table : TableRead) (inside : ResolvesInside table) where
   item_below (item.Code value) = All-nil (λ m. m < length table.names)
   item_below item.Blank = All-nil (λ m. m < length table.names)
   item_below item.LineEnd = All-nil (λ m. m < length table.names)
-  item_below (item.LineMark place) = All-nil (λ m. m < length table.names)
+  item_below (item.LineMark origin) = All-nil (λ m. m < length table.names)
   item_below item.Defs = All-nil (λ m. m < length table.names)
 
   items_below : (items : List Item) → All (λ m. m < length table.names) (flat_map (used_by table) items)
@@ -59,7 +59,7 @@ module _ (table : TableRead) (inside : ResolvesInside table) where
   used_below pieces n m c = All-contains (λ k. k < length table.names) (used_numbers table pieces n) m (pieces_below (filter (is_piece_of_number table n) pieces)) c
 
 module _ (web : WebRead) (table : TableRead) (rows : Graph) (used : List (List ℕ)) (uses : Graph) (distinct : IsDistinct bytes_eq table.names) (inside : ResolvesInside table)
-    (grouped : IsRowsOf (length table.names + 1) (places_of table web.pieces) (rows_of rows))
+    (grouped : IsRowsOf (length table.names + 1) (positions_of table web.pieces) (rows_of rows))
     (collected : IsRowsOf (length table.names + 1) (used_numbers table web.pieces) used)
     (same_size : length uses ≡ length used) (once : (n : ℕ) → n < length used → IsOnceEach (row_at used n) (row_at (rows_of uses) n)) where
   uses_count : length uses ≡ length table.names + 1
@@ -102,9 +102,9 @@ module _ (web : WebRead) (table : TableRead) (rows : Graph) (used : List (List �
     rows_size = sym (rows_size rows) ∙ grouped.size;
     uses_size = uses_count;
     numbers = λ n h. (let within : n < length table.names + 1 = omega (arith, h, rows_size rows, grouped.size) in
-        subst (λ r. All (λ k. k < length web.pieces) r) (sym (grouped.row n within)) (places_below (is_piece_of_number table n) 0 (length web.pieces) web.pieces (omega arith)));
+        subst (λ r. All (λ k. k < length web.pieces) r) (sym (grouped.row n within)) (positions_below (is_piece_of_number table n) 0 (length web.pieces) web.pieces (omega arith)));
     pieces = λ n h. (let within : n < length table.names + 1 = omega (arith, h, rows_size rows, grouped.size) in
-        ap (pieces_at web.pieces) (grouped.row n within) ∙ places_read (is_piece_of_number table n) [] web.pieces no_piece
+        ap (pieces_at web.pieces) (grouped.row n within) ∙ positions_read (is_piece_of_number table n) [] web.pieces no_piece
         ∙ pieces_by_number table distinct inside web n (omega (arith, within)));
     range = λ k d h j e l. (
         let row : row_at (rows_of uses) k ≡ (get_or uses k d).items = get_or-map (λ (v : Vec ℕ Global). v.items) uses k d [] h in

@@ -13,9 +13,9 @@ use Rattle.tangle_scan.specs.Web.{WebRead, PieceRead}
 use Rattle.tangle_names.specs.declared.Resolved.{Resolved}
 use Rattle.tangle_names.specs.declared.Resolved.TheVariants as resolved
 use Rattle.tangle_names.specs.NameTable.{TableRead}
-use Rattle.tangle_expansion.specs.Shapes.{Title, Named, title_eq, ShapeItem, Use, UsesInPiece, UsesInShape, Uses, IsUseOf}
-use Rattle.tangle_expansion.specs.Shapes as title
-use Rattle.tangle_expansion.specs.WebShapes.{resolved_at, use_of, node_of, node_of_name, is_node, IsNameBelow, ResolvesInside, shape_item, pieces_of, shapes}
+use Rattle.tangle_plans.specs.Shapes.{Title, Named, title_eq, ShapeItem, Use, UsesInPiece, UsesInShape, Uses, IsUseOf}
+use Rattle.tangle_plans.specs.Shapes as title
+use Rattle.tangle_plans.specs.WebShapes.{resolved_at, use_of, node_of, node_of_name, is_node, IsNameBelow, ResolvesInside, shape_item, pieces_of, shapes}
 use Rattle.tangle_graph.specs.Nodes.{title_at}
 use Rattle.tangle_graph.specs.Grouping.{number_of_name, number_of, used_by, used_in, is_number, is_piece_of_number, used_numbers}
 use Rattle.tangle_graph.proofs.NodeLemmas.{title_inside, title_past, once_named}
@@ -82,7 +82,7 @@ module _ (texts : List (List ℕ)) (table : TableRead) (inside : ResolvesInside 
   item_use (item.Code value) m c = absurd (omega (arith, c.1))
   item_use item.Blank m c = absurd (omega (arith, c.1))
   item_use item.LineEnd m c = absurd (omega (arith, c.1))
-  item_use (item.LineMark place) m c = absurd (omega (arith, c.1))
+  item_use (item.LineMark origin) m c = absurd (omega (arith, c.1))
   item_use item.Defs m c = absurd (omega (arith, c.1))
 
   items_use : (items : List Item) (m : ℕ) → Contains (flat_map (used_by table) items) m → UsesInPiece (map (shape_item texts table) items) (get_or table.names m [])
@@ -119,7 +119,7 @@ module _ (texts : List (List ℕ)) (table : TableRead) (inside : ResolvesInside 
   item_used (item.Code value) name u = absurd u
   item_used item.Blank name u = absurd u
   item_used item.LineEnd name u = absurd u
-  item_used (item.LineMark place) name u = absurd u
+  item_used (item.LineMark origin) name u = absurd u
   item_used item.Defs name u = absurd u
 
   items_used : (items : List Item) (name : List ℕ) → UsesInPiece (map (shape_item texts table) items) name → IsAmong (flat_map (used_by table) items) name

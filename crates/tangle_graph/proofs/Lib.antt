@@ -9,7 +9,7 @@ mod GraphLemmas
 pub mod StoreLemmas
 mod LimitLemmas
 mod PlanLemmas
-mod TextLemmas
+mod BodyLemmas
 pub mod ShapeLemmas
 mod PushLemmas
 mod ReachLemmas
@@ -21,3 +21,4 @@ pub mod WeightLemmas
 pub mod UsesLemmas
 mod SkeletonLemmas
 mod SuspectLemmas
+mod PlannedLemmas

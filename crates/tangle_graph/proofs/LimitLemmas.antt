@@ -3,10 +3,10 @@ use Rattle.std.proofs.Common.{◌≡◌, ◌∙◌, ◌<◌, ℕ, Bool, false, L
 use Rattle.std.proofs.lemmas.List.{length-map}
 use Rattle.tangle_scan.specs.Web.{WebRead, PieceRead}
 use Rattle.tangle_names.specs.NameTable.{TableRead}
-use Rattle.tangle_expansion.specs.Shapes.{Program, Shape}
-use Rattle.tangle_expansion.specs.ItemSlots.{no_piece}
+use Rattle.tangle_plans.specs.Shapes.{Program, Shape}
+use Rattle.tangle_plans.specs.ItemSlots.{no_piece}
 use Rattle.tangle_expansion.specs.Limits.{weight_of, depth_of}
-use Rattle.tangle_expansion.specs.WebShapes.{pieces_of, shapes, shape_item}
+use Rattle.tangle_plans.specs.WebShapes.{pieces_of, shapes, shape_item}
 use Rattle.digraph.specs.Graph.{Graph, rows_of, row_at}
 use Rattle.digraph.proofs.GraphLemmas.{rows_size}
 use Rattle.tangle_graph.specs.Groups.{IsGraphOf}

@@ -8,9 +8,9 @@ use Rattle.tangle_scan.specs.Web.{PieceRead}
 use Rattle.tangle_names.specs.declared.Resolved.{Resolved}
 use Rattle.tangle_names.specs.declared.Resolved.TheVariants as resolved
 use Rattle.tangle_names.specs.NameTable.{TableRead}
-use Rattle.tangle_expansion.specs.Shapes.{Title, Named, ShapeItem, Written, Mark, Macros, Use, NoUse, Shape, Shapes, IsUseOf, UsesInPiece, UsesInShape}
-use Rattle.tangle_expansion.specs.Flat.{item_weight, items_weight, pieces_weight, weight, item_depth, items_depth, pieces_depth, depth}
-use Rattle.tangle_expansion.specs.WebShapes.{resolved_at, use_of, shape_item, IsNameBelow, ResolvesInside}
+use Rattle.tangle_plans.specs.Shapes.{Title, Named, ShapeItem, Written, Mark, AllMacros, Use, NoUse, Shape, Shapes, IsUseOf, UsesInPiece, UsesInShape}
+use Rattle.tangle_plans.specs.Flat.{item_weight, items_weight, pieces_weight, weight, item_depth, items_depth, pieces_depth, depth}
+use Rattle.tangle_plans.specs.WebShapes.{resolved_at, use_of, shape_item, IsNameBelow, ResolvesInside}
 use Rattle.tangle_graph.specs.Grouping.{number_of_name}
 use Rattle.tangle_graph.specs.Measures.{use_weight, weight_of_item, weight_of_piece, weight_of_pieces}
 
@@ -36,7 +36,7 @@ module _ (texts : List (List ℕ)) (table : TableRead) (inside : ResolvesInside 
   item_weighs (item.Code value) same = refl
   item_weighs item.Blank same = refl
   item_weighs item.LineEnd same = refl
-  item_weighs (item.LineMark place) same = refl
+  item_weighs (item.LineMark origin) same = refl
   item_weighs item.Defs same = refl
 
   items_weigh : (items : List Item) → ((id : ℕ) → id < length table.names → UsesInPiece (map (shape_item texts table) items) (get_or table.names id []) → Weighs id)
@@ -65,7 +65,7 @@ module _ (texts : List (List ℕ)) (table : TableRead) (inside : ResolvesInside 
 item_depth-use : (f : List ℕ → ℕ) (x : ShapeItem) (name : List ℕ) → IsUseOf x name → f name ≤ item_depth f x
 item_depth-use f (Written kind bytes) name u = absurd u
 item_depth-use f Mark name u = absurd u
-item_depth-use f Macros name u = absurd u
+item_depth-use f AllMacros name u = absurd u
 item_depth-use f (Use other) name u = let same : f other ≡ f name = ap f u in omega arith
 item_depth-use f NoUse name u = absurd u
 
@@ -82,7 +82,7 @@ pieces_depth-use f (items ∷ pieces) name (inr u) = omega (arith, pieces_depth-
 item_weight-use : (f : List ℕ → ℕ) (x : ShapeItem) (name : List ℕ) → IsUseOf x name → suc (f name) ≤ item_weight f x
 item_weight-use f (Written kind bytes) name u = absurd u
 item_weight-use f Mark name u = absurd u
-item_weight-use f Macros name u = absurd u
+item_weight-use f AllMacros name u = absurd u
 item_weight-use f (Use other) name u = let same : f other ≡ f name = ap f u in omega arith
 item_weight-use f NoUse name u = absurd u
 
@@ -115,7 +115,7 @@ max_cases a b = search (rules)
 item_depth-met : (f : List ℕ → ℕ) (x : ShapeItem) → IsMet f (IsUseOf x) (item_depth f x)
 item_depth-met f (Written kind bytes) = inl refl
 item_depth-met f Mark = inl refl
-item_depth-met f Macros = inl refl
+item_depth-met f AllMacros = inl refl
 item_depth-met f (Use name) = inr (name, refl, refl)
 item_depth-met f NoUse = inl refl
 
@@ -159,7 +159,7 @@ pieces_depth-met f items (others ∷ pieces) = both (items_depth-met f items) (p
 item_weight-on : (f g : List ℕ → ℕ) (x : ShapeItem) → ((name : List ℕ) → IsUseOf x name → f name ≡ g name) → item_weight f x ≡ item_weight g x
 item_weight-on f g (Written kind bytes) same = refl
 item_weight-on f g Mark same = refl
-item_weight-on f g Macros same = refl
+item_weight-on f g AllMacros same = refl
 item_weight-on f g (Use name) same = ap (λ w. 1 + w) (same name refl)
 item_weight-on f g NoUse same = refl
 

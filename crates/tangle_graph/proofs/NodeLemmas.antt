@@ -8,17 +8,17 @@ use Rattle.std.proofs.lemmas.Option.{slice_get-get_or, slice_get_past}
 use Rattle.std.proofs.lemmas.Bool.Decides.{nat_tests}
 use Rattle.std.proofs.lemmas.Map.Keys.{apart_from_distinct}
 use Rattle.std.proofs.lemmas.Slice.Eq.{bytes_eq-Decides}
-use Rattle.tangle_expansion.specs.Shapes.{Title, Named}
-use Rattle.tangle_expansion.specs.Shapes as title
-use Rattle.tangle_expansion.specs.declared.nodes.Node.{Node}
-use Rattle.tangle_expansion.specs.declared.nodes.Node.TheVariants.{Program, Name}
-use Rattle.tangle_graph.specs.Nodes.{title_of_body, title_at, title_of_node, IsNodeOf, node_at, number_in}
+use Rattle.tangle_plans.specs.Shapes.{Title, Named}
+use Rattle.tangle_plans.specs.Shapes as title
+use Rattle.tangle_plans.specs.declared.nodes.Node.{Node}
+use Rattle.tangle_plans.specs.declared.nodes.Node.TheVariants.{Program, Name}
+use Rattle.tangle_graph.specs.Nodes.{title_of_name, title_at, title_of_node, IsNodeOf, node_at, number_in}
 
 pub title_inside : (names : List (List ℕ)) (n : ℕ) → n < length names → title_at names n ≡ Named (get_or names n [])
-title_inside names n h = ap title_of_body (slice_get-get_or names n [] h)
+title_inside names n h = ap title_of_name (slice_get-get_or names n [] h)
 
 pub title_past : (names : List (List ℕ)) (n : ℕ) → length names ≤ n → title_at names n ≡ title.Program
-title_past names n h = ap title_of_body (slice_get_past names n h)
+title_past names n h = ap title_of_name (slice_get_past names n h)
 
 -- what has a name is one of the names
 pub named_inside : (names : List (List ℕ)) (n : ℕ) (name : List ℕ) → title_at names n ≡ Named name → n < length names
@@ -30,7 +30,7 @@ named_inside names n name e = elim (dec_lt n (length names)) [
 pub body_of_named : (a b : List ℕ) → Named a ≡ Named b → a ≡ b
 body_of_named a b e = cc
 
--- each text is once
+-- each name is once
 pub once_named : (names : List (List ℕ)) (n m : ℕ) → IsDistinct bytes_eq names → n < length names → m < length names → get_or names n [] ≡ get_or names m [] → n ≡ m
 once_named names n m distinct hn hm e = elim (ℕ_discrete n m) [
   | yes same ↦ same

@@ -8,8 +8,8 @@ use Rattle.digraph.specs.Graph.{Graph, InRange}
 use Rattle.digraph.specs.Order.{IsAfterUses, IsOrder}
 use Rattle.digraph.specs.Titles.{IsTitled}
 use Rattle.digraph.proofs.GraphLemmas.{use_in}
-use Rattle.tangle_expansion.specs.Shapes.{Title, Program, Named, Shapes}
-use Rattle.tangle_expansion.specs.Flat.{weight, depth}
+use Rattle.tangle_plans.specs.Shapes.{Title, Program, Named, Shapes}
+use Rattle.tangle_plans.specs.Flat.{weight, depth}
 use Rattle.tangle_graph.specs.Nodes.{UsesTitle}
 use Rattle.tangle_graph.specs.Measures.{AreMeasured}
 use Rattle.tangle_graph.proofs.MeasureLemmas.{pieces_depth-use, pieces_weight-use}

@@ -6,13 +6,13 @@ use Rattle.std.proofs.lemmas.List.{length-map, get_or-map, take-map}
 use Rattle.std.proofs.lemmas.List.Elements.{All-contains, All-from_get_or}
 use Rattle.tangle_scan.specs.Web.{WebRead}
 use Rattle.tangle_names.specs.NameTable.{TableRead}
-use Rattle.tangle_expansion.specs.Shapes.{Named}
+use Rattle.tangle_plans.specs.Shapes.{Named}
 use Rattle.tangle_expansion.specs.Limits.{levels, heaviest, depth_of}
-use Rattle.tangle_expansion.specs.Nodes.{IsNodeBelow, IsGroupedBy, title_in}
-use Rattle.tangle_expansion.specs.ItemSlots.{pieces_at}
-use Rattle.tangle_expansion.specs.WebShapes.{shapes, pieces_of}
-use Rattle.tangle_expansion.specs.declared.nodes.Node.{Node}
-use Rattle.tangle_expansion.specs.declared.nodes.Node.TheVariants.{Program, Name}
+use Rattle.tangle_plans.specs.Nodes.{IsNodeBelow, IsGroupedBy, title_in}
+use Rattle.tangle_plans.specs.ItemSlots.{pieces_at}
+use Rattle.tangle_plans.specs.WebShapes.{shapes, pieces_of}
+use Rattle.tangle_plans.specs.declared.nodes.Node.{Node}
+use Rattle.tangle_plans.specs.declared.nodes.Node.TheVariants.{Program, Name}
 use Rattle.digraph.specs.Graph.{Graph, rows_of, row_at}
 use Rattle.digraph.specs.Order.{IsOrder}
 use Rattle.digraph.proofs.GraphLemmas.{rows_size}

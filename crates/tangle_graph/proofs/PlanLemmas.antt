@@ -8,11 +8,11 @@ use Rattle.tangle_scan.specs.Web.{WebRead, PieceRead}
 use Rattle.tangle_names.specs.declared.Resolved.{Resolved}
 use Rattle.tangle_names.specs.declared.Resolved.TheVariants as resolved
 use Rattle.tangle_names.specs.NameTable.{TableRead}
-use Rattle.tangle_expansion.specs.Shapes.{Title, Named, Shape, Shapes, Uses}
-use Rattle.tangle_expansion.specs.Flat.{Symbol, flat, pieces_flat}
-use Rattle.tangle_expansion.specs.ItemTags.{names_resolved, names_in, pieces_names}
+use Rattle.tangle_plans.specs.Shapes.{Title, Named, Shape, Shapes, Uses}
+use Rattle.tangle_plans.specs.Flat.{Symbol, flat, pieces_flat}
+use Rattle.tangle_plans.specs.ItemTags.{names_resolved, names_in, pieces_names}
 use Rattle.tangle_expansion.specs.Limits.{levels, flat_of}
-use Rattle.tangle_expansion.specs.WebShapes.{resolved_at, ResolvesInside, pieces_of, shapes}
+use Rattle.tangle_plans.specs.WebShapes.{resolved_at, ResolvesInside, pieces_of, shapes}
 use Rattle.digraph.specs.Graph.{Graph, rows_of, row_at}
 use Rattle.tangle_graph.specs.Grouping.{number_of_name, used_by, used_in}
 use Rattle.tangle_graph.specs.Groups.{IsGraphOf}
@@ -56,7 +56,7 @@ item_same table (item.Verbatim span) = refl
 item_same table (item.Code value) = refl
 item_same table item.Blank = refl
 item_same table item.LineEnd = refl
-item_same table (item.LineMark place) = refl
+item_same table (item.LineMark origin) = refl
 item_same table item.Defs = refl
 
 pub names_same : (table : TableRead) (pieces : List PieceRead) → pieces_names table pieces ≡ flat_map (used_in table) pieces

@@ -9,18 +9,18 @@ use Rattle.std.proofs.lemmas.List.Elements.{All-append, All-cons, All-nil}
 use Rattle.std.proofs.lemmas.List.{take_more, map-append, get_or_append_left, get_or_push, length-take-le, length-map}
 use Rattle.tangle_scan.specs.Web.{WebRead}
 use Rattle.tangle_names.specs.NameTable.{TableRead}
-use Rattle.tangle_expansion.specs.Comparing.{IsPlanned}
-use Rattle.tangle_expansion.specs.ItemTags.{pieces_names}
-use Rattle.tangle_expansion.specs.ItemSlots.{pieces_at, pieces_slots}
-use Rattle.tangle_expansion.specs.NodeBodies.{node_title, plan_slots, plan_uses}
-use Rattle.tangle_expansion.specs.Slots.{Slot}
-use Rattle.tangle_expansion.specs.declared.expansion.NodeBody.{NodeBody}
+use Rattle.tangle_plans.specs.Comparing.{IsPlanned}
+use Rattle.tangle_plans.specs.ItemTags.{pieces_names}
+use Rattle.tangle_plans.specs.ItemSlots.{pieces_at, pieces_slots}
+use Rattle.tangle_plans.specs.NodeBodies.{node_title, plan_slots, plan_uses}
+use Rattle.tangle_plans.specs.Slots.{Slot}
+use Rattle.tangle_plans.specs.declared.nodes.NodeBody.{NodeBody}
 use Rattle.digraph.specs.Graph.{Graph, rows_of}
 use Rattle.tangle_graph.specs.Nodes.{title_at}
 use Rattle.tangle_graph.specs.Plans.{AreFilled, ArePlanned, ArePlans, AreBodies, IsBodyOf, node_bodies, slots_of, uses_of_plans}
 use Rattle.tangle_graph.specs.Stores.{is_filled}
 
--- what is so at each place of two lists is so with one more
+-- what is so at each position of two lists is so with one more
 pushed : {X Y : Type 0} (f : ℕ → X → Y) (xs : List X) (ys : List Y) (x : X) (y : Y) (d : X) (e : Y) → length ys ≡ length xs
     → ((n : ℕ) → n < length xs → get_or ys n e ≡ f n (get_or xs n d)) → y ≡ f (length xs) x
     → (n : ℕ) → n < length (xs ++ x ∷ []) → get_or (ys ++ y ∷ []) n e ≡ f n (get_or (xs ++ x ∷ []) n d)
@@ -56,18 +56,18 @@ module _ (web : WebRead) (table : TableRead) (has : ℕ → Bool) where
     uses_right = pushed (λ n x. filter has (pieces_names table (pieces_at web.pieces x))) xs uses r u [] [] is.uses_size is.uses_right eu;
   }
 
-  pub plans_more : (rows : Graph) (texts : List (Rc NodeBody Global)) (i : ℕ) (row : Vec ℕ Global) (text : Rc NodeBody Global) → i < length rows → row ≡ get_or rows i row
-      → ArePlans web table has (rows_of (take i rows)) (slots_of texts) (uses_of_plans texts)
-      → plan_slots text.value ≡ pieces_slots web.texts table has (title_at table.names i) 0 (pieces_at web.pieces row.items)
-      → plan_uses text.value ≡ filter has (pieces_names table (pieces_at web.pieces row.items))
-      → ArePlans web table has (rows_of (take (i + 1) rows)) (slots_of (texts ++ text ∷ [])) (uses_of_plans (texts ++ text ∷ []))
-  plans_more rows texts i row text h read is es eu =
+  pub plans_more : (rows : Graph) (bodies : List (Rc NodeBody Global)) (i : ℕ) (row : Vec ℕ Global) (body : Rc NodeBody Global) → i < length rows → row ≡ get_or rows i row
+      → ArePlans web table has (rows_of (take i rows)) (slots_of bodies) (uses_of_plans bodies)
+      → plan_slots body.value ≡ pieces_slots web.texts table has (title_at table.names i) 0 (pieces_at web.pieces row.items)
+      → plan_uses body.value ≡ filter has (pieces_names table (pieces_at web.pieces row.items))
+      → ArePlans web table has (rows_of (take (i + 1) rows)) (slots_of (bodies ++ body ∷ [])) (uses_of_plans (bodies ++ body ∷ []))
+  plans_more rows bodies i row body h read is es eu =
       let count : length (rows_of (take i rows)) ≡ i = length-map (take i rows) (λ (v : Vec ℕ Global). v.items) ∙ length-take-le i rows (omega (arith, h)) in
-      let pushed_all = plans_push (rows_of (take i rows)) (slots_of texts) (uses_of_plans texts) row.items (plan_slots text.value) (plan_uses text.value) is
+      let pushed_all = plans_push (rows_of (take i rows)) (slots_of bodies) (uses_of_plans bodies) row.items (plan_slots body.value) (plan_uses body.value) is
       (es ∙ ap (λ n. pieces_slots web.texts table has (title_at table.names n) 0 (pieces_at web.pieces row.items)) (sym count)) eu in
-      subst (λ xs. ArePlans web table has xs (slots_of (texts ++ text ∷ [])) (uses_of_plans (texts ++ text ∷ []))) (sym (row_taken rows i row h read))
-      (subst (λ ss. ArePlans web table has (rows_of (take i rows) ++ row.items ∷ []) ss (uses_of_plans (texts ++ text ∷ []))) (sym (map-append (λ (t : Rc NodeBody Global). plan_slots t.value) texts (text ∷ [])))
-      (subst (λ us. ArePlans web table has (rows_of (take i rows) ++ row.items ∷ []) (slots_of texts ++ plan_slots text.value ∷ []) us) (sym (map-append (λ (t : Rc NodeBody Global). plan_uses t.value) texts (text ∷ []))) pushed_all))
+      subst (λ xs. ArePlans web table has xs (slots_of (bodies ++ body ∷ [])) (uses_of_plans (bodies ++ body ∷ []))) (sym (row_taken rows i row h read))
+      (subst (λ ss. ArePlans web table has (rows_of (take i rows) ++ row.items ∷ []) ss (uses_of_plans (bodies ++ body ∷ []))) (sym (map-append (λ (t : Rc NodeBody Global). plan_slots t.value) bodies (body ∷ [])))
+      (subst (λ us. ArePlans web table has (rows_of (take i rows) ++ row.items ∷ []) (slots_of bodies ++ plan_slots body.value ∷ []) us) (sym (map-append (λ (t : Rc NodeBody Global). plan_uses t.value) bodies (body ∷ []))) pushed_all))
 
 module _ (web : WebRead) (table : TableRead) where
   bodies_push : (xs : List (List ℕ)) (ts : List NodeBody) (r : List ℕ) (t : NodeBody) → AreBodies web table xs ts → IsBodyOf web table r t → AreBodies web table (xs ++ r ∷ []) (ts ++ t ∷ [])
@@ -76,7 +76,7 @@ module _ (web : WebRead) (table : TableRead) where
     each = λ n h. reported n h;
   }
     where
-      reported : (n : ℕ) → n < length (xs ++ r ∷ []) → (text : NodeBody) × (slice_get (ts ++ t ∷ []) n ≡ Some text) × IsBodyOf web table (get_or (xs ++ r ∷ []) n []) text
+      reported : (n : ℕ) → n < length (xs ++ r ∷ []) → (body : NodeBody) × (slice_get (ts ++ t ∷ []) n ≡ Some body) × IsBodyOf web table (get_or (xs ++ r ∷ []) n []) body
       reported n h = elim (dec_lt n (length xs)) [
         | yes low ↦ (let old = is.each n low in
             let room : n < length ts = omega (arith, low, is.size) in
@@ -93,30 +93,30 @@ module _ (web : WebRead) (table : TableRead) where
             ))
       ]
 
-  pub bodies_more : (rows : Graph) (texts : List (Rc NodeBody Global)) (i : ℕ) (row : Vec ℕ Global) (text : Rc NodeBody Global) → i < length rows → row ≡ get_or rows i row
-      → AreBodies web table (rows_of (take i rows)) (node_bodies texts) → IsBodyOf web table row.items text.value
-      → AreBodies web table (rows_of (take (i + 1) rows)) (node_bodies (texts ++ text ∷ []))
-  bodies_more rows texts i row text h read is one =
-      subst (λ xs. AreBodies web table xs (node_bodies (texts ++ text ∷ []))) (sym (row_taken rows i row h read))
-      (subst (λ ts. AreBodies web table (rows_of (take i rows) ++ row.items ∷ []) ts) (sym (map-append (λ (t : Rc NodeBody Global). t.value) texts (text ∷ [])))
-      (bodies_push (rows_of (take i rows)) (node_bodies texts) row.items text.value is one))
+  pub bodies_more : (rows : Graph) (bodies : List (Rc NodeBody Global)) (i : ℕ) (row : Vec ℕ Global) (body : Rc NodeBody Global) → i < length rows → row ≡ get_or rows i row
+      → AreBodies web table (rows_of (take i rows)) (node_bodies bodies) → IsBodyOf web table row.items body.value
+      → AreBodies web table (rows_of (take (i + 1) rows)) (node_bodies (bodies ++ body ∷ []))
+  bodies_more rows bodies i row body h read is one =
+      subst (λ xs. AreBodies web table xs (node_bodies (bodies ++ body ∷ []))) (sym (row_taken rows i row h read))
+      (subst (λ ts. AreBodies web table (rows_of (take i rows) ++ row.items ∷ []) ts) (sym (map-append (λ (t : Rc NodeBody Global). t.value) bodies (body ∷ [])))
+      (bodies_push (rows_of (take i rows)) (node_bodies bodies) row.items body.value is one))
 
 module _ (names : List (List ℕ)) (has : ℕ → Bool) where
   planned_push : (ts : List NodeBody) (t : NodeBody) (n : ℕ) → length ts ≡ n → ArePlanned names has ts → node_title t ≡ title_at names n → IsPlanned has t → ArePlanned names has (ts ++ t ∷ [])
   planned_push ts t n count is e p = record {
-    titles = λ k text h. elim (dec_lt k (length ts)) as (λ _. node_title (get_or (ts ++ t ∷ []) k text) ≡ title_at names k) [
-      | yes low ↦ ap node_title (get_or_append_left ts (t ∷ []) text k low) ∙ is.titles k text low
+    titles = λ k body h. elim (dec_lt k (length ts)) as (λ _. node_title (get_or (ts ++ t ∷ []) k body) ≡ title_at names k) [
+      | yes low ↦ ap node_title (get_or_append_left ts (t ∷ []) body k low) ∙ is.titles k body low
       | no past ↦ (let end : length ts ≡ k = omega (arith, past, h, length-append ts (t ∷ [])) in
-          ap node_title (get_or_push ts t text k end) ∙ e ∙ ap (title_at names) (sym count ∙ end))
+          ap node_title (get_or_push ts t body k end) ∙ e ∙ ap (title_at names) (sym count ∙ end))
     ];
     planned = All-append (IsPlanned has) ts (t ∷ []) is.planned (All-cons (IsPlanned has) t [] p (All-nil (IsPlanned has)));
   }
 
   pub none_planned : ArePlanned names has []
-  none_planned = record { titles = λ k text h. absurd (omega (arith, h)); planned = All-nil (IsPlanned has) }
+  none_planned = record { titles = λ k body h. absurd (omega (arith, h)); planned = All-nil (IsPlanned has) }
 
-  pub planned_more : (rows : Graph) (texts : List (Rc NodeBody Global)) (i : ℕ) (text : Rc NodeBody Global) → i < length rows → length (node_bodies texts) ≡ length (rows_of (take i rows))
-      → ArePlanned names has (node_bodies texts) → node_title text.value ≡ title_at names i → IsPlanned has text.value → ArePlanned names has (node_bodies (texts ++ text ∷ []))
-  planned_more rows texts i text h size is e p =
-      let count : length (node_bodies texts) ≡ i = size ∙ length-map (take i rows) (λ (v : Vec ℕ Global). v.items) ∙ length-take-le i rows (omega (arith, h)) in
-      subst (ArePlanned names has) (sym (map-append (λ (t : Rc NodeBody Global). t.value) texts (text ∷ []))) (planned_push (node_bodies texts) text.value i count is e p)
+  pub planned_more : (rows : Graph) (bodies : List (Rc NodeBody Global)) (i : ℕ) (body : Rc NodeBody Global) → i < length rows → length (node_bodies bodies) ≡ length (rows_of (take i rows))
+      → ArePlanned names has (node_bodies bodies) → node_title body.value ≡ title_at names i → IsPlanned has body.value → ArePlanned names has (node_bodies (bodies ++ body ∷ []))
+  planned_more rows bodies i body h size is e p =
+      let count : length (node_bodies bodies) ≡ i = size ∙ length-map (take i rows) (λ (v : Vec ℕ Global). v.items) ∙ length-take-le i rows (omega (arith, h)) in
+      subst (ArePlanned names has) (sym (map-append (λ (t : Rc NodeBody Global). t.value) bodies (body ∷ []))) (planned_push (node_bodies bodies) body.value i count is e p)

@@ -1,7 +1,7 @@
 -- Reaching by titles is reaching by the uses of titles.
 use Rattle.std.specs.Prelude.{◌↔◌}
-use Rattle.tangle_expansion.specs.Shapes.{Title, Named, Shapes}
-use Rattle.tangle_expansion.specs.Shapes as title
+use Rattle.tangle_plans.specs.Shapes.{Title, Named, Shapes}
+use Rattle.tangle_plans.specs.Shapes as title
 use Rattle.digraph.specs.Reach as graph
 use Rattle.tangle_graph.specs.Faults.{ReachesCycle}
 use Rattle.tangle_graph.specs.Nodes.{UsesTitle}

@@ -7,19 +7,19 @@ use Rattle.std.proofs.lemmas.List.Elements.{All-append, All-cons, All-nil}
 use Rattle.std.proofs.Math.Decide.{dec_lt}
 use Rattle.digraph.specs.Graph.{rows_of}
 use Rattle.digraph.specs.Rows.{IsRowsOf, GrowsBy}
-use Rattle.digraph.specs.Users.{places}
+use Rattle.digraph.specs.Users.{positions}
 
-pub places_more : {X : Type 0} (p : X → Bool) (k : ℕ) (xs : List X) (i : ℕ) (d : X) → i < length xs
-    → places p k (take (i + 1) xs) ≡ places p k (take i xs) ++ cond (p (get_or xs i d)) ((k + i) ∷ []) []
-places_more p k [] i d h = absurd (omega (arith, h))
-places_more p k (x ∷ xs) zero d h = append-nil (cond (p x) (k ∷ []) []) ∙ ap (λ j. cond (p x) (j ∷ []) []) (sym (add-zero k))
-places_more p k (x ∷ xs) (suc i) d h =
+pub positions_more : {X : Type 0} (p : X → Bool) (k : ℕ) (xs : List X) (i : ℕ) (d : X) → i < length xs
+    → positions p k (take (i + 1) xs) ≡ positions p k (take i xs) ++ cond (p (get_or xs i d)) ((k + i) ∷ []) []
+positions_more p k [] i d h = absurd (omega (arith, h))
+positions_more p k (x ∷ xs) zero d h = append-nil (cond (p x) (k ∷ []) []) ∙ ap (λ j. cond (p x) (j ∷ []) []) (sym (add-zero k))
+positions_more p k (x ∷ xs) (suc i) d h =
     let one_more : suc i + 1 ≡ suc (i + 1) = omega arith in
-    let place : k + 1 + i ≡ k + suc i = omega arith in
+    let position : k + 1 + i ≡ k + suc i = omega arith in
     let low : i < length xs = omega (arith, h) in
-    ap (λ n. places p k (take n (x ∷ xs))) one_more
-    ∙ (ap (λ r. cond (p x) (k ∷ []) [] ++ r) (places_more p (k + 1) xs i d low ∙ ap (λ n. places p (k + 1) (take i xs) ++ cond (p (get_or xs i d)) (n ∷ []) []) place)
-    ∙ sym (append_assoc (cond (p x) (k ∷ []) []) (places p (k + 1) (take i xs)) (cond (p (get_or xs i d)) ((k + suc i) ∷ []) [])))
+    ap (λ n. positions p k (take n (x ∷ xs))) one_more
+    ∙ (ap (λ r. cond (p x) (k ∷ []) [] ++ r) (positions_more p (k + 1) xs i d low ∙ ap (λ n. positions p (k + 1) (take i xs) ++ cond (p (get_or xs i d)) (n ∷ []) []) position)
+    ∙ sym (append_assoc (cond (p x) (k ∷ []) []) (positions p (k + 1) (take i xs)) (cond (p (get_or xs i d)) ((k + suc i) ∷ []) [])))
 
 pub rows_by : (count : ℕ) (f g h : ℕ → List ℕ) (old new : List (List ℕ)) → IsRowsOf count f old → GrowsBy g old new → ((n : ℕ) → h n ≡ f n ++ g n) → IsRowsOf count h new
 rows_by count f g h old new is more sum = record {
@@ -44,11 +44,11 @@ row_more rows count row is none = record {
       | no past ↦ get_or_push (rows_of rows) row.items [] n (omega (arith, past, h, is.size)) ∙ none
     ]
 
--- places are those of elements
-pub places_below : {X : Type 0} (p : X → Bool) (k bound : ℕ) (xs : List X) → k + length xs ≤ bound → All (λ j. j < bound) (places p k xs)
-places_below p k bound [] h = All-nil (λ j. j < bound)
-places_below p k bound (x ∷ xs) h =
-    All-append (λ j. j < bound) (cond (p x) (k ∷ []) []) (places p (k + 1) xs) (here (p x)) (places_below p (k + 1) bound xs (omega (arith, h)))
+-- positions are those of elements
+pub positions_below : {X : Type 0} (p : X → Bool) (k bound : ℕ) (xs : List X) → k + length xs ≤ bound → All (λ j. j < bound) (positions p k xs)
+positions_below p k bound [] h = All-nil (λ j. j < bound)
+positions_below p k bound (x ∷ xs) h =
+    All-append (λ j. j < bound) (cond (p x) (k ∷ []) []) (positions p (k + 1) xs) (here (p x)) (positions_below p (k + 1) bound xs (omega (arith, h)))
   where
     here : (b : Bool) → All (λ j. j < bound) (cond b (k ∷ []) [])
     here true = All-cons (λ j. j < bound) k [] (omega (arith, h)) (All-nil (λ j. j < bound))
@@ -58,15 +58,15 @@ at_seam : {X : Type 0} (ys : List X) (x : X) (xs : List X) (d : X) → get_or (y
 at_seam [] x xs d = refl
 at_seam (y ∷ ys) x xs d = at_seam ys x xs d
 
--- what is at the places of the elements that pass are these elements
-pub places_read : {X : Type 0} (p : X → Bool) (before xs : List X) (d : X) → map (λ n. get_or (before ++ xs) n d) (places p (length before) xs) ≡ filter p xs
-places_read p before [] d = refl
-places_read p before (x ∷ xs) d =
-    map-append (λ n. get_or (before ++ x ∷ xs) n d) (cond (p x) (length before ∷ []) []) (places p (length before + 1) xs)
+-- what is at the positions of the elements that pass are these elements
+pub positions_read : {X : Type 0} (p : X → Bool) (before xs : List X) (d : X) → map (λ n. get_or (before ++ xs) n d) (positions p (length before) xs) ≡ filter p xs
+positions_read p before [] d = refl
+positions_read p before (x ∷ xs) d =
+    map-append (λ n. get_or (before ++ x ∷ xs) n d) (cond (p x) (length before ∷ []) []) (positions p (length before + 1) xs)
     ∙ ap (λ l. map (λ n. get_or (before ++ x ∷ xs) n d) (cond (p x) (length before ∷ []) []) ++ l)
-    (ap (λ k. map (λ n. get_or (before ++ x ∷ xs) n d) (places p k xs)) (sym size)
-    ∙ ap (λ whole. map (λ n. get_or whole n d) (places p (length (before ++ x ∷ [])) xs)) (sym (append_assoc before (x ∷ []) xs))
-    ∙ places_read p (before ++ x ∷ []) xs d)
+    (ap (λ k. map (λ n. get_or (before ++ x ∷ xs) n d) (positions p k xs)) (sym size)
+    ∙ ap (λ whole. map (λ n. get_or whole n d) (positions p (length (before ++ x ∷ [])) xs)) (sym (append_assoc before (x ∷ []) xs))
+    ∙ positions_read p (before ++ x ∷ []) xs d)
     ∙ by (p x)
   where
     size : length (before ++ x ∷ []) ≡ length before + 1

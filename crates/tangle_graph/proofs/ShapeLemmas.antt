@@ -4,12 +4,12 @@ use Rattle.std.specs.Prelude.{nat_lt, if◌then◌else◌, Option, Some, None}
 use Rattle.std.proofs.Math.Decide.{dec_lt}
 use Rattle.std.proofs.lemmas.Bool.Decides.{nat_tests}
 use Rattle.std.proofs.lemmas.Option.{slice_get-get_or, slice_get_past}
-use Rattle.tangle_expansion.specs.Shapes.{Shape, Shapes}
-use Rattle.tangle_expansion.specs.NodeBodies.{HoldsShape}
-use Rattle.tangle_expansion.specs.declared.expansion.NodeBody.{NodeBody}
-use Rattle.tangle_expansion.specs.declared.nodes.Node.{Node}
-use Rattle.tangle_expansion.specs.declared.nodes.Node.TheVariants.{Program, Name}
-use Rattle.tangle_graph.specs.Nodes.{title_of_body, title_of_node, IsNodeOf, number_in, entry, entry_if, shape_of_name, shape_of_node}
+use Rattle.tangle_plans.specs.Shapes.{Shape, Shapes}
+use Rattle.tangle_plans.specs.NodeBodies.{HoldsShape}
+use Rattle.tangle_plans.specs.declared.nodes.NodeBody.{NodeBody}
+use Rattle.tangle_plans.specs.declared.nodes.Node.{Node}
+use Rattle.tangle_plans.specs.declared.nodes.Node.TheVariants.{Program, Name}
+use Rattle.tangle_graph.specs.Nodes.{title_of_name, title_of_node, IsNodeOf, number_in, entry, entry_if, shape_of_name, shape_of_node}
 use Rattle.tangle_graph.specs.Stores.{StoreRead, IsStoreOf, is_filled, has_piece_at, body_at, shape_in_store}
 
 -- a node is one of these or it has no number
@@ -29,25 +29,25 @@ pub shape_inside : (shapes : Shapes) (names : List (List ℕ)) (a : Node) → Is
 shape_inside shapes names Program h = refl
 shape_inside shapes names (Name id) h =
     let is = slice_get-get_or names id [] h in
-    ap (shape_of_name shapes) is ∙ sym (ap (λ o. shapes (title_of_body o)) is)
+    ap (shape_of_name shapes) is ∙ sym (ap (λ o. shapes (title_of_name o)) is)
 
 same_none : {X : Type 0} (o : Option X) (x : X) → o ≡ None → o ≡ Some x → ⊥
 same_none o x none some = absurd (let both : None ≡ Some x = sym none ∙ some in cc)
 
 module _ (shapes : Shapes) (store : StoreRead) (is : IsStoreOf shapes store) where
   -- what is kept of a node determines its shape
-  pub body_decides : (a : Node) (text : NodeBody) → Some text ≡ body_at store a → HoldsShape store.names (shape_in_store store shapes a) text
-  body_decides a text e = elim (is_known store.names a) [
+  pub body_decides : (a : Node) (body : NodeBody) → Some body ≡ body_at store a → HoldsShape store.names (shape_in_store store shapes a) body
+  body_decides a body e = elim (is_known store.names a) [
     | known h ↦ (let reported = is.shape_held a h in
-        let both : Some reported.0 ≡ Some text = sym reported.1 ∙ sym e in
-        let same : reported.0 ≡ text = cc in
+        let both : Some reported.0 ≡ Some body = sym reported.1 ∙ sym e in
+        let same : reported.0 ≡ body = cc in
         subst (HoldsShape store.names (shape_in_store store shapes a)) same (subst (λ s. HoldsShape store.names s reported.0) (sym (shape_inside shapes store.names a h)) reported.2))
-    | unknown none empty ↦ absurd (let both : None ≡ Some text = sym (ap (entry_if store.texts) none) ∙ sym e in cc)
+    | unknown none empty ↦ absurd (let both : None ≡ Some body = sym (ap (entry_if store.bodies) none) ∙ sym e in cc)
   ]
 
   -- where nothing is kept there is no piece
-  pub no_text : (a : Node) → None ≡ body_at store a → shape_in_store store shapes a ≡ []
-  no_text a e = elim (is_known store.names a) [
+  pub no_body : (a : Node) → None ≡ body_at store a → shape_in_store store shapes a ≡ []
+  no_body a e = elim (is_known store.names a) [
     | known h ↦ (let reported = is.shape_held a h in absurd (let both : None ≡ Some reported.0 = e ∙ reported.1 in cc))
     | unknown none empty ↦ empty shapes
   ]

@@ -1,4 +1,4 @@
--- What the skeleton of a web's texts says of the web.
+-- What the skeleton of a web's bodies says of the web.
 use Rattle.std.proofs.Common.{◌≡◌, ◌∙◌, ◌<◌, ◌≤◌, ◌+◌, ◌++◌, ◌∷◌, ℕ, Bool, true, false, not, List, [], length, take, map, get_or, refl, ap, sym, subst, arith, Vec}
 use Rattle.std.specs.Global.{Global}
 use Rattle.std.specs.declared.rc.Rc.{Rc}
@@ -12,35 +12,35 @@ use Rattle.std.proofs.lemmas.Slice.Eq.{bytes_eq-Decides}
 use Rattle.std.proofs.lemmas.List.Elements.{All-map}
 use Rattle.tangle_scan.specs.Web.{WebRead}
 use Rattle.tangle_names.specs.NameTable.{TableRead}
-use Rattle.tangle_expansion.specs.NodeBodies.{node_uses}
-use Rattle.tangle_expansion.specs.WebShapes.{ResolvesInside}
-use Rattle.tangle_expansion.specs.declared.expansion.NodeBody.{NodeBody}
+use Rattle.tangle_plans.specs.NodeBodies.{node_uses}
+use Rattle.tangle_plans.specs.WebShapes.{ResolvesInside}
+use Rattle.tangle_plans.specs.declared.nodes.NodeBody.{NodeBody}
 use Rattle.digraph.specs.Graph.{Graph, InRange, rows_of, row_at}
 use Rattle.digraph.specs.Rows.{IsOnceEach, IsRowsOf}
 use Rattle.digraph.proofs.GraphLemmas.{rows_size}
-use Rattle.tangle_graph.specs.Grouping.{places_of}
+use Rattle.tangle_graph.specs.Grouping.{positions_of}
 use Rattle.tangle_graph.specs.Groups.{IsGraphOf}
 use Rattle.tangle_graph.specs.Plans.{AreBodies, node_bodies}
-use Rattle.tangle_graph.specs.Rows.{texts_of}
+use Rattle.tangle_graph.specs.Rows.{bytes_of_names}
 use Rattle.tangle_graph.specs.Skeletons.{IsSkeletonOf}
 use Rattle.tangle_graph.specs.declared.skeleton.Skeleton.{Skeleton}
 use Rattle.tangle_graph.proofs.GraphLemmas.{graph_of}
-use Rattle.tangle_graph.proofs.TextLemmas.{names_below}
+use Rattle.tangle_graph.proofs.BodyLemmas.{names_below}
 use Rattle.tangle_graph.proofs.UsesLemmas.{uses_collected}
 
 -- its uses are the graph of the web
-pub graph_over : (web : WebRead) (table : TableRead) (pieces : Graph) (texts : List NodeBody) (skeleton : Skeleton) → IsDistinct bytes_eq table.names → ResolvesInside table
-    → IsRowsOf (length table.names + 1) (places_of table web.pieces) (rows_of pieces) → AreBodies web table (rows_of pieces) texts → IsSkeletonOf (map node_uses texts) skeleton
+pub graph_over : (web : WebRead) (table : TableRead) (pieces : Graph) (bodies : List NodeBody) (skeleton : Skeleton) → IsDistinct bytes_eq table.names → ResolvesInside table
+    → IsRowsOf (length table.names + 1) (positions_of table web.pieces) (rows_of pieces) → AreBodies web table (rows_of pieces) bodies → IsSkeletonOf (map node_uses bodies) skeleton
     → IsGraphOf web table pieces skeleton.uses.items
-graph_over web table pieces texts skeleton distinct inside grouped are is =
-    graph_of web table pieces (map node_uses texts) skeleton.uses.items distinct inside grouped
-    (uses_collected web table (rows_of pieces) texts (map node_uses texts) grouped are refl) is.size is.once
+graph_over web table pieces bodies skeleton distinct inside grouped are is =
+    graph_of web table pieces (map node_uses bodies) skeleton.uses.items distinct inside grouped
+    (uses_collected web table (rows_of pieces) bodies (map node_uses bodies) grouped are refl) is.size is.once
 
--- the texts of a web use names of its table
-pub uses_inside : (web : WebRead) (table : TableRead) (pieces : List (List ℕ)) (texts : List NodeBody) → ResolvesInside table → AreBodies web table pieces texts
-    → All (λ row. All (λ id. id < length table.names) row) (map node_uses texts)
-uses_inside web table pieces texts inside are =
-    All-map (λ row. All (λ id. id < length table.names) row) node_uses texts (names_below web table pieces texts (length table.names) inside are refl)
+-- the bodies of a web use names of its table
+pub uses_inside : (web : WebRead) (table : TableRead) (pieces : List (List ℕ)) (bodies : List NodeBody) → ResolvesInside table → AreBodies web table pieces bodies
+    → All (λ row. All (λ id. id < length table.names) row) (map node_uses bodies)
+uses_inside web table pieces bodies inside are =
+    All-map (λ row. All (λ id. id < length table.names) row) node_uses bodies (names_below web table pieces bodies (length table.names) inside are refl)
 
 -- rows of numbers below a count are in the range of a graph with more nodes
 pub rows_in_range : (rows : Graph) (used : List (List ℕ)) (count : ℕ) → rows_of rows ≡ used → count ≤ length used → All (λ row. All (λ id. id < count) row) used → InRange rows
@@ -57,12 +57,12 @@ each_increasing before rows same once n =
       | no past ↦ (λ k h. (let none : row_at rows n ≡ [] = get_or_past rows n [] (omega (arith, past, same)) in absurd (omega (arith, h, ap length none))))
     ]
 
--- rows that hold the uses of texts once each are in range, as the texts' own are
-pub once_in_range : (texts : List NodeBody) (count : ℕ) (rows once uses : Graph) → rows_of rows ≡ map node_uses texts → length texts ≡ count + 1
-    → All (λ row. All (λ id. id < count) row) (map node_uses texts) → (InRange rows → InRange once) → uses ≡ once → InRange uses
-once_in_range texts count rows once uses same size all kept is =
-    let room : count ≤ length (map node_uses texts) = omega (arith, size, length-map texts node_uses) in
-    subst InRange (sym is) (kept (rows_in_range rows (map node_uses texts) count same room all))
+-- rows that hold the uses of bodies once each are in range, as the bodies' own are
+pub once_in_range : (bodies : List NodeBody) (count : ℕ) (rows once uses : Graph) → rows_of rows ≡ map node_uses bodies → length bodies ≡ count + 1
+    → All (λ row. All (λ id. id < count) row) (map node_uses bodies) → (InRange rows → InRange once) → uses ≡ once → InRange uses
+once_in_range bodies count rows once uses same size all kept is =
+    let room : count ≤ length (map node_uses bodies) = omega (arith, size, length-map bodies node_uses) in
+    subst InRange (sym is) (kept (rows_in_range rows (map node_uses bodies) count same room all))
 
 -- lists of numbers of which a test says that they are not two
 pub same_by_test : (xs ys : List ℕ) → not (bytes_eq xs ys) ≡ false → xs ≡ ys
@@ -72,14 +72,14 @@ same_by_test xs ys e = (bytes_eq-Decides xs ys).0 (is_true (bytes_eq xs ys) e)
     is_true true e = refl
     is_true false e = absurd (let no : true ≡ false = e in cc)
 
--- one text more
-pub uses_more : (texts : List (Rc NodeBody Global)) (i : ℕ) (text : Rc NodeBody Global) → i < length texts → text ≡ get_or texts i text
-    → map node_uses (node_bodies (take (i + 1) texts)) ≡ map node_uses (node_bodies (take i texts)) ++ node_uses text.value ∷ []
-uses_more texts i text low read =
-    ap (λ l. map node_uses (node_bodies l)) (take_more texts i text low ∙ (λ j. take i texts ++ sym read j ∷ []))
-    ∙ ap (map node_uses) (map-append (λ (t : Rc NodeBody Global). t.value) (take i texts) (text ∷ []))
-    ∙ map-append node_uses (node_bodies (take i texts)) (text.value ∷ [])
+-- one body more
+pub uses_more : (bodies : List (Rc NodeBody Global)) (i : ℕ) (body : Rc NodeBody Global) → i < length bodies → body ≡ get_or bodies i body
+    → map node_uses (node_bodies (take (i + 1) bodies)) ≡ map node_uses (node_bodies (take i bodies)) ++ node_uses body.value ∷ []
+uses_more bodies i body low read =
+    ap (λ l. map node_uses (node_bodies l)) (take_more bodies i body low ∙ (λ j. take i bodies ++ sym read j ∷ []))
+    ∙ ap (map node_uses) (map-append (λ (t : Rc NodeBody Global). t.value) (take i bodies) (body ∷ []))
+    ∙ map-append node_uses (node_bodies (take i bodies)) (body.value ∷ [])
 
-pub bodies_more : (texts : Graph) (i : ℕ) (text : Vec ℕ Global) → i < length texts → text ≡ get_or texts i text → texts_of (take (i + 1) texts) ≡ texts_of (take i texts) ++ text.items ∷ []
-bodies_more texts i text low read =
-    ap texts_of (take_more texts i text low ∙ (λ j. take i texts ++ sym read j ∷ [])) ∙ map-append (λ (t : Vec ℕ Global). t.items) (take i texts) (text ∷ [])
+pub names_more : (names : Graph) (i : ℕ) (name : Vec ℕ Global) → i < length names → name ≡ get_or names i name → bytes_of_names (take (i + 1) names) ≡ bytes_of_names (take i names) ++ name.items ∷ []
+names_more names i name low read =
+    ap bytes_of_names (take_more names i name low ∙ (λ j. take i names ++ sym read j ∷ [])) ∙ map-append (λ (t : Vec ℕ Global). t.items) (take i names) (name ∷ [])

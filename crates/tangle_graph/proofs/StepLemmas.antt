@@ -5,11 +5,11 @@ use Rattle.std.proofs.lemmas.List.{length-map}
 use Rattle.std.proofs.lemmas.List.Elements.{All-contains}
 use Rattle.tangle_scan.specs.Web.{WebRead}
 use Rattle.tangle_names.specs.NameTable.{TableRead}
-use Rattle.tangle_expansion.specs.Shapes.{Title, Program, Named, Shape, ShapeItem, UsesInShape, Uses}
-use Rattle.tangle_expansion.specs.Flat.{pieces_weight, weight, pieces_depth, depth}
+use Rattle.tangle_plans.specs.Shapes.{Title, Program, Named, Shape, ShapeItem, UsesInShape, Uses}
+use Rattle.tangle_plans.specs.Flat.{pieces_weight, weight, pieces_depth, depth}
 use Rattle.tangle_expansion.specs.Limits.{weight_cap, levels, weight_of, depth_of}
-use Rattle.tangle_expansion.specs.ItemSlots.{pieces_at, no_piece}
-use Rattle.tangle_expansion.specs.WebShapes.{shapes, ResolvesInside, shape_item, pieces_of}
+use Rattle.tangle_plans.specs.ItemSlots.{pieces_at, no_piece}
+use Rattle.tangle_plans.specs.WebShapes.{shapes, ResolvesInside, shape_item, pieces_of}
 use Rattle.digraph.specs.Graph.{Graph, HasUse, rows_of, row_at}
 use Rattle.digraph.specs.Order.{IsOrder}
 use Rattle.tangle_graph.specs.Groups.{IsGraphOf}

@@ -7,20 +7,20 @@ use Rattle.std.specs.Str.{bytes_eq}
 use Rattle.std.proofs.lemmas.List.{get_or-map, length-map}
 use Rattle.std.proofs.lemmas.List.Elements.{Contains-get_or}
 use Rattle.std.proofs.lemmas.List.Kept.{AllPairs-from_increasing}
-use Rattle.tangle_lines.specs.Faults.{FaultRead}
+use Rattle.tangle_faults.specs.Faults.{FaultRead}
 use Rattle.tangle_scan.specs.Web.{WebRead, PieceRead}
 use Rattle.tangle_names.specs.NameTable.{TableRead}
-use Rattle.tangle_expansion.specs.Shapes.{Title, Named, Uses, ContainsItself}
-use Rattle.tangle_expansion.specs.Flat.{Symbol, flat, depth}
-use Rattle.tangle_expansion.specs.ItemTags.{pieces_names, shape_of}
-use Rattle.tangle_expansion.specs.NodeBodies.{HoldsShape}
-use Rattle.tangle_expansion.specs.Slots.{Slot, filled}
-use Rattle.tangle_expansion.specs.ItemSlots.{pieces_at, pieces_slots}
+use Rattle.tangle_plans.specs.Shapes.{Title, Named, Uses, ContainsItself}
+use Rattle.tangle_plans.specs.Flat.{Symbol, flat, depth}
+use Rattle.tangle_plans.specs.ItemTags.{pieces_names, shape_of}
+use Rattle.tangle_plans.specs.NodeBodies.{HoldsShape}
+use Rattle.tangle_plans.specs.Slots.{Slot, filled}
+use Rattle.tangle_plans.specs.ItemSlots.{pieces_at, pieces_slots}
 use Rattle.tangle_expansion.specs.Limits.{levels, flat_of, weight_of, depth_of, IsExpandableNode}
-use Rattle.tangle_expansion.specs.WebShapes.{ResolvesInside, pieces_of, shapes, shape_item}
-use Rattle.tangle_expansion.specs.declared.expansion.NodeBody.{NodeBody}
-use Rattle.tangle_expansion.specs.declared.nodes.Node.{Node}
-use Rattle.tangle_expansion.specs.declared.nodes.Node.TheVariants.{Name}
+use Rattle.tangle_plans.specs.WebShapes.{ResolvesInside, pieces_of, shapes, shape_item}
+use Rattle.tangle_plans.specs.declared.nodes.NodeBody.{NodeBody}
+use Rattle.tangle_plans.specs.declared.nodes.Node.{Node}
+use Rattle.tangle_plans.specs.declared.nodes.Node.TheVariants.{Name}
 use Rattle.digraph.specs.Flags.{FlagsJust}
 use Rattle.digraph.specs.Graph.{Graph, HasUse, rows_of, row_at}
 use Rattle.digraph.specs.Reach as graph
@@ -39,7 +39,7 @@ use Rattle.tangle_graph.proofs.LimitLemmas.{shape_size}
 use Rattle.tangle_graph.proofs.StoreLemmas.{same_number, contains_mapped, mapped_contains, filled_row, there, expandable_is}
 use Rattle.tangle_graph.proofs.ReachLemmas.{contains_by_titles}
 
-module _ (web : WebRead) (table : TableRead) (rows uses users : Graph) (flags : List Bool) (weights depths : List ℕ) (expandable : List Bool) (outputs : List OutputRead) (faults : List FaultRead) (slots : List (List Slot)) (plan_uses : List (List ℕ)) (texts : List NodeBody) (has : ℕ → Bool)
+module _ (web : WebRead) (table : TableRead) (rows uses users : Graph) (flags : List Bool) (weights depths : List ℕ) (expandable : List Bool) (outputs : List OutputRead) (faults : List FaultRead) (slots : List (List Slot)) (plan_uses : List (List ℕ)) (bodies : List NodeBody) (has : ℕ → Bool)
     (distinct : IsDistinct bytes_eq table.names) (inside : ResolvesInside table) (is : IsGraphOf web table rows uses) (converse : IsConverse uses users)
     (increasing : (n : ℕ) → IsStrictlyIncreasing (row_at (rows_of uses) n)) (same_size : length users ≡ length uses)
     (flagged : FlagsJust uses flags (graph.ContainsItself (HasUse uses)))
@@ -47,7 +47,7 @@ module _ (web : WebRead) (table : TableRead) (rows uses users : Graph) (flags : 
     (measured : (n : ℕ) → n < length uses → get_or depths n 0 ≡ depth_of (shapes web table) (title_at table.names n))
     (limited : (n : ℕ) → n < length uses → get_or expandable n false ≡ is_expandable (shapes web table) (title_at table.names n))
     (has_is : (id : ℕ) → id < length table.names → has id ≡ is_filled (row_at (rows_of rows) id))
-    (planned : ArePlans web table has (rows_of rows) slots plan_uses) (shaped : AreBodies web table (rows_of rows) texts)
+    (planned : ArePlans web table has (rows_of rows) slots plan_uses) (shaped : AreBodies web table (rows_of rows) bodies)
     (law : (symbols : ℕ → List Symbol) (node : Title) → depth levels (shapes web table) node < levels
     → ((id : ℕ) → id < length table.names → Uses (shapes web table) node (get_or table.names id [])
     → (if has id then symbols id else []) ≡ flat levels (shapes web table) (Named (get_or table.names id [])))
@@ -66,7 +66,7 @@ module _ (web : WebRead) (table : TableRead) (rows uses users : Graph) (flags : 
     faults = faults;
     slots = slots;
     plan_uses = plan_uses;
-    texts = texts;
+    bodies = bodies;
   }
 
   -- a node by its number
@@ -255,13 +255,13 @@ module _ (web : WebRead) (table : TableRead) (rows uses users : Graph) (flags : 
       (node_at (length table.names) found.0, node_is table.names found.0 low, title-node table.names found.0 low ∙ found.3)
 
   shapes_are : (a : Node) → IsNodeOf table.names a
-      → (text : NodeBody) × (entry_if texts (number_in (length table.names) a) ≡ Some text) × HoldsShape table.names (shapes web table (title_of_node table.names a)) text
+      → (body : NodeBody) × (entry_if bodies (number_in (length table.names) a) ≡ Some body) × HoldsShape table.names (shapes web table (title_of_node table.names a)) body
   shapes_are a ha =
       let m = number_of_node a ha in
       let reported = shaped.each m.n (omega (arith, m.here, is.uses_size, is.rows_size, rows_size rows)) in
       let same : shape_of web.texts table (pieces_at web.pieces (row_at (rows_of rows) m.n)) ≡ shapes web table (title_of_node table.names a) =
       ap (shape_of web.texts table) (pieces_are m.n m.here) ∙ ap (shapes web table) (sym m.titled) in
-      (reported.0, ap (entry_if texts) m.number ∙ reported.1, subst (λ s. HoldsShape table.names s reported.0) same reported.2.shape)
+      (reported.0, ap (entry_if bodies) m.number ∙ reported.1, subst (λ s. HoldsShape table.names s reported.0) same reported.2.shape)
 
   pub store_is : IsStoreOf (shapes web table) made
   store_is = record {
@@ -298,9 +298,9 @@ module _ (web : WebRead) (table : TableRead) (rows uses users : Graph) (flags : 
         faults = faults;
         slots = slots;
         plan_uses = plan_uses;
-        texts = texts;
+        bodies = bodies;
       })
   store_made names used using e f g =
-      subst (λ (x : List (List ℕ)). IsStoreOf (shapes web table) (record { names = x; pieces = rows_of rows; uses = used; users = using; self_containing = flags; weights = weights; depths = depths; expandable = expandable; outputs = outputs; faults = faults; slots = slots; plan_uses = plan_uses; texts = texts })) (sym e)
-      (subst (λ (x : List (List Node)). IsStoreOf (shapes web table) (record { names = table.names; pieces = rows_of rows; uses = x; users = using; self_containing = flags; weights = weights; depths = depths; expandable = expandable; outputs = outputs; faults = faults; slots = slots; plan_uses = plan_uses; texts = texts })) (sym f)
-      (subst (λ (x : List (List Node)). IsStoreOf (shapes web table) (record { names = table.names; pieces = rows_of rows; uses = map (map (node_at (length table.names))) (rows_of uses); users = x; self_containing = flags; weights = weights; depths = depths; expandable = expandable; outputs = outputs; faults = faults; slots = slots; plan_uses = plan_uses; texts = texts })) (sym g) store_is))
+      subst (λ (x : List (List ℕ)). IsStoreOf (shapes web table) (record { names = x; pieces = rows_of rows; uses = used; users = using; self_containing = flags; weights = weights; depths = depths; expandable = expandable; outputs = outputs; faults = faults; slots = slots; plan_uses = plan_uses; bodies = bodies })) (sym e)
+      (subst (λ (x : List (List Node)). IsStoreOf (shapes web table) (record { names = table.names; pieces = rows_of rows; uses = x; users = using; self_containing = flags; weights = weights; depths = depths; expandable = expandable; outputs = outputs; faults = faults; slots = slots; plan_uses = plan_uses; bodies = bodies })) (sym f)
+      (subst (λ (x : List (List Node)). IsStoreOf (shapes web table) (record { names = table.names; pieces = rows_of rows; uses = map (map (node_at (length table.names))) (rows_of uses); users = x; self_containing = flags; weights = weights; depths = depths; expandable = expandable; outputs = outputs; faults = faults; slots = slots; plan_uses = plan_uses; bodies = bodies })) (sym g) store_is))

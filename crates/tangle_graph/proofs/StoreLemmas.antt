@@ -5,15 +5,15 @@ use Rattle.std.proofs.Math.Decide.{dec_lt}
 use Rattle.std.proofs.lemmas.Bool.Decides.{nat_tests}
 use Rattle.std.proofs.lemmas.Slice.Eq.{bytes_eq-Decides}
 use Rattle.std.proofs.lemmas.List.{get_or-map, length-map}
-use Rattle.tangle_expansion.specs.Shapes.{Title, Named, Shape, Shapes}
-use Rattle.tangle_expansion.specs.Flat.{weight, depth}
+use Rattle.tangle_plans.specs.Shapes.{Title, Named, Shape, Shapes}
+use Rattle.tangle_plans.specs.Flat.{weight, depth}
 use Rattle.tangle_expansion.specs.Limits.{levels, heaviest, weight_cap, weight_of, depth_of, IsExpandableNode}
-use Rattle.tangle_expansion.specs.declared.nodes.Node.TheVariants.{Program, Name}
+use Rattle.tangle_plans.specs.declared.nodes.Node.TheVariants.{Program, Name}
 use Rattle.tangle_scan.specs.Web.{PieceRead}
 use Rattle.tangle_names.specs.declared.Resolved.{Resolved}
 use Rattle.tangle_names.specs.declared.Resolved.TheVariants as resolved
 use Rattle.tangle_names.specs.NameTable.{TableRead}
-use Rattle.tangle_expansion.specs.WebShapes.{resolved_at, node_of, node_of_name, is_node, is_piece_of, IsNameBelow, ResolvesInside, shapes}
+use Rattle.tangle_plans.specs.WebShapes.{resolved_at, node_of, node_of_name, is_node, is_piece_of, IsNameBelow, ResolvesInside, shapes}
 use Rattle.tangle_graph.specs.Nodes.{node_at}
 use Rattle.tangle_graph.specs.Outputs.{has_pieces, is_expandable}
 use Rattle.tangle_graph.specs.Stores.{is_filled}

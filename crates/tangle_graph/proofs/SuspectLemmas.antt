@@ -1,15 +1,15 @@
 -- A name that is expandable and used, does not contain itself and has no file, has no fault.
 use Rattle.std.proofs.Common.{◌≡◌, ◌∙◌, ◌<◌, ◌&&◌, ℕ, Bool, true, false, not, List, length, refl, ap, sym, arith}
 use Rattle.std.specs.Prelude.{None, Option, Some, is_some, nat_le, nat_lt, if◌then◌else◌}
-use Rattle.tangle_lines.specs.declared.faults.FaultKind.{FaultKind}
-use Rattle.tangle_lines.specs.declared.faults.FaultKind.TheVariants as kind
+use Rattle.tangle_faults.specs.declared.faults.FaultKind.{FaultKind}
+use Rattle.tangle_faults.specs.declared.faults.FaultKind.TheVariants as kind
 use Rattle.tangle_scan.specs.Web.{WebRead}
 use Rattle.tangle_names.specs.NameTable.{TableRead}
-use Rattle.tangle_expansion.specs.Flat.{weight, depth}
+use Rattle.tangle_plans.specs.Flat.{weight, depth}
 use Rattle.tangle_expansion.specs.Limits.{levels, heaviest}
-use Rattle.tangle_expansion.specs.WebShapes.{shapes}
+use Rattle.tangle_plans.specs.WebShapes.{shapes}
 use Rattle.tangle_graph.specs.FaultFlags.{AreNodeFlags, flag_at}
-use Rattle.tangle_graph.specs.Faults.{fault_place, first_file_occurrence, first_occurrence, first_use, is_defined, is_too_large}
+use Rattle.tangle_graph.specs.Faults.{fault_occurrence, first_file_occurrence, first_occurrence_number, first_use, is_defined, is_too_large}
 use Rattle.tangle_graph.specs.Nodes.{title_at}
 use Rattle.tangle_graph.specs.Outputs.{has_pieces, is_expandable}
 use Rattle.tangle_graph.specs.declared.faults.NodeFlags.{NodeFlags}
@@ -51,11 +51,11 @@ module _ (web : WebRead) (table : TableRead) (out : List ℕ) (flags : NodeFlags
       ap (λ b. is_defined web table id && (not (is_some (first_file_occurrence web table id)) && not b)) used
       ∙ ap (λ b. is_defined web table id && b) (and_false (not (is_some (first_file_occurrence web table id)))) ∙ and_false (is_defined web table id)
 
-  pub no_fault : (k : FaultKind) → fault_place web table out (flag_at flags.self_containing.now) (flag_at flags.reaching.now) k id ≡ None
+  pub no_fault : (k : FaultKind) → fault_occurrence web table out (flag_at flags.self_containing.now) (flag_at flags.reaching.now) k id ≡ None
   no_fault kind.Undefined = ap (λ b. if b then None else first_use web table id) defined
-  no_fault kind.Unused = ap (λ b. if b then first_occurrence web table id else None) unused
-  no_fault kind.SelfContaining = ap (λ b. if b then first_occurrence web table id else None) contains
-  no_fault kind.TooLarge = ap (λ b. if b then first_occurrence web table id else None) large
+  no_fault kind.Unused = ap (λ b. if b then first_occurrence_number web table id else None) unused
+  no_fault kind.SelfContaining = ap (λ b. if b then first_occurrence_number web table id else None) contains
+  no_fault kind.TooLarge = ap (λ b. if b then first_occurrence_number web table id else None) large
   no_fault kind.FileClash = never _ (first_file_occurrence web table id) (none_of (first_file_occurrence web table id) file)
   no_fault kind.StrayMark = refl
   no_fault kind.MissingY = refl

@@ -10,12 +10,12 @@ use Rattle.tangle_scan.specs.Web.{PieceRead}
 use Rattle.tangle_names.specs.declared.Resolved.{Resolved}
 use Rattle.tangle_names.specs.declared.Resolved.TheVariants as resolved
 use Rattle.tangle_names.specs.NameTable.{TableRead}
-use Rattle.tangle_expansion.specs.Shapes.{Title}
-use Rattle.tangle_expansion.specs.Flat.{Byte}
-use Rattle.tangle_expansion.specs.ItemTags.{names_resolved, names_in, pieces_names}
-use Rattle.tangle_expansion.specs.ItemSlots.{marks_behind_item, name_slots, item_slots, items_slots, piece_slots, pieces_slots}
-use Rattle.tangle_expansion.specs.WebShapes.{resolved_at}
-use Rattle.tangle_expansion.specs.Slots.{Own, Used, byte_slots}
+use Rattle.tangle_plans.specs.Shapes.{Title}
+use Rattle.tangle_plans.specs.Flat.{Byte}
+use Rattle.tangle_plans.specs.ItemTags.{names_resolved, names_in, pieces_names}
+use Rattle.tangle_plans.specs.ItemSlots.{marks_behind_item, name_slots, item_slots, items_slots, piece_slots, pieces_slots}
+use Rattle.tangle_plans.specs.WebShapes.{resolved_at}
+use Rattle.tangle_plans.specs.Slots.{Own, Used, byte_slots}
 use Rattle.tangle_graph.specs.Grouping.{number_of_name}
 use Rattle.tangle_graph.specs.Measures.{use_weight, weight_of_item, weight_of_piece, weight_of_pieces}
 
@@ -41,7 +41,7 @@ module _ (texts : List (List ℕ)) (table : TableRead) (has_piece : ℕ → Bool
   of_item piece marks (item.Code value) = of_bytes (decimal value)
   of_item piece marks item.Blank = refl
   of_item piece marks item.LineEnd = refl
-  of_item piece marks (item.LineMark place) = refl
+  of_item piece marks (item.LineMark origin) = refl
   of_item piece marks (item.UseOf occurrence) = of_use (resolved_at table occurrence)
   of_item piece marks item.Defs = refl
 

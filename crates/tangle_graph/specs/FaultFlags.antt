@@ -6,10 +6,10 @@ use Rattle.tangle_scan.specs.Web.{WebRead}
 use Rattle.tangle_names.specs.declared.Resolved.{Resolved}
 use Rattle.tangle_names.specs.Numbers.{is_number}
 use Rattle.tangle_names.specs.NameTable.{TableRead}
-use Rattle.tangle_expansion.specs.Shapes.{ContainsItself}
-use Rattle.tangle_expansion.specs.WebShapes.{shapes}
-use Rattle.tangle_lines.specs.declared.faults.FaultKind.{FaultKind}
-use Rattle.tangle_graph.specs.Faults.{is_use, is_defined, fault_of, fault_place, faults_of_names, ReachesCycle}
+use Rattle.tangle_plans.specs.Shapes.{ContainsItself}
+use Rattle.tangle_plans.specs.WebShapes.{shapes}
+use Rattle.tangle_faults.specs.declared.faults.FaultKind.{FaultKind}
+use Rattle.tangle_graph.specs.Faults.{is_use, is_defined, fault_of, fault_occurrence, faults_of_names, ReachesCycle}
 use Rattle.tangle_graph.specs.Nodes.{title_at}
 use Rattle.tangle_graph.specs.Outputs.{is_expandable}
 use Rattle.tangle_graph.specs.declared.faults.NodeFlags.{NodeFlags}
@@ -35,5 +35,5 @@ pub record AreNodeFlags (web : WebRead) (table : TableRead) (flags : NodeFlags) 
 -- the faults of these names are those of all names, of whatever kind
 abbrev pub HaveTheFaults : WebRead → TableRead → NodeFlags → List ℕ → Type 0
 HaveTheFaults web table flags names = (out : List ℕ) (kind : FaultKind)
-    → flat_map (λ id. fault_of web table kind id (fault_place web table out (flag_at flags.self_containing.now) (flag_at flags.reaching.now) kind id)) names
+    → flat_map (λ id. fault_of web table kind id (fault_occurrence web table out (flag_at flags.self_containing.now) (flag_at flags.reaching.now) kind id)) names
     ≡ faults_of_names web table out (flag_at flags.self_containing.now) (flag_at flags.reaching.now) kind

@@ -2,9 +2,9 @@
 use Rattle.std.specs.Prelude.{◌≡◌, ◌≤◌, ◌↔◌, ℕ, Bool, true, false, not, ◌&&◌, List, [], ◌∷◌, ◌++◌, length, map, flat_map, slice_get, slice_index_or, Option, Some, None, option_to_list, is_some, position, if◌then◌else◌}
 use Rattle.std.specs.List.{range_with_len}
 use Rattle.std.specs.Str.{bytes_eq}
-use Rattle.tangle_lines.specs.declared.faults.FaultKind.{FaultKind}
-use Rattle.tangle_lines.specs.declared.faults.FaultKind.TheVariants as kind
-use Rattle.tangle_lines.specs.Faults.{FaultRead, fault_about, fault_unplaced}
+use Rattle.tangle_faults.specs.declared.faults.FaultKind.{FaultKind}
+use Rattle.tangle_faults.specs.declared.faults.FaultKind.TheVariants as kind
+use Rattle.tangle_faults.specs.Faults.{FaultRead, fault_about, fault_unplaced}
 use Rattle.tangle_lexer.specs.declared.occurrences.OccurrenceRole.{OccurrenceRole}
 use Rattle.tangle_lexer.specs.declared.occurrences.OccurrenceRole.TheVariants.{Definition, Use, Mention}
 use Rattle.tangle_scan.specs.Web.{WebRead}
@@ -12,10 +12,10 @@ use Rattle.tangle_names.specs.Faults.{named_place_of}
 use Rattle.tangle_names.specs.NameTable.{TableRead}
 use Rattle.tangle_names.specs.Numbers.{is_number}
 use Rattle.tangle_names.specs.Resolving.{resolve}
-use Rattle.tangle_expansion.specs.Shapes.{Title, Shapes, Reaches, ContainsItself}
-use Rattle.tangle_expansion.specs.WebShapes.{shapes}
+use Rattle.tangle_plans.specs.Shapes.{Title, Shapes, Reaches, ContainsItself}
+use Rattle.tangle_plans.specs.WebShapes.{shapes}
 use Rattle.tangle_graph.specs.Nodes.{title_at}
-use Rattle.tangle_graph.specs.Outputs.{has_pieces, is_expandable, name_text}
+use Rattle.tangle_graph.specs.Outputs.{has_pieces, is_expandable, name_with_number}
 
 abbrev pub is_use : OccurrenceRole → Bool
 is_use Use = true
@@ -30,7 +30,7 @@ ReachesCycle shapes node = (other : Title) × Reaches shapes node other × Conta
 module _ (web : WebRead) (table : TableRead) where
   abbrev pub fault_at_number : FaultKind → ℕ → ℕ → List FaultRead
   fault_at_number kind id number =
-      map (λ o. fault_about kind (named_place_of web.file_names o.place) (name_text table id)) (option_to_list (slice_get web.occurrences number))
+      map (λ o. fault_about kind (named_place_of web.file_names o.origin) (name_with_number table id)) (option_to_list (slice_get web.occurrences number))
 
   abbrev pub fault_of : FaultKind → ℕ → Option ℕ → List FaultRead
   fault_of kind id None = []
@@ -41,8 +41,8 @@ module _ (web : WebRead) (table : TableRead) where
   is_defined n = has_pieces (shapes web table (title_at table.names n))
 
   -- the numbers of a name's first occurrence, of its first one with `@(`, and of the first use that resolves to it
-  abbrev pub first_occurrence : ℕ → Option ℕ
-  first_occurrence id = Some (slice_index_or table.first_occurrences id 0)
+  abbrev pub first_occurrence_number : ℕ → Option ℕ
+  first_occurrence_number id = Some (slice_index_or table.first_occurrences id 0)
 
   abbrev pub first_file_occurrence : ℕ → Option ℕ
   first_file_occurrence id = slice_index_or table.first_file_occurrences id None
@@ -58,20 +58,20 @@ is_too_large web table reaches_cycle n = is_defined web table n && (not (reaches
 -- their order, and then the program.
 module _ (web : WebRead) (table : TableRead) (out : List ℕ) (contains_itself reaches_cycle : ℕ → Bool) where
   -- whether the name has a fault of this kind, and at which occurrence
-  abbrev pub fault_place : FaultKind → ℕ → Option ℕ
-  fault_place kind.Undefined id = if is_defined web table id then None else first_use web table id
-  fault_place kind.Unused id =
+  abbrev pub fault_occurrence : FaultKind → ℕ → Option ℕ
+  fault_occurrence kind.Undefined id = if is_defined web table id then None else first_use web table id
+  fault_occurrence kind.Unused id =
       if is_defined web table id && (not (is_some (first_file_occurrence web table id)) && not (is_some (first_use web table id)))
-      then first_occurrence web table id
+      then first_occurrence_number web table id
       else None
-  fault_place kind.SelfContaining id = if contains_itself id then first_occurrence web table id else None
-  fault_place kind.TooLarge id = if is_too_large web table reaches_cycle id then first_occurrence web table id else None
-  fault_place kind.FileClash id = if is_defined web table id && bytes_eq (name_text table id) out then first_file_occurrence web table id else None
-  fault_place _ id = None
+  fault_occurrence kind.SelfContaining id = if contains_itself id then first_occurrence_number web table id else None
+  fault_occurrence kind.TooLarge id = if is_too_large web table reaches_cycle id then first_occurrence_number web table id else None
+  fault_occurrence kind.FileClash id = if is_defined web table id && bytes_eq (name_with_number table id) out then first_file_occurrence web table id else None
+  fault_occurrence _ id = None
 
   -- the faults of this kind, in the order of the names
   abbrev pub faults_of_names : FaultKind → List FaultRead
-  faults_of_names kind = flat_map (λ id. fault_of web table kind id (fault_place kind id)) (range_with_len 0 (length table.names))
+  faults_of_names kind = flat_map (λ id. fault_of web table kind id (fault_occurrence kind id)) (range_with_len 0 (length table.names))
 
   -- the program is too large, or has no text
   abbrev pub large_program : List FaultRead

@@ -6,8 +6,8 @@ use Rattle.tangle_scan.specs.Web.{PieceRead}
 use Rattle.tangle_names.specs.declared.Resolved.{Resolved}
 use Rattle.tangle_names.specs.declared.Resolved.TheVariants.{Name, NoFullName, Ambiguous}
 use Rattle.tangle_names.specs.NameTable.{TableRead}
-use Rattle.tangle_expansion.specs.WebShapes.{resolved_at}
-use Rattle.digraph.specs.Users.{places}
+use Rattle.tangle_plans.specs.WebShapes.{resolved_at}
+use Rattle.digraph.specs.Users.{positions}
 
 -- the number of the name that is resolved to
 abbrev pub number_of_name : Resolved → Option ℕ
@@ -39,8 +39,8 @@ module _ (table : TableRead) where
   is_piece_of_number n piece = is_number n (number_of table piece.occurrence)
 
   -- where the pieces of the node are
-  abbrev pub places_of : List PieceRead → ℕ → List ℕ
-  places_of pieces n = places (is_piece_of_number n) 0 pieces
+  abbrev pub positions_of : List PieceRead → ℕ → List ℕ
+  positions_of pieces n = positions (is_piece_of_number n) 0 pieces
 
   -- the names that the pieces of the node use, each as often as it is used
   abbrev pub used_numbers : List PieceRead → ℕ → List ℕ

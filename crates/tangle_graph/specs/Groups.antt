@@ -2,8 +2,8 @@
 use Rattle.std.specs.Prelude.{◌≡◌, ◌<◌, ℕ, ◌+◌, length}
 use Rattle.tangle_scan.specs.Web.{WebRead}
 use Rattle.tangle_names.specs.NameTable.{TableRead}
-use Rattle.tangle_expansion.specs.WebShapes.{shapes, pieces_of}
-use Rattle.tangle_expansion.specs.ItemSlots.{pieces_at}
+use Rattle.tangle_plans.specs.WebShapes.{shapes, pieces_of}
+use Rattle.tangle_plans.specs.ItemSlots.{pieces_at}
 use Rattle.digraph.specs.Graph.{Graph, InRange, rows_of, row_at}
 use Rattle.digraph.specs.Titles.{IsTitled}
 use Rattle.tangle_graph.specs.Nodes.{title_at, UsesTitle}

@@ -11,3 +11,4 @@ pub mod Plans
 pub mod Faults
 pub mod FaultFlags
 pub mod Skeletons
+pub mod WebStores

@@ -4,8 +4,8 @@ use Rattle.tangle_scan.specs.declared.items.Item.{Item}
 use Rattle.tangle_scan.specs.declared.items.Item.TheVariants as item
 use Rattle.tangle_scan.specs.Web.{PieceRead}
 use Rattle.tangle_names.specs.NameTable.{TableRead}
-use Rattle.tangle_expansion.specs.Flat.{item_weight}
-use Rattle.tangle_expansion.specs.WebShapes.{resolved_at, shape_item}
+use Rattle.tangle_plans.specs.Flat.{item_weight}
+use Rattle.tangle_plans.specs.WebShapes.{resolved_at, shape_item}
 use Rattle.tangle_graph.specs.Grouping.{number_of_name}
 
 -- what a use weighs: 1, and the weight of its name if it has one

@@ -1,17 +1,17 @@
 -- Nodes by name, by number and by title: the names of a table in their order, and then the program.
 use Rattle.std.specs.Prelude.{◌<◌, ℕ, nat_lt, if◌then◌else◌, List, [], length, slice_get, slice_index_or, Option, None, Some}
-use Rattle.tangle_expansion.specs.Shapes.{Title, Named, Shape, Shapes, Uses}
-use Rattle.tangle_expansion.specs.Shapes as title
-use Rattle.tangle_expansion.specs.declared.nodes.Node.{Node}
-use Rattle.tangle_expansion.specs.declared.nodes.Node.TheVariants.{Program, Name}
+use Rattle.tangle_plans.specs.Shapes.{Title, Named, Shape, Shapes, Uses}
+use Rattle.tangle_plans.specs.Shapes as title
+use Rattle.tangle_plans.specs.declared.nodes.Node.{Node}
+use Rattle.tangle_plans.specs.declared.nodes.Node.TheVariants.{Program, Name}
 
-abbrev pub title_of_body : Option (List ℕ) → Title
-title_of_body None = title.Program
-title_of_body (Some text) = Named text
+abbrev pub title_of_name : Option (List ℕ) → Title
+title_of_name None = title.Program
+title_of_name (Some text) = Named text
 
 -- the title of the node with this number
 abbrev pub title_at : List (List ℕ) → ℕ → Title
-title_at names n = title_of_body (slice_get names n)
+title_at names n = title_of_name (slice_get names n)
 
 abbrev pub title_of_node : List (List ℕ) → Node → Title
 title_of_node names Program = title.Program

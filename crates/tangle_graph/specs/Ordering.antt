@@ -1,7 +1,7 @@
 -- Orders of the nodes of a store.
 use Rattle.std.specs.Prelude.{◌≡◌, ◌≢◌, ◌<◌, ℕ, true, List, length, take, slice_index_or, AllPairs, Contains}
-use Rattle.tangle_expansion.specs.declared.nodes.Node.{Node}
-use Rattle.tangle_expansion.specs.declared.nodes.Node.TheVariants.{Program}
+use Rattle.tangle_plans.specs.declared.nodes.Node.{Node}
+use Rattle.tangle_plans.specs.declared.nodes.Node.TheVariants.{Program}
 use Rattle.tangle_graph.specs.Stores.{StoreRead, IsNodeIn, uses_at, is_expandable_at}
 
 -- each node of the list comes once, and after the names that it uses; and each expandable node is in it

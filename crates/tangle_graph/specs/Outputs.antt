@@ -3,13 +3,13 @@ use Rattle.std.specs.Prelude.{ℕ, Bool, true, false, not, ◌&&◌, ◌||◌, �
 use Rattle.std.specs.Str.{bytes_eq}
 use Rattle.tangle_scan.specs.Web.{WebRead}
 use Rattle.tangle_names.specs.NameTable.{TableRead}
-use Rattle.tangle_expansion.specs.Shapes.{Title, Program, Named, Shape, Shapes}
-use Rattle.tangle_expansion.specs.Flat.{weight, depth}
+use Rattle.tangle_plans.specs.Shapes.{Title, Program, Named, Shape, Shapes}
+use Rattle.tangle_plans.specs.Flat.{weight, depth}
 use Rattle.tangle_expansion.specs.Limits.{levels, heaviest}
 use Rattle.tangle_expansion.specs.Outputs.{OutputRead}
-use Rattle.tangle_expansion.specs.WebShapes.{shapes, resolved_at}
-use Rattle.tangle_expansion.specs.declared.nodes.Node.TheVariants as node
-use Rattle.digraph.specs.Users.{places}
+use Rattle.tangle_plans.specs.WebShapes.{shapes, resolved_at}
+use Rattle.tangle_plans.specs.declared.nodes.Node.TheVariants as node
+use Rattle.digraph.specs.Users.{positions}
 use Rattle.tangle_graph.specs.Grouping.{number_of_name}
 
 -- the shape of a node with a piece
@@ -29,17 +29,17 @@ firsts (n ∷ ns) = n ∷ filter (λ m. not (m == n)) (firsts ns)
 module _ (web : WebRead) (table : TableRead) where
   -- the numbers of the occurrences that are marked as a file, in the order of the source
   abbrev pub file_occurrences : List ℕ
-  file_occurrences = places (λ o. o.is_file) 0 web.occurrences
+  file_occurrences = positions (λ o. o.is_file) 0 web.occurrences
 
   -- the names that these resolve to, each where it comes first
   abbrev pub file_names : List ℕ
   file_names = firsts (flat_map (λ occurrence. option_to_list (number_of_name (resolved_at table occurrence))) file_occurrences)
 
-abbrev pub name_text : TableRead → ℕ → List ℕ
-name_text table id = slice_index_or table.names id []
+abbrev pub name_with_number : TableRead → ℕ → List ℕ
+name_with_number table id = slice_index_or table.names id []
 
 abbrev pub named_file : TableRead → ℕ → OutputRead
-named_file table id = record { name = name_text table id; node = node.Name id; has_macros = false; has_piece = true }
+named_file table id = record { name = name_with_number table id; node = node.Name id; has_macros = false; has_piece = true }
 
 module _ (web : WebRead) (table : TableRead) (out : List ℕ) where
   -- the main file, unless the program has a piece and is not expandable
@@ -51,7 +51,7 @@ module _ (web : WebRead) (table : TableRead) (out : List ℕ) where
 
   -- the name has a file of its own
   abbrev pub is_written : ℕ → Bool
-  is_written id = is_expandable (shapes web table) (Named (name_text table id)) && not (bytes_eq (name_text table id) out)
+  is_written id = is_expandable (shapes web table) (Named (name_with_number table id)) && not (bytes_eq (name_with_number table id) out)
 
   -- the main file first, and then the named ones in the order of their first file occurrences
   abbrev pub outputs : List OutputRead

@@ -4,27 +4,29 @@ use Rattle.std.specs.Global.{Global}
 use Rattle.std.specs.declared.rc.Rc.{Rc}
 use Rattle.tangle_scan.specs.Web.{WebRead}
 use Rattle.tangle_names.specs.NameTable.{TableRead}
-use Rattle.tangle_expansion.specs.ItemTags.{pieces_names, shape_of}
-use Rattle.tangle_expansion.specs.ItemSlots.{pieces_at, pieces_slots}
-use Rattle.tangle_expansion.specs.Comparing.{IsPlanned}
-use Rattle.tangle_expansion.specs.NodeBodies.{HoldsShape, node_title, node_uses, plan_slots, plan_uses}
-use Rattle.tangle_expansion.specs.Slots.{Slot}
-use Rattle.tangle_expansion.specs.declared.expansion.NodeBody.{NodeBody}
+use Rattle.tangle_plans.specs.ItemTags.{pieces_names, shape_of}
+use Rattle.tangle_plans.specs.ItemSlots.{pieces_at, pieces_slots}
+use Rattle.tangle_plans.specs.Comparing.{IsPlanned}
+use Rattle.tangle_plans.specs.NodeBodies.{HoldsShape, node_title, node_uses, plan_slots, plan_uses}
+use Rattle.tangle_plans.specs.Slots.{Slot}
+use Rattle.tangle_plans.specs.declared.nodes.NodeBody.{NodeBody}
 use Rattle.tangle_graph.specs.Measures.{weight_of_pieces}
 use Rattle.tangle_graph.specs.Nodes.{title_at}
+use Rattle.tangle_graph.specs.Rows.{bytes_of_names}
 use Rattle.tangle_graph.specs.Stores.{is_filled}
+use Rattle.tangle_graph.specs.declared.bodies.OldBodies.{OldBodies}
 
 -- of each node, its own symbols and where it uses which names
 abbrev pub slots_of : List (Rc NodeBody Global) → List (List Slot)
-slots_of texts = map (λ (text : Rc NodeBody Global). plan_slots text.value) texts
+slots_of bodies = map (λ (body : Rc NodeBody Global). plan_slots body.value) bodies
 
 -- of each node, the names with a piece that its plan uses
 abbrev pub uses_of_plans : List (Rc NodeBody Global) → List (List ℕ)
-uses_of_plans texts = map (λ (text : Rc NodeBody Global). plan_uses text.value) texts
+uses_of_plans bodies = map (λ (body : Rc NodeBody Global). plan_uses body.value) bodies
 
 -- what is kept of each node
 abbrev pub node_bodies : List (Rc NodeBody Global) → List NodeBody
-node_bodies texts = map (λ (text : Rc NodeBody Global). text.value) texts
+node_bodies bodies = map (λ (body : Rc NodeBody Global). body.value) bodies
 
 -- the numbers of all rows are those of so many pieces
 abbrev pub ArePiecesInside : ℕ → List (Vec ℕ Global) → Type 0
@@ -44,17 +46,29 @@ pub record ArePlans (web : WebRead) (table : TableRead) (has_piece : ℕ → Boo
   pub uses_right : (n : ℕ) → n < length rows → slice_index_or uses n [] ≡ filter has_piece (pieces_names table (pieces_at web.pieces (slice_index_or rows n [])))
 
 -- what is kept of a node with the pieces of these numbers determines its shape, by the names that its items use, and its weight
-pub record IsBodyOf (web : WebRead) (table : TableRead) (numbers : List ℕ) (text : NodeBody) : Type 0 where
-  pub shape : HoldsShape table.names (shape_of web.texts table (pieces_at web.pieces numbers)) text
-  pub names : node_uses text ≡ pieces_names table (pieces_at web.pieces numbers)
-  pub weight : (used : ℕ → ℕ) → length (plan_slots text) + sum_by used (node_uses text) ≡ weight_of_pieces web.texts table used (pieces_at web.pieces numbers)
+pub record IsBodyOf (web : WebRead) (table : TableRead) (numbers : List ℕ) (body : NodeBody) : Type 0 where
+  pub shape : HoldsShape table.names (shape_of web.texts table (pieces_at web.pieces numbers)) body
+  pub names : node_uses body ≡ pieces_names table (pieces_at web.pieces numbers)
+  pub weight : (used : ℕ → ℕ) → length (plan_slots body) + sum_by used (node_uses body) ≡ weight_of_pieces web.texts table used (pieces_at web.pieces numbers)
+
+-- what is kept is that of the node with this number, which has the pieces of these numbers, where these names have a piece
+pub record IsBodyAt (web : WebRead) (table : TableRead) (has_piece : ℕ → Bool) (n : ℕ) (numbers : List ℕ) (body : NodeBody) : Type 0 where
+  pub slots : plan_slots body ≡ pieces_slots web.texts table has_piece (title_at table.names n) 0 (pieces_at web.pieces numbers)
+  pub is_body : IsBodyOf web table numbers body
+  pub uses : plan_uses body ≡ filter has_piece (pieces_names table (pieces_at web.pieces numbers))
+  pub title : node_title body ≡ title_at table.names n
+  pub planned : IsPlanned has_piece body
 
 -- so it is of each node
-pub record AreBodies (web : WebRead) (table : TableRead) (rows : List (List ℕ)) (texts : List NodeBody) : Type 0 where
-  pub size : length texts ≡ length rows
-  pub each : (n : ℕ) → n < length rows → (text : NodeBody) × (slice_get texts n ≡ Some text) × IsBodyOf web table (slice_index_or rows n []) text
+pub record AreBodies (web : WebRead) (table : TableRead) (rows : List (List ℕ)) (bodies : List NodeBody) : Type 0 where
+  pub size : length bodies ≡ length rows
+  pub each : (n : ℕ) → n < length rows → (body : NodeBody) × (slice_get bodies n ≡ Some body) × IsBodyOf web table (slice_index_or rows n []) body
 
 -- what is kept of each node was planned under the node's name, where these names have a piece
-pub record ArePlanned (names : List (List ℕ)) (has_piece : ℕ → Bool) (texts : List NodeBody) : Type 0 where
-  pub titles : (n : ℕ) (text : NodeBody) → n < length texts → node_title (slice_index_or texts n text) ≡ title_at names n
-  pub planned : All (IsPlanned has_piece) texts
+pub record ArePlanned (names : List (List ℕ)) (has_piece : ℕ → Bool) (bodies : List NodeBody) : Type 0 where
+  pub titles : (n : ℕ) (body : NodeBody) → n < length bodies → node_title (slice_index_or bodies n body) ≡ title_at names n
+  pub planned : All (IsPlanned has_piece) bodies
+
+-- the bodies of a store were planned under its names, where its flags say which names have a piece
+abbrev pub AreBodiesBefore : OldBodies → Type 0
+AreBodiesBefore old = ArePlanned (bytes_of_names old.names.now) (λ id. slice_index_or old.filled.now id false) (node_bodies old.bodies.now)

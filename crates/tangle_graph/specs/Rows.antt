@@ -1,11 +1,11 @@
--- Rows of nodes, one for each node, and texts.
+-- Rows of nodes, one for each node, and names.
 use Rattle.std.specs.Prelude.{ℕ, List, map, Vec}
 use Rattle.std.specs.Global.{Global}
-use Rattle.tangle_expansion.specs.declared.nodes.Node.{Node}
+use Rattle.tangle_plans.specs.declared.nodes.Node.{Node}
 
 -- the rows as lists
 abbrev pub node_rows : List (Vec Node Global) → List (List Node)
 node_rows rows = map (λ (row : Vec Node Global). row.items) rows
 
-abbrev pub texts_of : List (Vec ℕ Global) → List (List ℕ)
-texts_of texts = map (λ (text : Vec ℕ Global). text.items) texts
+abbrev pub bytes_of_names : List (Vec ℕ Global) → List (List ℕ)
+bytes_of_names names = map (λ (name : Vec ℕ Global). name.items) names

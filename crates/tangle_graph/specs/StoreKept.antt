@@ -1,18 +1,18 @@
 -- A store as it lies in memory.
 use Rattle.std.specs.Prelude.{◌≡◌, ◌<◌, All, false, length, map, slice_index_or}
 use Rattle.digraph.specs.Graph.{rows_of}
-use Rattle.tangle_expansion.specs.NodeBodies.{node_uses}
-use Rattle.tangle_expansion.specs.declared.expansion.NodeBody.{NodeBody}
+use Rattle.tangle_plans.specs.NodeBodies.{node_uses}
+use Rattle.tangle_plans.specs.declared.nodes.NodeBody.{NodeBody}
 use Rattle.tangle_graph.specs.Plans.{ArePlanned, node_bodies, slots_of, uses_of_plans}
 use Rattle.tangle_graph.specs.Ordering.{IsOrderIn}
-use Rattle.tangle_graph.specs.Rows.{node_rows, texts_of}
+use Rattle.tangle_graph.specs.Rows.{node_rows, bytes_of_names}
 use Rattle.tangle_graph.specs.Skeletons.{IsSkeletonOf}
 use Rattle.tangle_graph.specs.Stores.{StoreRead}
 use Rattle.tangle_graph.specs.declared.store.Store.TheInside.{Inside}
 
 abbrev pub store_read : Inside → StoreRead
 store_read s = record {
-  names = texts_of s.skeleton.value.names.items;
+  names = bytes_of_names s.skeleton.value.names.items;
   pieces = rows_of s.pieces.items;
   uses = node_rows s.skeleton.value.used_nodes.items;
   users = node_rows s.skeleton.value.user_nodes.items;
@@ -21,17 +21,17 @@ store_read s = record {
   depths = s.depths.items;
   expandable = s.expandable.items;
   outputs = s.outputs.items;
-  slots = slots_of s.texts.items;
-  plan_uses = uses_of_plans s.texts.items;
-  texts = node_bodies s.texts.items;
+  slots = slots_of s.bodies.items;
+  plan_uses = uses_of_plans s.bodies.items;
+  bodies = node_bodies s.bodies.items;
   faults = s.faults.items;
 }
 
--- its skeleton is that of the uses of its texts, the order in it is one of the store, there is a text for each node, the items of each use
+-- its skeleton is that of the uses of its bodies, the order in it is one of the store, there is a body for each node, the items of each use
 -- names of the store, and each was planned where the flags say which names have a piece
 pub record IsWellKept (s : Inside) : Type 0 where
-  pub sizes : length s.texts.items ≡ length s.expandable.items
-  pub skeleton : IsSkeletonOf (map node_uses (node_bodies s.texts.items)) s.skeleton.value
+  pub sizes : length s.bodies.items ≡ length s.expandable.items
+  pub skeleton : IsSkeletonOf (map node_uses (node_bodies s.bodies.items)) s.skeleton.value
   pub order : IsOrderIn (store_read s) s.skeleton.value.node_order.items
-  pub uses : All (λ (text : NodeBody). All (λ id. id < length s.skeleton.value.names.items) (node_uses text)) (node_bodies s.texts.items)
-  pub planned : ArePlanned (texts_of s.skeleton.value.names.items) (λ id. slice_index_or s.filled.items id false) (node_bodies s.texts.items)
+  pub uses : All (λ (body : NodeBody). All (λ id. id < length s.skeleton.value.names.items) (node_uses body)) (node_bodies s.bodies.items)
+  pub planned : ArePlanned (bytes_of_names s.skeleton.value.names.items) (λ id. slice_index_or s.filled.items id false) (node_bodies s.bodies.items)

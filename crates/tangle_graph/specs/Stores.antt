@@ -1,20 +1,20 @@
 -- What a store says of a web: of each node its pieces, its uses and users, its weight and depth, and whether it contains itself.
 use Rattle.std.specs.Prelude.{◌≡◌, ◌≢◌, ◌<◌, ◌↔◌, ℕ, Bool, true, false, ◌&&◌, nat_lt, nat_le, slice_index, slice_index_or, List, [], ◌∷◌, length, AllPairs, Contains, Option, Some}
-use Rattle.tangle_lines.specs.Faults.{FaultRead}
-use Rattle.tangle_expansion.specs.Shapes.{Title, Named, Shape, Shapes, Uses, ContainsItself}
-use Rattle.tangle_expansion.specs.Flat.{Symbol}
+use Rattle.tangle_faults.specs.Faults.{FaultRead}
+use Rattle.tangle_plans.specs.Shapes.{Title, Named, Shape, Shapes, Uses, ContainsItself}
+use Rattle.tangle_plans.specs.Flat.{Symbol}
 use Rattle.tangle_expansion.specs.Kept.{kept_at}
-use Rattle.tangle_expansion.specs.NodeBodies.{HoldsShape}
-use Rattle.tangle_expansion.specs.Slots.{Slot, filled}
+use Rattle.tangle_plans.specs.NodeBodies.{HoldsShape}
+use Rattle.tangle_plans.specs.Slots.{Slot, filled}
 use Rattle.tangle_expansion.specs.Limits.{levels, heaviest, flat_of, weight_of, depth_of, IsExpandableNode}
 use Rattle.tangle_expansion.specs.Outputs.{OutputRead}
-use Rattle.tangle_expansion.specs.declared.expansion.NodeBody.{NodeBody}
+use Rattle.tangle_plans.specs.declared.nodes.NodeBody.{NodeBody}
 use Rattle.tangle_expansion.specs.declared.kept.Kept.{Kept}
-use Rattle.tangle_expansion.specs.declared.nodes.Node.{Node}
-use Rattle.tangle_expansion.specs.declared.nodes.Node.TheVariants as node_kind
+use Rattle.tangle_plans.specs.declared.nodes.Node.{Node}
+use Rattle.tangle_plans.specs.declared.nodes.Node.TheVariants as node_kind
 use Rattle.tangle_graph.specs.Nodes.{title_of_node, IsNodeOf, number_in, entry, entry_if, shape_of_node, UsesTitle}
 
--- the texts of the names, and lists with an entry for each node: the names in their order, and then the program
+-- the bytes of the names, and lists with an entry for each node: the names in their order, and then the program
 pub record StoreRead : Type 0 where
   pub names : List (List ℕ)
   -- the numbers of the node's pieces
@@ -31,7 +31,7 @@ pub record StoreRead : Type 0 where
   pub slots : List (List Slot)
   pub plan_uses : List (List ℕ)
   -- what is kept of it
-  pub texts : List NodeBody
+  pub bodies : List NodeBody
 
 abbrev pub is_filled : List ℕ → Bool
 is_filled [] = false
@@ -69,7 +69,7 @@ module _ (store : StoreRead) where
   plan_uses_at node = entry [] store.plan_uses (number_in (length store.names) node)
 
   abbrev pub body_at : Node → Option NodeBody
-  body_at node = entry_if store.texts (number_in (length store.names) node)
+  body_at node = entry_if store.bodies (number_in (length store.names) node)
 
   abbrev pub title_in_store : Node → Title
   title_in_store node = title_of_node store.names node
@@ -114,7 +114,7 @@ pub record IsStoreOf (shapes : Shapes) (store : StoreRead) : Type 0 where
       → ((id : ℕ) → UsesPiece shapes store a id → symbols id ≡ flat_of shapes (Named (slice_index_or store.names id [])))
       → filled symbols (slots_at store a) ≡ flat_of shapes (title_in_store store a)
   -- what is kept of a node determines its shape
-  pub shape_held : (a : Node) → IsNodeIn store a → (text : NodeBody) × (body_at store a ≡ Some text) × HoldsShape store.names (shapes (title_in_store store a)) text
+  pub shape_held : (a : Node) → IsNodeIn store a → (body : NodeBody) × (body_at store a ≡ Some body) × HoldsShape store.names (shapes (title_in_store store a)) body
 
 -- a flag for each node: whether it has a piece, and its weight and depth are within the limits
 pub record AreWithin (pieces : List (List ℕ)) (weights depths : List ℕ) (flags : List Bool) : Type 0 where

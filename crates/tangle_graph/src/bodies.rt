@@ -1,23 +1,23 @@
 //! The body of each node: its bytes and its plan.
-ghost use Rattle.std.specs.Prelude.{◌≡◌, ◌<◌, IfOk, length, map, filter, All, IfSome};
-ghost use Rattle.std.specs.Prelude.{slice_index_or, false};
+ghost use Rattle.std.specs.Prelude.{◌≡◌, ◌<◌, IfOk, length, map, All, IfSome};
+ghost use Rattle.std.specs.Prelude.{slice_index_or, true, false};
 ghost use Rattle.digraph.specs.Graph.{rows_of};
-ghost use Rattle.tangle_expansion.specs.Comparing.{IsPlanned};
-ghost use Rattle.tangle_expansion.specs.ItemTags.{pieces_names};
-ghost use Rattle.tangle_expansion.specs.ItemSlots.{pieces_at, pieces_slots};
-ghost use Rattle.tangle_expansion.specs.Meaning.{title_of};
-ghost use Rattle.tangle_expansion.specs.NodeBodies.{node_title, node_uses, plan_slots, plan_uses};
+ghost use Rattle.tangle_plans.specs.Comparing.{IsPlanned};
+ghost use Rattle.tangle_plans.specs.Meaning.{title_of};
+ghost use Rattle.tangle_plans.specs.Shapes.{Named};
+ghost use Rattle.tangle_plans.specs.NodeBodies.{node_title, node_uses};
 ghost use Rattle.tangle_graph.specs.Nodes.{title_at};
 ghost use Rattle.tangle_graph.specs.Plans.{ArePlanned, ArePlans, ArePiecesInside, AreFilled};
-ghost use Rattle.tangle_graph.specs.Plans.{AreBodies, IsBodyOf, node_bodies, slots_of};
-ghost use Rattle.tangle_graph.specs.Plans.{uses_of_plans};
+ghost use Rattle.tangle_graph.specs.Plans.{AreBodies, AreBodiesBefore, IsBodyAt, node_bodies};
+ghost use Rattle.tangle_graph.specs.Plans.{slots_of, uses_of_plans};
+ghost use Rattle.tangle_graph.specs.Rows.{bytes_of_names};
 
 use crate::measures::is_filled;
 use std::alloc::{AllocError, Global};
 use std::rc::Rc;
-use tangle_expansion::{NodeBody, Planning, is_same_node, plan_node};
 use tangle_lines::NoMemory;
 use tangle_names::NameTable;
+use tangle_plans::{NodeBody, Planning, is_same_node, plan_node};
 use tangle_scan::Web;
 
 /// A flag for each row: whether it has a number.
@@ -56,28 +56,155 @@ fn body_of_node(
 ) -> Result<Rc<NodeBody>, NoMemory>
     requires numbers { All (λ i. i < length web.now.pieces) numbers.now }
     requires ours { length table.now.resolved ≡ length web.now.occurrences }
-    ensures slots { IfOk result (λ text. plan_slots text.value
-        ≡ pieces_slots web.now.texts table.now (λ id. slice_index_or has_piece.now id false)
-        (title_at table.now.names n) 0 (pieces_at web.now.pieces numbers.now)) }
-    ensures text { IfOk result (λ text. IsBodyOf web.now table.now numbers.now text.value) }
-    ensures uses { IfOk result (λ text. plan_uses text.value
-        ≡ filter (λ id. slice_index_or has_piece.now id false)
-        (pieces_names table.now (pieces_at web.now.pieces numbers.now))) }
-    ensures title { IfOk result (λ text. node_title text.value ≡ title_at table.now.names n) }
-    ensures planned { IfOk result
-        (λ text. IsPlanned (λ id. slice_index_or has_piece.now id false) text.value) }
+    ensures { IfOk result (λ body. IsBodyAt web.now table.now
+        (λ id. slice_index_or has_piece.now id false) n numbers.now body.value) }
 {
     let name = name_of_node(alloc, table, n)?;
-    let text = plan_node(alloc, planning, web, table, has_piece, name, numbers)?;
-    match Rc::new(alloc, text) {
-        Ok(text) => Ok(text),
+    let body = plan_node(alloc, planning, web, table, has_piece, name, numbers)?;
+    match Rc::new(alloc, body) {
+        Ok(body) => Ok(body),
         Err(_) => Err(NoMemory),
+    }
+}
+
+/// The bodies of the nodes of a store, the texts of its names, and a flag for each node: whether it
+/// has a piece.
+#[derive(Clone, Copy)]
+pub(crate) struct OldBodies<'s> {
+    pub(crate) names: &'s [Vec<u8>],
+    pub(crate) filled: &'s [bool],
+    pub(crate) bodies: &'s [Rc<NodeBody>],
+}
+
+/// Those of no store.
+pub(crate) fn no_bodies<'s>() -> OldBodies<'s>
+    ensures { AreBodiesBefore result }
+{
+    OldBodies {
+        names: &[],
+        filled: &[],
+        bodies: &[],
+    }
+}
+
+/// Among how many names of a store the next name of a table is looked for.
+const LOOKED_AT: usize = 8;
+
+/// Whether the name with this number has this text.
+fn is_name_at(names: &[Vec<u8>], id: usize, text: &[u8]) -> bool
+    ensures { result ≡ true → title_at (bytes_of_names names.now) id ≡ Named text.now }
+{
+    match names.get(id) {
+        Some(name) => name.as_slice() == text,
+        None => false,
+    }
+}
+
+/// The number of the name with this text, if it is this one or one of the next few.
+// Where an edit makes names come or go, the others stay in their order.
+fn number_before(names: &[Vec<u8>], first: usize, text: &[u8]) -> Option<usize>
+    ensures { IfSome result (λ id. title_at (bytes_of_names names.now) id ≡ Named text.now) }
+{
+    for id in first..first.saturating_add(LOOKED_AT) {
+        if is_name_at(names, id, text) {
+            return Some(id);
+        }
+    }
+    None
+}
+
+/// The number that the node with this number had, if it is the program, or a name that is found
+/// among the next few.
+#[tactic(auto, using(crate::proofs::NodeLemmas::title_inside, crate::proofs::NodeLemmas::title_past))]
+fn node_before(names: &[Vec<u8>], first: usize, table: &NameTable, n: usize) -> Option<usize>
+    ensures { IfSome result (λ m. title_at (bytes_of_names names.now) m
+        ≡ title_at table.now.names n) }
+{
+    if n < table.count() {
+        number_before(names, first, table.text(n))
+    } else {
+        Some(names.len())
+    }
+}
+
+/// Whether the flags say that the name with this number has a piece.
+fn has_flag(flags: &[bool], id: usize) -> bool
+    ensures { result ≡ slice_index_or flags.now id false }
+{
+    match flags.get(id) {
+        Some(flag) => *flag,
+        None => false,
+    }
+}
+
+/// Whether two lists of flags say the same of the name with this number.
+fn is_flagged_alike(flags: &[bool], others: &[bool], id: usize) -> bool
+    ensures { result ≡ true
+        → slice_index_or flags.now id false ≡ slice_index_or others.now id false }
+{
+    has_flag(flags, id) == has_flag(others, id)
+}
+
+/// Whether they say the same of each of these names.
+fn agree_on(flags: &[bool], others: &[bool], names: &[usize]) -> bool
+    ensures { result ≡ true → All (λ id. slice_index_or flags.now id false
+        ≡ slice_index_or others.now id false) names.now }
+{
+    for id in names {
+        if !is_flagged_alike(flags, others, *id) {
+            return false;
+        }
+    }
+    true
+}
+
+/// The body that was at this number, if as before those names have a piece that it uses.
+fn body_at<'s>(old: OldBodies<'s>, n: usize, has_piece: &[bool]) -> Option<&'s Rc<NodeBody>>
+    requires { AreBodiesBefore old }
+    ensures title { IfSome result (λ body. node_title body.now.value
+        ≡ title_at (bytes_of_names old.entry.names.now) n) }
+    ensures planned { IfSome result
+        (λ body. IsPlanned (λ id. slice_index_or has_piece.now id false) body.now.value) }
+{
+    match old.bodies.get(n) {
+        Some(body) => {
+            if agree_on(old.filled, has_piece, body.uses()) {
+                Some(body)
+            } else {
+                None
+            }
+        }
+        None => None,
+    }
+}
+
+/// The body that the node with this number had, if it may be kept. It is looked for from the number
+/// of the first old name on that was not found yet.
+fn body_before<'s>(
+    old: OldBodies<'s>,
+    first: &mut usize,
+    table: &NameTable,
+    has_piece: &[bool],
+    n: usize,
+) -> Option<&'s Rc<NodeBody>>
+    requires { AreBodiesBefore old }
+    ensures title { IfSome result
+        (λ body. node_title body.now.value ≡ title_at table.now.names n) }
+    ensures planned { IfSome result
+        (λ body. IsPlanned (λ id. slice_index_or has_piece.now id false) body.now.value) }
+{
+    match node_before(old.names, *first, table, n) {
+        Some(m) => {
+            *first = m.saturating_add(1);
+            body_at(old, m, has_piece)
+        }
+        None => None,
     }
 }
 
 /// The body of the node with this number, which has the pieces with these numbers: that of before,
 /// where it is the same.
-fn text_after(
+fn body_after(
     alloc: Global,
     planning: &mut Planning,
     web: &Web,
@@ -90,24 +217,16 @@ fn text_after(
     requires numbers { All (λ i. i < length web.now.pieces) numbers.now }
     requires ours { length table.now.resolved ≡ length web.now.occurrences }
     requires title { IfSome before
-        (λ text. node_title text.now.value ≡ title_at table.now.names n) }
+        (λ body. node_title body.now.value ≡ title_at table.now.names n) }
     requires planned { IfSome before
-        (λ text. IsPlanned (λ id. slice_index_or has_piece.now id false) text.now.value) }
-    ensures slots { IfOk result (λ text. plan_slots text.value
-        ≡ pieces_slots web.now.texts table.now (λ id. slice_index_or has_piece.now id false)
-        (title_at table.now.names n) 0 (pieces_at web.now.pieces numbers.now)) }
-    ensures text { IfOk result (λ text. IsBodyOf web.now table.now numbers.now text.value) }
-    ensures uses { IfOk result (λ text. plan_uses text.value
-        ≡ filter (λ id. slice_index_or has_piece.now id false)
-        (pieces_names table.now (pieces_at web.now.pieces numbers.now))) }
-    ensures title { IfOk result (λ text. node_title text.value ≡ title_at table.now.names n) }
-    ensures planned { IfOk result
-        (λ text. IsPlanned (λ id. slice_index_or has_piece.now id false) text.value) }
+        (λ body. IsPlanned (λ id. slice_index_or has_piece.now id false) body.now.value) }
+    ensures { IfOk result (λ body. IsBodyAt web.now table.now
+        (λ id. slice_index_or has_piece.now id false) n numbers.now body.value) }
 {
-    if let Some(text) = before {
-        if is_same_node(text, web, table, numbers) {
-            return match text.clone() {
-                Ok(text) => Ok(text),
+    if let Some(body) = before {
+        if is_same_node(body, web, table, numbers) {
+            return match body.clone() {
+                Ok(body) => Ok(body),
                 Err(_) => Err(NoMemory),
             };
         }
@@ -115,49 +234,49 @@ fn text_after(
     body_of_node(alloc, planning, web, table, has_piece, n, numbers)
 }
 
-/// The text of each node, by the numbers of its pieces. Where a text of before, which comes at the
-/// node's number, is the same, it is shared.
+/// The body of each node, by the numbers of its pieces. Where that of before is the same, it is
+/// shared.
 pub(crate) fn bodies_by_node(
     alloc: Global,
     web: &Web,
     table: &NameTable,
     has_piece: &[bool],
     pieces: &[Vec<usize>],
-    before: &[Rc<NodeBody>],
+    old: OldBodies,
 ) -> Result<Vec<Rc<NodeBody>>, NoMemory>
     requires inside { ArePiecesInside (length web.now.pieces) pieces.now }
     requires ours { length table.now.resolved ≡ length web.now.occurrences }
-    requires before { ArePlanned table.now.names (λ id. slice_index_or has_piece.now id false)
-        (node_bodies before.now) }
-    ensures texts { IfOk result
-        (λ texts. AreBodies web.now table.now (rows_of pieces.now) (node_bodies texts.items)) }
+    requires old { AreBodiesBefore old }
+    ensures bodies { IfOk result
+        (λ bodies. AreBodies web.now table.now (rows_of pieces.now) (node_bodies bodies.items)) }
     ensures plans { IfOk result
-        (λ texts. ArePlans web.now table.now (λ id. slice_index_or has_piece.now id false)
-        (rows_of pieces.now) (slots_of texts.items) (uses_of_plans texts.items)) }
+        (λ bodies. ArePlans web.now table.now (λ id. slice_index_or has_piece.now id false)
+        (rows_of pieces.now) (slots_of bodies.items) (uses_of_plans bodies.items)) }
     ensures planned { IfOk result
-        (λ texts. ArePlanned table.now.names (λ id. slice_index_or has_piece.now id false)
-        (node_bodies texts.items)) }
+        (λ bodies. ArePlanned table.now.names (λ id. slice_index_or has_piece.now id false)
+        (node_bodies bodies.items)) }
 {
     let mut planning = Planning::new(alloc);
-    let mut texts = Vec::with_capacity(alloc, pieces.len())?;
+    let mut bodies = Vec::with_capacity(alloc, pieces.len())?;
+    let mut first = 0;
     for (n, row) in pieces.iter().enumerate() {
-        let old = before.get(n);
-        let text = text_after(alloc, &mut planning, web, table, has_piece, n, row, old)?;
-        texts.push(text)?;
+        let before = body_before(old, &mut first, table, has_piece, n);
+        let body = body_after(alloc, &mut planning, web, table, has_piece, n, row, before)?;
+        bodies.push(body)?;
     }
-    Ok(texts)
+    Ok(bodies)
 }
 
 /// The names that the items of each node use, each as often as it is used.
 pub(crate) fn uses_of_bodies(
     alloc: Global,
-    texts: &[Rc<NodeBody>],
+    bodies: &[Rc<NodeBody>],
 ) -> Result<Vec<Vec<usize>>, AllocError>
-    ensures { IfOk result (λ rows. rows_of rows.items ≡ map node_uses (node_bodies texts.now)) }
+    ensures { IfOk result (λ rows. rows_of rows.items ≡ map node_uses (node_bodies bodies.now)) }
 {
-    let mut rows = Vec::with_capacity(alloc, texts.len())?;
-    for text in texts {
-        rows.push(Vec::from_slice(alloc, text.uses())?)?;
+    let mut rows = Vec::with_capacity(alloc, bodies.len())?;
+    for body in bodies {
+        rows.push(Vec::from_slice(alloc, body.uses())?)?;
     }
     Ok(rows)
 }

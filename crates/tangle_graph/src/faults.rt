@@ -2,16 +2,16 @@
 //! or has the main file's name.
 ghost use Rattle.std.specs.Prelude.{◌≡◌, ◌<◌, ◌≤◌, ◌++◌, ◌+◌, ◌∷◌, [], ℕ, List, false, None, All};
 ghost use Rattle.std.specs.Prelude.{IfOk, OnOk, length, map, slice_index_or, if◌then◌else◌};
-ghost use Rattle.tangle_lines.specs.Faults.{fault_unplaced};
+ghost use Rattle.tangle_faults.specs.Faults.{fault_unplaced};
 ghost use Rattle.tangle_lexer.specs.Occurrences.{OccurrenceRead};
-ghost use Rattle.tangle_scan.specs.Web.{WebRead};
 ghost use Rattle.tangle_names.specs.declared.Resolved.{Resolved};
-ghost use Rattle.tangle_names.specs.NameTable.{TableRead, table_of};
+ghost use Rattle.tangle_names.specs.NameTable.{table_of};
 ghost use Rattle.tangle_names.specs.Numbers.{NotesNumber};
 ghost use Rattle.tangle_names.specs.Resolving.{resolve};
 ghost use Rattle.tangle_graph.specs.FaultFlags.{AreNodeFlags, HaveTheFaults, flag_at};
 ghost use Rattle.tangle_graph.specs.FaultFlags.{first_use_by_number};
-ghost use Rattle.tangle_graph.specs.Faults.{AreGraphFaults, fault_of, fault_place, faults_of_names};
+ghost use Rattle.tangle_graph.specs.Faults.{AreGraphFaults, fault_of, fault_occurrence};
+ghost use Rattle.tangle_graph.specs.Faults.{faults_of_names};
 ghost use Rattle.tangle_graph.specs.Faults.{first_use, is_too_large, is_use};
 
 use crate::outputs::push_where;
@@ -104,7 +104,7 @@ fn where_needed(needed: bool, number: Option<usize>) -> Option<usize>
 }
 
 /// At which occurrence the name has a fault of this kind, if it has one.
-fn fault_place(
+fn fault_occurrence(
     kind: FaultKind,
     web: &Web,
     table: &NameTable,
@@ -116,7 +116,8 @@ fn fault_place(
     requires name { id < length table.now.names }
     requires flags { AreNodeFlags web.now table.now flags.now }
     requires used { use_number ≡ first_use web.now table.now id }
-    ensures { result ≡ fault_place web.now table.now out.now (flag_at flags.now.self_containing.now)
+    ensures { result ≡ fault_occurrence web.now table.now out.now
+        (flag_at flags.now.self_containing.now)
         (flag_at flags.now.reaching.now) kind id }
 {
     let first = Some(table.first_occurrence(id));
@@ -155,9 +156,9 @@ fn add_fault(
 {
     if let Some(number) = number {
         if let Some(occurrence) = web.occurrences().get(number) {
-            let place = occurrence.place();
-            let file = web.file_name(place);
-            faults.push(Fault::about(alloc, kind, file, place.line, table.text(id))?)?;
+            let origin = occurrence.origin();
+            let file = web.file_name(origin);
+            faults.push(Fault::about(alloc, kind, file, origin.line, table.text(id))?)?;
         }
     }
     Ok(())
@@ -175,7 +176,7 @@ fn may_have_fault(
     requires flags { AreNodeFlags web.now table.now flags.now }
     requires used { use_number ≡ first_use web.now table.now id }
     ensures { result ≡ false → (out : List ℕ) (kind : FaultKind)
-        → fault_place web.now table.now out (flag_at flags.now.self_containing.now)
+        → fault_occurrence web.now table.now out (flag_at flags.now.self_containing.now)
         (flag_at flags.now.reaching.now) kind id ≡ None }
 {
     !flags.expandable[id]
@@ -232,7 +233,7 @@ fn add_faults(
 {
     for id in names {
         let use_number = first_use(web, table, first_uses, *id);
-        let number = fault_place(kind, web, table, out, flags, use_number, *id);
+        let number = fault_occurrence(kind, web, table, out, flags, use_number, *id);
         add_fault(alloc, faults, web, table, kind, *id, number)?;
     }
     Ok(())

@@ -1,6 +1,6 @@
 //! Laws of the definitions.
 ghost use Rattle.std.specs.Prelude.{◌≡◌, ℕ, List};
-ghost use Rattle.tangle_lines.specs.Faults.{FaultRead};
+ghost use Rattle.tangle_faults.specs.Faults.{FaultRead};
 ghost use Rattle.tangle_scan.specs.Web.{WebRead};
 ghost use Rattle.tangle_names.specs.NameTable.{TableRead};
 ghost use Rattle.tangle_graph.specs.Faults.{AreGraphFaults};

@@ -16,3 +16,7 @@ mod store;
 pub use laws::graph_faults_are_one_list;
 pub use shapes::same_shape;
 pub use store::{Store, expand_one};
+pub use tangle_expansion::{
+    Expansion, Kept, Numbers, Output, Work, file_size, write_file, write_text,
+};
+pub use tangle_plans::Node;

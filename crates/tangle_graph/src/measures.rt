@@ -1,12 +1,12 @@
 //! The weight and the depth of each node.
 ghost use Rattle.std.specs.Prelude.{◌≡◌, ◌<◌, ◌≤◌, ◌+◌, ◌-◌, ◌⊎◌, ℕ, IfOk, length, vec_len, min};
-ghost use Rattle.std.specs.Prelude.{sum_by, slice_index, slice_index_or, All, Contains, true};
+ghost use Rattle.std.specs.Prelude.{sum_by, slice_index, slice_index_or, All, Contains};
 ghost use Rattle.std.specs.Prelude.{false, ◌&&◌, nat_lt, nat_le};
 ghost use Rattle.digraph.specs.Graph.{rows_of};
 ghost use Rattle.digraph.specs.Order.{IsOrder};
-ghost use Rattle.tangle_expansion.specs.NodeBodies.{node_uses, plan_slots};
+ghost use Rattle.tangle_plans.specs.NodeBodies.{node_uses, plan_slots};
 ghost use Rattle.tangle_expansion.specs.Limits.{weight_cap, levels, heaviest, weight_of, depth_of};
-ghost use Rattle.tangle_expansion.specs.WebShapes.{shapes, ResolvesInside};
+ghost use Rattle.tangle_plans.specs.WebShapes.{shapes, ResolvesInside};
 ghost use Rattle.tangle_graph.specs.Groups.{IsGraphOf};
 ghost use Rattle.tangle_graph.specs.Nodes.{title_at};
 ghost use Rattle.tangle_graph.specs.Outputs.{is_expandable};
@@ -15,27 +15,31 @@ ghost use Rattle.tangle_graph.specs.Stores.{is_filled, AreWithin};
 
 use std::alloc::{AllocError, Global};
 use std::rc::Rc;
-use tangle_expansion::{NodeBody, nodes_expand_by_uses};
+use tangle_expansion::nodes_expand_by_uses;
 use tangle_names::NameTable;
+use tangle_plans::NodeBody;
 use tangle_scan::Web;
 
-/// One more than the greatest weight of a node that is expanded: what weighs more counts as this.
-const WEIGHT_CAP: u32 = 16_777_217;
+/// The greatest weight of a node that is expanded.
+const HEAVIEST: u32 = 16_777_216;
+
+/// What weighs more counts as this.
+const WEIGHT_CAP: u32 = HEAVIEST + 1;
 
 /// One more than the greatest depth of a node that is expanded: what is deeper counts as this.
 const LEVELS: u16 = 1001;
 
-/// The weight of the node with this text, by the weights of the names that it uses.
+/// The weight of the node with this body, by the weights of the names that it uses.
 #[tactic(auto, unfolding(tangle_expansion::specs::Limits::weight_cap))]
-fn weight_of_node(weights: &[u32], text: &NodeBody) -> u32
-    requires inside { All (λ id. id < length weights.now) (node_uses text.now) }
+fn weight_of_node(weights: &[u32], body: &NodeBody) -> u32
+    requires inside { All (λ id. id < length weights.now) (node_uses body.now) }
     requires capped { All (λ weight. weight ≤ weight_cap) weights.now }
     ensures { result ≡ min weight_cap
-        (length (plan_slots text.now) + sum_by (λ id. slice_index weights.now id)
-        (node_uses text.now)) }
+        (length (plan_slots body.now) + sum_by (λ id. slice_index weights.now id)
+        (node_uses body.now)) }
 {
-    let mut weight = text.symbol_count().min(WEIGHT_CAP as usize) as u32;
-    for id in text.uses() {
+    let mut weight = body.symbol_count().min(WEIGHT_CAP as usize) as u32;
+    for id in body.uses() {
         weight = (weight + weights[*id]).min(WEIGHT_CAP);
     }
     weight
@@ -51,11 +55,11 @@ fn weights(
     pieces: &[Vec<usize>],
     uses: &[Vec<usize>],
     order: &[usize],
-    texts: &[Rc<NodeBody>],
+    bodies: &[Rc<NodeBody>],
 ) -> Result<Vec<u32>, AllocError>
     requires graph { IsGraphOf web.now table.now pieces.now uses.now }
     requires order { IsOrder uses.now order.now }
-    requires texts { AreBodies web.now table.now (rows_of pieces.now) (node_bodies texts.now) }
+    requires bodies { AreBodies web.now table.now (rows_of pieces.now) (node_bodies bodies.now) }
     requires inside { ResolvesInside table.now }
     ensures size { IfOk result (λ weights. vec_len weights ≡ length uses.now) }
     ensures weights { IfOk result (λ weights. (n : ℕ) → n < length uses.now
@@ -65,7 +69,7 @@ fn weights(
     nodes_expand_by_uses();
     let mut weights = vec![in alloc; WEIGHT_CAP; uses.len()]?;
     for n in order {
-        weights[*n] = weight_of_node(&weights, &texts[*n]);
+        weights[*n] = weight_of_node(&weights, &bodies[*n]);
     }
     Ok(weights)
 }
@@ -127,9 +131,6 @@ fn depths(
     Ok(depths)
 }
 
-/// The greatest weight of a node that is expanded.
-const HEAVIEST: u32 = 16_777_216;
-
 /// Whether the row has a number.
 pub(crate) fn is_filled(row: &[usize]) -> bool
     ensures { result ≡ is_filled row.now }
@@ -174,7 +175,7 @@ pub(crate) struct Measures {
 }
 
 impl Measures {
-    /// The measures of nodes with these pieces, uses and texts; the order is one of the nodes that
+    /// The measures of nodes with these pieces, uses and bodies; the order is one of the nodes that
     /// reach no cycle.
     pub(crate) fn take(
         alloc: Global,
@@ -183,11 +184,12 @@ impl Measures {
         pieces: &[Vec<usize>],
         uses: &[Vec<usize>],
         order: &[usize],
-        texts: &[Rc<NodeBody>],
+        bodies: &[Rc<NodeBody>],
     ) -> Result<Measures, AllocError>
         requires graph { IsGraphOf web.now table.now pieces.now uses.now }
         requires order { IsOrder uses.now order.now }
-        requires texts { AreBodies web.now table.now (rows_of pieces.now) (node_bodies texts.now) }
+        requires bodies { AreBodies web.now table.now (rows_of pieces.now)
+            (node_bodies bodies.now) }
         requires inside { ResolvesInside table.now }
         ensures weights { IfOk result (λ measures. (n : ℕ) → n < length uses.now
             → slice_index measures.weights.items n ≡ weight_of (shapes web.now table.now)
@@ -202,7 +204,7 @@ impl Measures {
             → slice_index_or measures.expandable.items n false
             ≡ is_expandable (shapes web.now table.now) (title_at table.now.names n)) }
     {
-        let weights = weights(alloc, web, table, pieces, uses, order, texts)?;
+        let weights = weights(alloc, web, table, pieces, uses, order, bodies)?;
         let depths = depths(alloc, web, table, pieces, uses, order)?;
         let expandable = expandable(alloc, pieces, &weights, &depths)?;
         Ok(Measures {

@@ -1,11 +1,11 @@
 //! Nodes by number: the names in their order, and then the program.
-ghost use Rattle.std.specs.Prelude.{◌≡◌, ◌<◌, ℕ, List, IfOk, map, length};
+ghost use Rattle.std.specs.Prelude.{◌≡◌, ◌<◌, IfOk, map};
 ghost use Rattle.digraph.specs.Graph.{rows_of};
 ghost use Rattle.tangle_graph.specs.Nodes.{node_at, number_in};
 ghost use Rattle.tangle_graph.specs.Rows.{node_rows};
 
 use std::alloc::{AllocError, Global};
-use tangle_expansion::Node;
+use tangle_plans::Node;
 
 /// The node with this number, where so many names come before the program.
 pub(crate) fn node_of(names: usize, n: usize) -> Node

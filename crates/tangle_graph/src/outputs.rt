@@ -1,21 +1,22 @@
 //! The output files.
-ghost use Rattle.std.specs.Prelude.{◌≡◌, ℕ, List, [], ◌∷◌, ◌++◌, IfOk, OnOk, length, All, flat_map};
+ghost use Rattle.std.specs.Prelude.{◌≡◌, ℕ, [], ◌∷◌, ◌++◌, IfOk, OnOk, length, All, flat_map};
 ghost use Rattle.std.specs.Prelude.{option_to_list, if◌then◌else◌, not, ◌&&◌, ◌||◌, ◌<◌, ◌+◌};
 ghost use Rattle.std.specs.Prelude.{slice_index_or, false};
 ghost use Rattle.std.specs.Str.{bytes_eq};
-ghost use Rattle.digraph.specs.Users.{places};
-ghost use Rattle.tangle_expansion.specs.Shapes.{Program};
-ghost use Rattle.tangle_expansion.specs.declared.nodes.Node.TheVariants as node_kind;
-ghost use Rattle.tangle_expansion.specs.WebShapes.{ResolvesInside, resolved_at, shapes};
+ghost use Rattle.digraph.specs.Users.{positions};
+ghost use Rattle.tangle_plans.specs.Shapes.{Program};
+ghost use Rattle.tangle_plans.specs.declared.nodes.Node.TheVariants as node_kind;
+ghost use Rattle.tangle_plans.specs.WebShapes.{ResolvesInside, resolved_at, shapes};
 ghost use Rattle.tangle_graph.specs.Grouping.{number_of_name};
 ghost use Rattle.tangle_graph.specs.Nodes.{title_at};
 ghost use Rattle.tangle_graph.specs.Outputs.{firsts, file_names, has_pieces, is_expandable};
-ghost use Rattle.tangle_graph.specs.Outputs.{name_text, named_file, outputs};
+ghost use Rattle.tangle_graph.specs.Outputs.{name_with_number, named_file, outputs};
 
 use crate::pieces::number_of_name;
 use std::alloc::{AllocError, Global};
-use tangle_expansion::{Node, Output};
+use tangle_expansion::Output;
 use tangle_names::NameTable;
+use tangle_plans::Node;
 use tangle_scan::{Occurrence, Web};
 
 /// Puts the number last if the flag says so.
@@ -30,7 +31,8 @@ pub(crate) fn push_where(numbers: &mut Vec<usize>, flag: bool, n: usize) -> Resu
 
 /// The numbers of the occurrences that are marked as a file.
 fn file_occurrences(alloc: Global, occurrences: &[Occurrence]) -> Result<Vec<usize>, AllocError>
-    ensures { IfOk result (λ numbers. numbers.items ≡ places (λ o. o.is_file) 0 occurrences.now) }
+    ensures { IfOk result (λ numbers. numbers.items
+        ≡ positions (λ o. o.is_file) 0 occurrences.now) }
 {
     let mut numbers = Vec::new(alloc);
     for (i, occurrence) in occurrences.iter().enumerate() {
@@ -131,7 +133,7 @@ fn add_named_file(
 ) -> Result<(), AllocError>
     requires { id < length table.now.names }
     ensures { OnOk result (files.new.items ≡ files.old.items
-        ++ (if expandable && not (bytes_eq (name_text table.now id) out.now)
+        ++ (if expandable && not (bytes_eq (name_with_number table.now id) out.now)
         then named_file table.now id ∷ [] else [])) }
 {
     if expandable && table.text(id) != out {

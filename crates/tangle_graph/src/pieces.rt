@@ -1,12 +1,11 @@
 //! The pieces of each node, and the names that it uses.
-ghost use Rattle.std.specs.Prelude.{◌≡◌, ◌<◌, ◌+◌, ◌++◌, ◌∷◌, [], ℕ, List, IfOk, OnOk, IfSome};
-ghost use Rattle.std.specs.Prelude.{length, flat_map, if◌then◌else◌, All};
+ghost use Rattle.std.specs.Prelude.{◌≡◌, ◌<◌, ◌+◌, ◌∷◌, [], IfOk, OnOk, IfSome};
+ghost use Rattle.std.specs.Prelude.{length, if◌then◌else◌, All};
 ghost use Rattle.digraph.specs.Graph.{rows_of};
 ghost use Rattle.digraph.specs.Rows.{IsRowsOf, GrowsBy};
-ghost use Rattle.tangle_scan.specs.WellFormed.{IsUseBelow};
-ghost use Rattle.tangle_expansion.specs.WebShapes.{ResolvesInside};
-ghost use Rattle.tangle_graph.specs.Grouping.{number_of_name, number_of, is_number, used_by};
-ghost use Rattle.tangle_graph.specs.Grouping.{places_of, used_numbers};
+ghost use Rattle.tangle_plans.specs.WebShapes.{ResolvesInside};
+ghost use Rattle.tangle_graph.specs.Grouping.{number_of_name, number_of, is_number};
+ghost use Rattle.tangle_graph.specs.Grouping.{positions_of};
 
 use digraph::{empty_rows, push_to};
 use std::alloc::{AllocError, Global};
@@ -58,7 +57,7 @@ pub(crate) fn pieces_by_node(
     requires names { All (λ p. IfSome p.occurrence
         (λ occurrence. occurrence < length table.now.resolved)) pieces.now }
     ensures { IfOk result (λ rows. IsRowsOf (length table.now.names + 1)
-        (places_of table.now pieces.now) (rows_of rows.items)) }
+        (positions_of table.now pieces.now) (rows_of rows.items)) }
 {
     let mut rows = rows_for(alloc, table)?;
     for (i, piece) in pieces.iter().enumerate() {

@@ -1,10 +1,10 @@
 //! Comparing the shapes of two nodes, each of a store of its own.
 ghost use Rattle.std.specs.Prelude.{◌≡◌, ◌↔◌, true};
-ghost use Rattle.tangle_expansion.specs.Shapes.{Shapes};
+ghost use Rattle.tangle_plans.specs.Shapes.{Shapes};
 ghost use Rattle.tangle_graph.specs.Stores.{IsStoreOf, shape_in_store};
 
 use crate::store::Store;
-use tangle_expansion::Node;
+use tangle_plans::Node;
 
 /// Whether the two nodes have the same shape: the same pieces, with section numbers, file names and
 /// line numbers struck out and each use as the name that it resolves to. What names have no piece,
@@ -15,9 +15,9 @@ pub fn same_shape(old: &Store, old_node: Node, new: &Store, new_node: Node) -> b
         → ((result ≡ true) ↔ (shape_in_store old.now old_shapes old_node
         ≡ shape_in_store new.now new_shapes new_node)) }
 {
-    match old.text(old_node) {
-        Some(text) => match new.text(new_node) {
-            Some(other) => tangle_expansion::same_shape(old, text, new, other),
+    match old.body(old_node) {
+        Some(body) => match new.body(new_node) {
+            Some(other) => tangle_plans::same_shape(old, body, new, other),
             None => !old.has_piece(old_node),
         },
         None => !new.has_piece(new_node),

@@ -1,10 +1,9 @@
 //! The skeleton of a store: what the names and the uses of the nodes settle, whatever else the
 //! nodes hold.
-ghost use Rattle.std.specs.Prelude.{◌≡◌, ◌<◌, ◌+◌, ℕ, IfOk, All, length, map, true};
-ghost use Rattle.digraph.specs.Graph.{rows_of};
-ghost use Rattle.tangle_expansion.specs.NodeBodies.{node_uses};
+ghost use Rattle.std.specs.Prelude.{◌≡◌, ◌<◌, ◌+◌, IfOk, All, length, map, true};
+ghost use Rattle.tangle_plans.specs.NodeBodies.{node_uses};
 ghost use Rattle.tangle_graph.specs.Plans.{node_bodies};
-ghost use Rattle.tangle_graph.specs.Rows.{texts_of};
+ghost use Rattle.tangle_graph.specs.Rows.{bytes_of_names};
 ghost use Rattle.tangle_graph.specs.Skeletons.{IsSkeletonOf};
 
 use crate::bodies::uses_of_bodies;
@@ -12,11 +11,11 @@ use crate::nodes::{nodes_by_node, nodes_of};
 use digraph::{all_once, order, reaching_cycles, self_containing, users};
 use std::alloc::{AllocError, Global};
 use std::rc::Rc;
-use tangle_expansion::{Node, NodeBody};
 use tangle_lines::NoMemory;
 use tangle_names::NameTable;
+use tangle_plans::{Node, NodeBody};
 
-/// The texts of the names; of each node the names that it uses and the nodes that use it, and
+/// The bytes of the names; of each node the names that it uses and the nodes that use it, and
 /// whether it contains itself or reaches a name that does; and the nodes that reach no cycle, each
 /// after those that it uses.
 ///
@@ -36,20 +35,21 @@ pub(crate) struct Skeleton {
 }
 
 impl Skeleton {
-    /// The skeleton of a table's names and of the uses in the text of each node.
+    /// The skeleton of a table's names and of the uses in the body of each node.
     pub(crate) fn build(
         alloc: Global,
         table: &NameTable,
-        texts: &[Rc<NodeBody>],
+        bodies: &[Rc<NodeBody>],
     ) -> Result<Skeleton, AllocError>
-        requires size { length texts.now ≡ length table.now.names + 1 }
+        requires size { length bodies.now ≡ length table.now.names + 1 }
         requires inside { All (λ row. All (λ id. id < length table.now.names) row)
-            (map node_uses (node_bodies texts.now)) }
-        ensures names { IfOk result (λ skeleton. texts_of skeleton.names.items ≡ table.now.names) }
+            (map node_uses (node_bodies bodies.now)) }
+        ensures names { IfOk result
+            (λ skeleton. bytes_of_names skeleton.names.items ≡ table.now.names) }
         ensures skeleton { IfOk result
-            (λ skeleton. IsSkeletonOf (map node_uses (node_bodies texts.now)) skeleton) }
+            (λ skeleton. IsSkeletonOf (map node_uses (node_bodies bodies.now)) skeleton) }
     {
-        let mut rows = uses_of_bodies(alloc, texts)?;
+        let mut rows = uses_of_bodies(alloc, bodies)?;
         all_once(&mut rows);
         let uses: &[Vec<usize>] = &rows;
         let user_rows = users(alloc, uses)?;
@@ -77,17 +77,17 @@ impl Skeleton {
     pub(crate) fn shared(
         alloc: Global,
         table: &NameTable,
-        texts: &[Rc<NodeBody>],
+        bodies: &[Rc<NodeBody>],
     ) -> Result<Rc<Skeleton>, NoMemory>
-        requires size { length texts.now ≡ length table.now.names + 1 }
+        requires size { length bodies.now ≡ length table.now.names + 1 }
         requires inside { All (λ row. All (λ id. id < length table.now.names) row)
-            (map node_uses (node_bodies texts.now)) }
+            (map node_uses (node_bodies bodies.now)) }
         ensures names { IfOk result
-            (λ skeleton. texts_of skeleton.value.names.items ≡ table.now.names) }
+            (λ skeleton. bytes_of_names skeleton.value.names.items ≡ table.now.names) }
         ensures skeleton { IfOk result
-            (λ skeleton. IsSkeletonOf (map node_uses (node_bodies texts.now)) skeleton.value) }
+            (λ skeleton. IsSkeletonOf (map node_uses (node_bodies bodies.now)) skeleton.value) }
     {
-        let skeleton = Skeleton::build(alloc, table, texts)?;
+        let skeleton = Skeleton::build(alloc, table, bodies)?;
         match Rc::new(alloc, skeleton) {
             Ok(skeleton) => Ok(skeleton),
             Err(_) => Err(NoMemory),
@@ -95,9 +95,9 @@ impl Skeleton {
     }
 }
 
-/// The texts of the names.
+/// The bytes of the names.
 fn texts_of_names(alloc: Global, table: &NameTable) -> Result<Vec<Vec<u8>>, AllocError>
-    ensures { IfOk result (λ names. texts_of names.items ≡ table.now.names) }
+    ensures { IfOk result (λ names. bytes_of_names names.items ≡ table.now.names) }
 {
     let mut names = Vec::with_capacity(alloc, table.count())?;
     for id in 0..table.count() {
@@ -108,7 +108,7 @@ fn texts_of_names(alloc: Global, table: &NameTable) -> Result<Vec<Vec<u8>>, Allo
 
 /// Whether these are the names of the table, each under its number.
 pub(crate) fn are_names_of(names: &[Vec<u8>], table: &NameTable) -> bool
-    ensures { result ≡ true → texts_of names.now ≡ table.now.names }
+    ensures { result ≡ true → bytes_of_names names.now ≡ table.now.names }
 {
     if names.len() != table.count() {
         return false;
@@ -122,15 +122,15 @@ pub(crate) fn are_names_of(names: &[Vec<u8>], table: &NameTable) -> bool
 }
 
 /// Whether each node uses the names that the node with its number used before, in the same order.
-pub(crate) fn have_same_uses(before: &[Rc<NodeBody>], texts: &[Rc<NodeBody>]) -> bool
+pub(crate) fn have_same_uses(before: &[Rc<NodeBody>], bodies: &[Rc<NodeBody>]) -> bool
     ensures { result ≡ true → map node_uses (node_bodies before.now)
-        ≡ map node_uses (node_bodies texts.now) }
+        ≡ map node_uses (node_bodies bodies.now) }
 {
-    if before.len() != texts.len() {
+    if before.len() != bodies.len() {
         return false;
     }
-    for (n, text) in texts.iter().enumerate() {
-        if before[n].uses() != text.uses() {
+    for (n, body) in bodies.iter().enumerate() {
+        if before[n].uses() != body.uses() {
             return false;
         }
     }

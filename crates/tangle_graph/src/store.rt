@@ -6,29 +6,26 @@ ghost use Rattle.std.specs.Option.{option_copied};
 ghost use Rattle.tangle_names.specs.NameTable.{table_of};
 ghost use Rattle.tangle_expansion.specs.Kept.{kept_at, used_symbols};
 ghost use Rattle.tangle_expansion.specs.Limits.{flat_of};
-ghost use Rattle.tangle_expansion.specs.NodeBodies.{node_uses};
-ghost use Rattle.tangle_expansion.specs.Nodes.{IsGroupedBy};
-ghost use Rattle.tangle_expansion.specs.WebShapes.{shapes};
-ghost use Rattle.tangle_expansion.specs.Shapes.{Shapes};
-ghost use Rattle.tangle_expansion.specs.Slots.{filled};
-ghost use Rattle.tangle_expansion.specs.declared.nodes.Node.TheVariants as node_kind;
+ghost use Rattle.tangle_plans.specs.NodeBodies.{node_uses};
+ghost use Rattle.tangle_plans.specs.Shapes.{Shapes};
+ghost use Rattle.tangle_plans.specs.Slots.{filled};
+ghost use Rattle.tangle_plans.specs.declared.nodes.Node.TheVariants as node_kind;
 ghost use Rattle.digraph.specs.Graph.{rows_of};
 ghost use Rattle.digraph.specs.Rows.{IsRowsOf};
-ghost use Rattle.tangle_graph.specs.Faults.{AreGraphFaults};
-ghost use Rattle.tangle_graph.specs.Grouping.{places_of};
+ghost use Rattle.tangle_graph.specs.Grouping.{positions_of};
 ghost use Rattle.tangle_graph.specs.Nodes.{number_in};
 ghost use Rattle.tangle_graph.specs.Ordering.{IsOrderIn};
-ghost use Rattle.tangle_graph.specs.Outputs.{outputs};
-ghost use Rattle.tangle_graph.specs.Plans.{AreFilled, ArePlanned, ArePlans, AreBodies, node_bodies};
-ghost use Rattle.tangle_graph.specs.Plans.{slots_of, uses_of_plans};
-ghost use Rattle.tangle_graph.specs.Rows.{texts_of};
+ghost use Rattle.tangle_graph.specs.Plans.{AreBodies, AreBodiesBefore, AreFilled, ArePlanned};
+ghost use Rattle.tangle_graph.specs.Plans.{ArePlans, node_bodies, slots_of, uses_of_plans};
+ghost use Rattle.tangle_graph.specs.Rows.{bytes_of_names};
 ghost use Rattle.tangle_graph.specs.Skeletons.{IsSkeletonOf};
 ghost use Rattle.tangle_graph.specs.Stores.{IsStoreOf, KeepsUsed, plan_uses_at, slots_at};
 ghost use Rattle.tangle_graph.specs.Stores.{title_in_store, contains_itself_at, is_expandable_at};
 ghost use Rattle.tangle_graph.specs.Stores.{weight_at, depth_at, uses_at, users_at, has_piece_at};
-ghost use Rattle.tangle_graph.specs.Stores.{pieces_of_node, body_at};
+ghost use Rattle.tangle_graph.specs.Stores.{body_at};
+ghost use Rattle.tangle_graph.specs.WebStores.{IsStoreOfWeb};
 
-use crate::bodies::{bodies_by_node, filled_rows};
+use crate::bodies::{OldBodies, bodies_by_node, filled_rows, no_bodies};
 use crate::faults::{NodeFlags, faults};
 use crate::measures::Measures;
 use crate::nodes::number_of;
@@ -39,12 +36,10 @@ use std::alloc::Global;
 use std::marker::Model;
 use std::mem::replace;
 use std::rc::Rc;
-use tangle_expansion::{
-    Expansion, Kept, Node, NodeBody, Output, PiecesByNode, Work, expand, filled_plans_are_right,
-    names_resolve_inside,
-};
+use tangle_expansion::{Expansion, Kept, Output, Work, expand, filled_plans_are_right};
 use tangle_lines::{Fault, NoMemory};
 use tangle_names::{NameTable, names_are_the_full_names};
+use tangle_plans::{Node, NodeBody, PiecesByNode, names_resolve_inside};
 use tangle_scan::Web;
 
 /// What is known of each node of a web: its pieces, which names it uses and what uses it, its
@@ -61,7 +56,7 @@ pub struct Store {
     depths: Vec<u16>,
     expandable: Vec<bool>,
     outputs: Vec<Output>,
-    texts: Vec<Rc<NodeBody>>,
+    bodies: Vec<Rc<NodeBody>>,
     faults: Vec<Fault>,
 }
 
@@ -85,22 +80,16 @@ impl Store {
     /// `NoMemory`, where an allocation failed.
     pub fn build(alloc: Global, web: &Web, table: &NameTable, out: &[u8]) -> Result<Store, NoMemory>
         requires { table.now ≡ record (table_of web.now) { faults = table.now.faults } }
-        ensures store { IfOk result (λ store. IsStoreOf (shapes web.now table.now) store) }
-        ensures names { IfOk result (λ store. store.names ≡ table.now.names) }
-        ensures outputs { IfOk result (λ store. store.outputs ≡ outputs web.now table.now out.now) }
-        ensures faults { IfOk result
-            (λ store. AreGraphFaults web.now table.now out.now store.faults) }
-        ensures grouped { IfOk result
-            (λ store. IsGroupedBy web.now table.now store.names (pieces_of_node store)) }
+        ensures { IfOk result (IsStoreOfWeb web.now table.now out.now) }
     {
         names_resolve_inside();
         let pieces = pieces_by_node(alloc, web.pieces(), table)?;
         let rows: &[Vec<usize>] = &pieces;
         let filled = filled_rows(alloc, rows)?;
         let flags: &[bool] = &filled;
-        let texts = bodies_by_node(alloc, web, table, flags, rows, &[])?;
-        let skeleton = Skeleton::shared(alloc, table, &texts)?;
-        Store::over(alloc, web, table, out, pieces, filled, texts, skeleton)
+        let bodies = bodies_by_node(alloc, web, table, flags, rows, no_bodies())?;
+        let skeleton = Skeleton::shared(alloc, table, &bodies)?;
+        Store::over(alloc, web, table, out, pieces, filled, bodies, skeleton)
     }
 
     /// The same store, for a web that comes after another one: what the edit did not change is
@@ -117,24 +106,17 @@ impl Store {
         old: &Store,
     ) -> Result<Store, NoMemory>
         requires { table.now ≡ record (table_of web.now) { faults = table.now.faults } }
-        ensures store { IfOk result (λ store. IsStoreOf (shapes web.now table.now) store) }
-        ensures names { IfOk result (λ store. store.names ≡ table.now.names) }
-        ensures outputs { IfOk result (λ store. store.outputs ≡ outputs web.now table.now out.now) }
-        ensures faults { IfOk result
-            (λ store. AreGraphFaults web.now table.now out.now store.faults) }
-        ensures grouped { IfOk result
-            (λ store. IsGroupedBy web.now table.now store.names (pieces_of_node store)) }
+        ensures { IfOk result (IsStoreOfWeb web.now table.now out.now) }
     {
         names_resolve_inside();
         let pieces = pieces_by_node(alloc, web.pieces(), table)?;
         let rows: &[Vec<usize>] = &pieces;
         let filled = filled_rows(alloc, rows)?;
         let flags: &[bool] = &filled;
+        let bodies = bodies_by_node(alloc, web, table, flags, rows, old.bodies())?;
         let same_names = old.has_names_of(table);
-        let before = old.texts_under(table, same_names, flags);
-        let texts = bodies_by_node(alloc, web, table, flags, rows, before)?;
-        let skeleton = old.skeleton_for(alloc, table, same_names, &texts)?;
-        Store::over(alloc, web, table, out, pieces, filled, texts, skeleton)
+        let skeleton = old.skeleton_for(alloc, table, same_names, &bodies)?;
+        Store::over(alloc, web, table, out, pieces, filled, bodies, skeleton)
     }
 
     /// Whether the names are those of the table, each under its number.
@@ -144,48 +126,49 @@ impl Store {
         are_names_of(&self.skeleton.names, table)
     }
 
-    /// The texts of the nodes, where the names are the same and just those have a piece that the
-    /// flags say; else none.
-    fn texts_under(&self, table: &NameTable, same_names: bool, filled: &[bool]) -> &[Rc<NodeBody>]
-        requires { same_names ≡ true → self.now.names ≡ table.now.names }
-        ensures { ArePlanned table.now.names (λ id. slice_index_or filled.now id false)
-            (node_bodies result.now) }
+    /// The bodies of the nodes, with what they were planned under.
+    fn bodies(&self) -> OldBodies<'_>
+        ensures { AreBodiesBefore result }
     {
-        if same_names && self.filled.as_slice() == filled {
-            self.texts.as_slice()
-        } else {
-            &[]
+        let skeleton: &Skeleton = &self.skeleton;
+        let names: &[Vec<u8>] = &skeleton.names;
+        let filled: &[bool] = &self.filled;
+        let bodies: &[Rc<NodeBody>] = &self.bodies;
+        OldBodies {
+            names,
+            filled,
+            bodies,
         }
     }
 
-    /// The skeleton of the table's names and these texts: the store's own, where it is the same.
+    /// The skeleton of the table's names and these bodies: the store's own, where it is the same.
     fn skeleton_for(
         &self,
         alloc: Global,
         table: &NameTable,
         same_names: bool,
-        texts: &[Rc<NodeBody>],
+        bodies: &[Rc<NodeBody>],
     ) -> Result<Rc<Skeleton>, NoMemory>
         requires same_names { same_names ≡ true → self.now.names ≡ table.now.names }
-        requires size { length texts.now ≡ length table.now.names + 1 }
+        requires size { length bodies.now ≡ length table.now.names + 1 }
         requires inside { All (λ row. All (λ id. id < length table.now.names) row)
-            (map node_uses (node_bodies texts.now)) }
+            (map node_uses (node_bodies bodies.now)) }
         ensures names { IfOk result
-            (λ skeleton. texts_of skeleton.value.names.items ≡ table.now.names) }
+            (λ skeleton. bytes_of_names skeleton.value.names.items ≡ table.now.names) }
         ensures skeleton { IfOk result
-            (λ skeleton. IsSkeletonOf (map node_uses (node_bodies texts.now)) skeleton.value) }
+            (λ skeleton. IsSkeletonOf (map node_uses (node_bodies bodies.now)) skeleton.value) }
     {
-        if same_names && have_same_uses(&self.texts, texts) {
+        if same_names && have_same_uses(&self.bodies, bodies) {
             match self.skeleton.clone() {
                 Ok(skeleton) => Ok(skeleton),
                 Err(_) => Err(NoMemory),
             }
         } else {
-            Skeleton::shared(alloc, table, texts)
+            Skeleton::shared(alloc, table, bodies)
         }
     }
 
-    /// The store over the pieces, the texts and the skeleton of a web's nodes, where the flags say
+    /// The store over the pieces, the bodies and the skeleton of a web's nodes, where the flags say
     /// which nodes have a piece.
     fn over(
         alloc: Global,
@@ -194,28 +177,22 @@ impl Store {
         out: &[u8],
         pieces: Vec<Vec<usize>>,
         filled: Vec<bool>,
-        texts: Vec<Rc<NodeBody>>,
+        bodies: Vec<Rc<NodeBody>>,
         skeleton: Rc<Skeleton>,
     ) -> Result<Store, NoMemory>
         requires table { table.now ≡ record (table_of web.now) { faults = table.now.faults } }
         requires grouped { IsRowsOf (length table.now.names + 1)
-            (places_of table.now web.now.pieces) (rows_of pieces.items) }
+            (positions_of table.now web.now.pieces) (rows_of pieces.items) }
         requires filled { AreFilled (rows_of pieces.items) filled.items }
-        requires texts { AreBodies web.now table.now (rows_of pieces.items)
-            (node_bodies texts.items) }
+        requires bodies { AreBodies web.now table.now (rows_of pieces.items)
+            (node_bodies bodies.items) }
         requires plans { ArePlans web.now table.now (λ id. slice_index_or filled.items id false)
-            (rows_of pieces.items) (slots_of texts.items) (uses_of_plans texts.items) }
+            (rows_of pieces.items) (slots_of bodies.items) (uses_of_plans bodies.items) }
         requires planned { ArePlanned table.now.names (λ id. slice_index_or filled.items id false)
-            (node_bodies texts.items) }
-        requires names { texts_of skeleton.value.names.items ≡ table.now.names }
-        requires skeleton { IsSkeletonOf (map node_uses (node_bodies texts.items)) skeleton.value }
-        ensures store { IfOk result (λ store. IsStoreOf (shapes web.now table.now) store) }
-        ensures names { IfOk result (λ store. store.names ≡ table.now.names) }
-        ensures outputs { IfOk result (λ store. store.outputs ≡ outputs web.now table.now out.now) }
-        ensures faults { IfOk result
-            (λ store. AreGraphFaults web.now table.now out.now store.faults) }
-        ensures grouped { IfOk result
-            (λ store. IsGroupedBy web.now table.now store.names (pieces_of_node store)) }
+            (node_bodies bodies.items) }
+        requires names { bytes_of_names skeleton.value.names.items ≡ table.now.names }
+        requires skeleton { IsSkeletonOf (map node_uses (node_bodies bodies.items)) skeleton.value }
+        ensures { IfOk result (IsStoreOfWeb web.now table.now out.now) }
     {
         names_resolve_inside();
         names_are_the_full_names();
@@ -225,7 +202,7 @@ impl Store {
         let rows: &[Vec<usize>] = &pieces;
         let uses: &[Vec<usize>] = &shared.uses;
         let order: &[usize] = &shared.order;
-        let measures = Measures::take(alloc, web, table, rows, uses, order, &texts)?;
+        let measures = Measures::take(alloc, web, table, rows, uses, order, &bodies)?;
         let flags = NodeFlags {
             defined,
             self_containing: &shared.self_containing,
@@ -243,7 +220,7 @@ impl Store {
             depths: measures.depths,
             expandable: measures.expandable,
             outputs,
-            texts,
+            bodies,
             faults,
         })
     }
@@ -256,16 +233,16 @@ impl Store {
     }
 
     /// What is kept of the node, if the store has it.
-    pub(crate) fn text(&self, node: Node) -> Option<&NodeBody>
-        ensures text { option_copied result ≡ body_at self.now node }
+    pub(crate) fn body(&self, node: Node) -> Option<&NodeBody>
+        ensures body { option_copied result ≡ body_at self.now node }
         ensures uses { IfSome result
-            (λ text. All (λ id. id < length self.now.names) (node_uses text.now)) }
+            (λ body. All (λ id. id < length self.now.names) (node_uses body.now)) }
     {
         match self.number(node) {
-            Some(n) => match self.texts.get(n) {
-                Some(text) => {
-                    let text: &NodeBody = text;
-                    Some(text)
+            Some(n) => match self.bodies.get(n) {
+                Some(body) => {
+                    let body: &NodeBody = body;
+                    Some(body)
                 }
                 None => None,
             },
@@ -408,7 +385,7 @@ impl PiecesByNode for Store {
 
     ghost pieces = { pieces_of_node };
 
-    ghost texts = { body_at };
+    ghost bodies = { body_at };
 
     fn name_count(&self) -> usize {
         self.skeleton.names.len()
@@ -430,8 +407,8 @@ impl PiecesByNode for Store {
 
     fn node_body(&self, node: Node) -> Option<&Rc<NodeBody>> {
         match self.number(node) {
-            Some(n) => match self.texts.get(n) {
-                Some(text) => Some(text),
+            Some(n) => match self.bodies.get(n) {
+                Some(body) => Some(body),
                 None => None,
             },
             None => None,
@@ -464,6 +441,6 @@ pub fn expand_one(
     ensures err { OnErr result (work.new ≡ work.old) }
 {
     // The proof looks at what is kept.
-    let _ = &store.texts;
+    let _ = &store.bodies;
     expand(alloc, store, node, kept, work)
 }

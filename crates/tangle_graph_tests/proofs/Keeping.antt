@@ -5,10 +5,10 @@ use Rattle.std.proofs.lemmas.Bool.Decides.{nat_tests}
 use Rattle.tangle_affected.specs.Keeping.{KeepsJust}
 use Rattle.tangle_expansion.specs.Limits.{heaviest, flat_of, IsExpandableNode}
 use Rattle.tangle_expansion.specs.Outputs.{node_symbols}
-use Rattle.tangle_expansion.specs.Shapes.{Title, Shapes}
+use Rattle.tangle_plans.specs.Shapes.{Title, Shapes}
 use Rattle.tangle_expansion.specs.declared.kept.Kept.{Kept}
-use Rattle.tangle_expansion.specs.declared.nodes.Node.{Node}
-use Rattle.tangle_expansion.specs.declared.nodes.Node.TheVariants.{Program, Name}
+use Rattle.tangle_plans.specs.declared.nodes.Node.{Node}
+use Rattle.tangle_plans.specs.declared.nodes.Node.TheVariants.{Program, Name}
 use Rattle.tangle_graph.specs.Nodes.{IsNodeOf, number_in, entry}
 use Rattle.tangle_graph.specs.Stores.{StoreRead, IsNodeIn, IsStoreOf, is_expandable_at, title_in_store}
 use Rattle.tangle_graph_tests.specs.Keeping.{KeepsWritable}

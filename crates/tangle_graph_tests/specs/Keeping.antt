@@ -4,7 +4,7 @@ use Rattle.tangle_expansion.specs.Kept.{kept_at}
 use Rattle.tangle_expansion.specs.Limits.{heaviest}
 use Rattle.tangle_expansion.specs.Outputs.{node_symbols}
 use Rattle.tangle_expansion.specs.declared.kept.Kept.{Kept}
-use Rattle.tangle_expansion.specs.declared.nodes.Node.{Node}
+use Rattle.tangle_plans.specs.declared.nodes.Node.{Node}
 use Rattle.tangle_graph.specs.Stores.{StoreRead, is_expandable_at}
 
 -- of each expandable node an expansion, and none that is too heavy to be written

@@ -1,8 +1,8 @@
 //! Large graphs of which nothing may take long: each test has to end within the time that a test
 //! has.
+use crate::range::in_range;
 use digraph::{
-    all_once, empty_rows, in_range, order, push_to, reaching_along, reaching_cycles,
-    self_containing, users,
+    all_once, empty_rows, order, push_to, reaching, reaching_cycles, self_containing, users,
 };
 use std::alloc::{AllocError, Global};
 use std::process::Abort;
@@ -65,8 +65,7 @@ fn a_chain_in_its_order(rt: HostRuntime) -> Result<(), Fail> {
     if let Some(flag) = flags.last_mut() {
         *flag = true;
     }
-    let order = order(rt.alloc(), uses, &users(rt.alloc(), uses)?)?;
-    let found = reaching_along(rt.alloc(), uses, &order, &flags)?;
+    let found = reaching(rt.alloc(), uses, &users(rt.alloc(), uses)?, &flags)?;
     assert_eq!(rt; count(&found), NODES);
     Ok(())
 }

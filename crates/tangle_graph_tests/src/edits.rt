@@ -4,10 +4,10 @@ use std::alloc::Global;
 use std::process::Abort;
 use std::test::Fail;
 use tangle_affected::affected;
-use tangle_expansion::Node;
 use tangle_graph::Store;
 use tangle_lines::NoMemory;
 use tangle_names::NameTable;
+use tangle_plans::Node;
 use tangle_scan::{Web, scan};
 use tangle_test_support::{end_refusals, fail_allocation, files_with, read};
 

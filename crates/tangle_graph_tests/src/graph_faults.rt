@@ -48,7 +48,9 @@ const WEBS: [(&[u8], &[u8]); 12] = [
     ),
     (
         b"@ A @<z@>.\n@ @<z@>=\n@<y@>@<x@>\n@ @<x@>=\n@<x@>\n@ @(a.c@>=\n@<w@>\n",
-        b"a.w:3: error: undefined: <y>\na.w:7: error: undefined: <w>\na.w:1: warning: never used: <z>\na.w:3: error: contains itself: <x>\na.w:6: error: file name is the main file's: <a.c>\nwarning: no program text\n",
+        b"a.w:3: error: undefined: <y>\na.w:7: error: undefined: <w>\n\
+          a.w:1: warning: never used: <z>\na.w:3: error: contains itself: <x>\n\
+          a.w:6: error: file name is the main file's: <a.c>\nwarning: no program text\n",
     ),
 ];
 
@@ -67,8 +69,11 @@ fn faults_of_the_graphs_of_webs(rt: HostRuntime) -> Result<(), Fail> {
     Ok(())
 }
 
-const TOO_LARGE: &[u8] =
-    b"a.w:3: error: too large: <n00>\na.w:5: error: too large: <n01>\na.w:7: error: too large: <n02>\na.w:9: error: too large: <n03>\na.w:11: error: too large: <n04>\na.w:13: error: too large: <n05>\na.w:15: error: too large: <n06>\na.w:17: error: too large: <n07>\na.w:19: error: too large: <n08>\nerror: too large: the unnamed program\n";
+const TOO_LARGE: &[u8] = b"a.w:3: error: too large: <n00>\na.w:5: error: too large: <n01>\n\
+      a.w:7: error: too large: <n02>\na.w:9: error: too large: <n03>\n\
+      a.w:11: error: too large: <n04>\na.w:13: error: too large: <n05>\n\
+      a.w:15: error: too large: <n06>\na.w:17: error: too large: <n07>\n\
+      a.w:19: error: too large: <n08>\nerror: too large: the unnamed program\n";
 
 #[test]
 fn names_that_are_too_large(rt: HostRuntime) -> Result<(), Fail> {

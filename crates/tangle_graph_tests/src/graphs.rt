@@ -2,8 +2,9 @@
 use crate::tangling::tangle;
 use std::process::Abort;
 use std::test::Fail;
-use tangle_expansion::{Node, Output};
+use tangle_expansion::Output;
 use tangle_graph::Store;
+use tangle_plans::Node;
 use tangle_test_support::{chain, doubling};
 
 const NAME_AND_USE: &[u8] = b"@ A.\n@c\nint x=@<v@>;\n@ @<v@>=\n1\n";

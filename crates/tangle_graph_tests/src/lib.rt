@@ -18,5 +18,6 @@ mod graph_faults;
 mod graphs;
 #[cfg(test)]
 mod outputs;
+pub mod range;
 #[cfg(test)]
 mod tangling;

@@ -1,7 +1,7 @@
 //! The output files of webs, and how many nodes were expanded for them.
 ghost use Rattle.tangle_graph_tests.specs.Keeping.{KeepsWritable};
 
-use crate::tangling::{Tangled, tangle, tangle_with, write_output};
+use crate::tangling::{TangledWeb, tangle, tangle_with, write_output};
 use std::alloc::Global;
 use std::io::{self, Write};
 use std::process::Abort;
@@ -11,7 +11,7 @@ use tangle_folders::MemorySink;
 use tangle_lines::{IoSink, MarkMode, WriteFault, put};
 use tangle_test_support::{DOUBLING_FILE, doubling};
 
-// Room for all that a test writes.
+// Capacity for all that a test writes.
 const AMPLE: usize = 1_000_000;
 
 // Webs, with their output files, of which each is its name on a line and its bytes, and the number
@@ -28,22 +28,26 @@ const WEBS: [(&[u8], &[u8], u64); 12] = [
     ),
     (
         b"@ A.\n@c\nint x=@<v@>;\n@ @<v@>=\n1\n",
-        b"a.c\n/*1:*/\n#line 2 \"a.w\"\n\nint x= /*2:*/\n#line 4 \"a.w\"\n\n1\n/*:2*/\n#line 3 \"a.w\"\n;\n/*:1*/\n",
+        b"a.c\n/*1:*/\n#line 2 \"a.w\"\n\nint x= /*2:*/\n#line 4 \"a.w\"\n\n1\n/*:2*/\n\
+          #line 3 \"a.w\"\n;\n/*:1*/\n",
         2,
     ),
     (
         b"% top\n@ A.\n@c\nint x=@<v@>;\n@ @<v@>=\n1\n",
-        b"a.c\n/*1:*/\n#line 3 \"a.w\"\n\nint x= /*2:*/\n#line 5 \"a.w\"\n\n1\n/*:2*/\n#line 4 \"a.w\"\n;\n/*:1*/\n",
+        b"a.c\n/*1:*/\n#line 3 \"a.w\"\n\nint x= /*2:*/\n#line 5 \"a.w\"\n\n1\n/*:2*/\n\
+          #line 4 \"a.w\"\n;\n/*:1*/\n",
         2,
     ),
     (
         b"@ Z.\n@ A.\n@c\nint x=@<v@>;\n@ @<v@>=\n1\n",
-        b"a.c\n/*2:*/\n#line 3 \"a.w\"\n\nint x= /*3:*/\n#line 5 \"a.w\"\n\n1\n/*:3*/\n#line 4 \"a.w\"\n;\n/*:2*/\n",
+        b"a.c\n/*2:*/\n#line 3 \"a.w\"\n\nint x= /*3:*/\n#line 5 \"a.w\"\n\n1\n/*:3*/\n\
+          #line 4 \"a.w\"\n;\n/*:2*/\n",
         2,
     ),
     (
         b"@ A.\n@c\n@<Ini...@>\n@ @<Initialize@>=\nx=0;\n",
-        b"a.c\n/*1:*/\n#line 2 \"a.w\"\n\n /*2:*/\n#line 4 \"a.w\"\n\nx=0;\n/*:2*/\n#line 3 \"a.w\"\n\n/*:1*/\n",
+        b"a.c\n/*1:*/\n#line 2 \"a.w\"\n\n /*2:*/\n#line 4 \"a.w\"\n\nx=0;\n/*:2*/\n\
+          #line 3 \"a.w\"\n\n/*:1*/\n",
         2,
     ),
     (
@@ -68,19 +72,24 @@ const WEBS: [(&[u8], &[u8], u64); 12] = [
     ),
     (
         b"@ P.\n@c\n@<A@>\n@ @<A@>=\n@<B@>\n@ @<B@>=\nb;\n@ @(h.h@>=\nint h;\n",
-        b"a.c\n/*1:*/\n#line 2 \"a.w\"\n\n /*2:*/\n#line 4 \"a.w\"\n\n /*3:*/\n#line 6 \"a.w\"\n\nb;\n/*:3*/\n#line 5 \"a.w\"\n\n/*:2*/\n#line 3 \"a.w\"\n\n/*:1*/\nh.h\n/*4:*/\n#line 8 \"a.w\"\n\nint h;\n/*:4*/\n",
+        b"a.c\n/*1:*/\n#line 2 \"a.w\"\n\n /*2:*/\n#line 4 \"a.w\"\n\n /*3:*/\n#line 6 \"a.w\"\n\n\
+          b;\n/*:3*/\n#line 5 \"a.w\"\n\n/*:2*/\n#line 3 \"a.w\"\n\n/*:1*/\nh.h\n/*4:*/\n\
+          #line 8 \"a.w\"\n\nint h;\n/*:4*/\n",
         4,
     ),
     (b"@ A.\n@(a.c@>=\nx\n", b"a.c\n", 1),
     (
         b"@ P.\n@c\n@<A@>@<S@>\n@ @<A@>=\n@<B@>\n@ @<B@>=\n@<C@>\n@ @<C@>=\n1\n@ @<S@>=\n2\n",
-        b"a.c\n/*1:*/\n#line 2 \"a.w\"\n\n /*2:*/\n#line 4 \"a.w\"\n\n /*3:*/\n#line 6 \"a.w\"\n\n /*4:*/\n#line 8 \"a.w\"\n\n1\n/*:4*/\n#line 7 \"a.w\"\n\n/*:3*/\n#line 5 \"a.w\"\n\n/*:2*/\n#line 3 \"a.w\"\n /*5:*/\n#line 10 \"a.w\"\n\n2\n/*:5*/\n#line 3 \"a.w\"\n\n/*:1*/\n",
+        b"a.c\n/*1:*/\n#line 2 \"a.w\"\n\n /*2:*/\n#line 4 \"a.w\"\n\n /*3:*/\n#line 6 \"a.w\"\n\
+          \n /*4:*/\n#line 8 \"a.w\"\n\n1\n/*:4*/\n#line 7 \"a.w\"\n\n/*:3*/\n#line 5 \"a.w\"\n\n\
+          /*:2*/\n#line 3 \"a.w\"\n /*5:*/\n#line 10 \"a.w\"\n\n2\n/*:5*/\n#line 3 \"a.w\"\n\n\
+          /*:1*/\n",
         5,
     ),
 ];
 
 // Adds the output file to the list: its name on a line, and its bytes.
-fn add_output(tangled: &Tangled, output: &Output, list: &mut MemorySink) -> Result<(), Fail>
+fn add_output(tangled: &TangledWeb, output: &Output, list: &mut MemorySink) -> Result<(), Fail>
     requires { KeepsWritable tangled.now.store tangled.now.kept }
 {
     put(list, Ok(0), output.name())?;
@@ -93,7 +102,7 @@ fn add_output(tangled: &Tangled, output: &Output, list: &mut MemorySink) -> Resu
 }
 
 // The output files, one after another.
-fn list_outputs(alloc: Global, tangled: &Tangled) -> Result<MemorySink, Fail>
+fn list_outputs(alloc: Global, tangled: &TangledWeb) -> Result<MemorySink, Fail>
     requires { KeepsWritable tangled.now.store tangled.now.kept }
 {
     let mut list = MemorySink::new(alloc, AMPLE);
@@ -193,7 +202,7 @@ fn a_writer_that_takes_one_byte_a_call(rt: HostRuntime) -> Result<(), Fail> {
 fn check_cut_off(
     rt: &impl Abort,
     alloc: Global,
-    tangled: &Tangled,
+    tangled: &TangledWeb,
     output: &Output,
     room: usize,
 ) -> Result<(), Fail>

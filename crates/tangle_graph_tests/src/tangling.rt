@@ -2,7 +2,7 @@
 ghost use Rattle.std.specs.Prelude.{◌≡◌, true, IfOk};
 ghost use Rattle.tangle_names.specs.NameTable.{table_of};
 ghost use Rattle.tangle_expansion.specs.Outputs.{IsReady};
-ghost use Rattle.tangle_expansion.specs.Shapes.{Shapes};
+ghost use Rattle.tangle_plans.specs.Shapes.{Shapes};
 ghost use Rattle.tangle_graph.specs.Stores.{IsStoreOf};
 ghost use Rattle.tangle_graph_tests.specs.Keeping.{KeepsWritable};
 
@@ -21,7 +21,7 @@ use tangle_test_support::{files_with, read};
 /// What tangling of a web makes: its store, the expansions of its nodes, the numbers that their
 /// texts take, and which nodes were expanded.
 #[derive(Drop)]
-pub(crate) struct Tangled {
+pub(crate) struct TangledWeb {
     pub(crate) store: Store,
     pub(crate) kept: Kept,
     pub(crate) numbers: Numbers,
@@ -43,7 +43,7 @@ pub(crate) fn tangle_web(
     web: &Web,
     table: &NameTable,
     marks: MarkMode,
-) -> Result<Tangled, NoMemory>
+) -> Result<TangledWeb, NoMemory>
     requires { table.now ≡ table_of web.now }
     ensures { IfOk result (λ tangled. KeepsWritable tangled.store tangled.kept) }
 {
@@ -51,7 +51,7 @@ pub(crate) fn tangle_web(
     let numbers = Numbers::build(alloc, web, &store, marks)?;
     let mut work = Work::new(alloc);
     let kept = expand_writable(alloc, &store, &mut work)?;
-    Ok(Tangled {
+    Ok(TangledWeb {
         store,
         kept,
         numbers,
@@ -60,7 +60,7 @@ pub(crate) fn tangle_web(
 }
 
 // Tangles a source, for the main file `a.c`.
-fn tangle_source(alloc: Global, source: &Source, marks: MarkMode) -> Result<Tangled, NoMemory>
+fn tangle_source(alloc: Global, source: &Source, marks: MarkMode) -> Result<TangledWeb, NoMemory>
     ensures { IfOk result (λ tangled. KeepsWritable tangled.store tangled.kept) }
 {
     let web = scan(alloc, source)?;
@@ -69,7 +69,7 @@ fn tangle_source(alloc: Global, source: &Source, marks: MarkMode) -> Result<Tang
 }
 
 /// Tangles the web with this text, for the main file `a.c`, with line marks that are written so.
-pub(crate) fn tangle_with(alloc: Global, text: &[u8], marks: MarkMode) -> Result<Tangled, Fail>
+pub(crate) fn tangle_with(alloc: Global, text: &[u8], marks: MarkMode) -> Result<TangledWeb, Fail>
     ensures { IfOk result (λ tangled. KeepsWritable tangled.store tangled.kept) }
 {
     let files = files_with(alloc, &[(b"a.w", text)])?;
@@ -78,14 +78,14 @@ pub(crate) fn tangle_with(alloc: Global, text: &[u8], marks: MarkMode) -> Result
 }
 
 /// Tangles the web with this text, for the main file `a.c`.
-pub(crate) fn tangle(alloc: Global, text: &[u8]) -> Result<Tangled, Fail>
+pub(crate) fn tangle(alloc: Global, text: &[u8]) -> Result<TangledWeb, Fail>
     ensures { IfOk result (λ tangled. KeepsWritable tangled.store tangled.kept) }
 {
     tangle_with(alloc, text, MarkMode::Full)
 }
 
 /// Whether the output can be written: its node has an expansion, if it has a piece.
-pub(crate) fn is_ready(tangled: &Tangled, output: &Output) -> bool
+pub(crate) fn is_ready(tangled: &TangledWeb, output: &Output) -> bool
     requires { KeepsWritable tangled.now.store tangled.now.kept }
     ensures { result ≡ true → IsReady output.now tangled.now.kept }
 {
@@ -94,7 +94,7 @@ pub(crate) fn is_ready(tangled: &Tangled, output: &Output) -> bool
 
 // Writes an output file, and says how many bytes it was to have.
 fn write_ready<S: Sink>(
-    tangled: &Tangled,
+    tangled: &TangledWeb,
     output: &Output,
     sink: &mut S,
 ) -> (u128, Result<u128, WriteFault>)
@@ -107,7 +107,7 @@ fn write_ready<S: Sink>(
 
 /// Writes an output file. It answers how many bytes the file has, and how many were written.
 pub(crate) fn write_output<S: Sink>(
-    tangled: &Tangled,
+    tangled: &TangledWeb,
     output: &Output,
     sink: &mut S,
 ) -> Result<(u128, Result<u128, WriteFault>), Fail>

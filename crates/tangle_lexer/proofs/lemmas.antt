@@ -1,6 +1,4 @@
-pub mod AheadLemmas
-pub mod ByteLemmas
-pub mod ChunkLemmas
+pub mod SignBytes
 pub mod CutLemmas
 pub mod HeadLemmas
 pub mod LexemeLemmas
@@ -8,7 +6,7 @@ pub mod NameLemmas
 pub mod NamesKept
 pub mod OrdinaryLemmas
 pub mod QuietTokens
-pub mod RegionLemmas
-pub mod RunLemmas
+pub mod OpenedRegions
 pub mod SimpleLemmas
 pub mod StepLemmas
+pub mod DotLemmas

@@ -1,14 +1,15 @@
 -- Comments and control texts, which are white space.
 use Rattle.std.specs.Prelude.{ℕ, ◌+◌, Bool, not, List, [], drop, if◌then◌else◌, Option}
-use Rattle.tangle_lines.specs.declared.faults.FaultKind.TheVariants as fault
-use Rattle.tangle_lexer.specs.declared.regions.Region.{Region}
-use Rattle.tangle_lexer.specs.declared.regions.Region.TheVariants as region
-use Rattle.tangle_lexer.specs.declared.regions.Unit.{Unit as Unit-of}
+use Rattle.tangle_faults.specs.declared.faults.FaultKind.{FaultKind}
+use Rattle.tangle_faults.specs.declared.faults.FaultKind.TheVariants as fault
+use Rattle.tangle_text.specs.declared.regions.Region.{Region}
+use Rattle.tangle_text.specs.declared.regions.Region.TheVariants as region
+use Rattle.tangle_text.specs.declared.regions.Unit.{Unit as Unit-of}
 use Rattle.tangle_lexer.specs.declared.modes.ScanState.{ScanState}
 use Rattle.tangle_lexer.specs.declared.tokens.Token.{Token}
-use Rattle.tangle_lexer.specs.Bytes.{asterisk, slash, are, is_section_start, is_end_code}
-use Rattle.tangle_lexer.specs.Text.{Cell, byte_at, line_at}
-use Rattle.tangle_lexer.specs.Regions.{count_before, from_units}
+use Rattle.tangle_text.specs.Bytes.{asterisk, slash, are, is_section_start, is_end_code}
+use Rattle.tangle_text.specs.Text.{Cell, byte_at, line_at}
+use Rattle.tangle_text.specs.Regions.{count_before, from_units}
 use Rattle.tangle_lexer.specs.Lexemes.{Lexeme, white_lexeme, fault_if, line_end_by}
 
 -- the line end that a unit is
@@ -35,13 +36,26 @@ starts_section text = is_section_start (byte_at 0 text) (byte_at 1 text)
 abbrev pub two_if : Bool → ℕ
 two_if b = if b then 2 else 0
 
+-- what ends a comment over lines, or else a control text, is at the front
+abbrev pub ends_region : Region → List Cell → Bool
+ends_region region.Comment text = ends_comment text
+ends_region _ text = has_end_code text
+
+-- the opening of a comment over lines or a control text, and what is up to its end: it is a fault if that isn't there
+abbrev pub text_over_lines : Region → FaultKind → ScanState → List Cell → Lexeme
+text_over_lines r kind s text =
+    let inside : ℕ = count_before r 0 (drop 2 text) in
+    let behind : List Cell = drop inside (drop 2 text) in
+    white_lexeme (line_ends r (drop 2 text)) (fault_if (not (ends_region r behind)) kind (line_at s.last behind))
+    (1 + inside + two_if (ends_region r behind)) s
+
 -- /* up to */; a section start or the end of the source before that is a fault
 abbrev pub block_comment : ScanState → List Cell → Lexeme
-block_comment s text =
-    let inside : ℕ = count_before region.Comment 0 (drop 2 text) in
-    let behind : List Cell = drop inside (drop 2 text) in
-    white_lexeme (line_ends region.Comment (drop 2 text)) (fault_if (not (ends_comment behind)) fault.CommentEnd (line_at s.last behind))
-    (1 + inside + two_if (ends_comment behind)) s
+block_comment = text_over_lines region.Comment fault.CommentEnd
+
+-- @^, @., @:, @t, @q up to @>; another control code but @@, or the end of the source, before that is a fault
+abbrev pub control_text : ScanState → List Cell → Lexeme
+control_text = text_over_lines region.ControlText fault.ControlText
 
 -- // up to the line end, which is no part of it; a section start before that is a fault
 abbrev pub line_comment : ScanState → List Cell → Lexeme
@@ -49,11 +63,3 @@ line_comment s text =
     let inside : ℕ = count_before region.LineComment 0 (drop 2 text) in
     let behind : List Cell = drop inside (drop 2 text) in
     white_lexeme [] (fault_if (starts_section behind) fault.CommentEnd (line_at s.last behind)) (1 + inside) s
-
--- @^, @., @:, @t, @q up to @>; another control code but @@, or the end of the source, before that is a fault
-abbrev pub control_text : ScanState → List Cell → Lexeme
-control_text s text =
-    let inside : ℕ = count_before region.ControlText 0 (drop 2 text) in
-    let behind : List Cell = drop inside (drop 2 text) in
-    white_lexeme (line_ends region.ControlText (drop 2 text)) (fault_if (not (has_end_code behind)) fault.ControlText (line_at s.last behind))
-    (1 + inside + two_if (has_end_code behind)) s

@@ -1,13 +1,13 @@
 -- ASCII constants: the value of a character, and how many cells it has.
 use Rattle.std.specs.Prelude.{ℕ, ◌+◌, ◌-◌, ◌*◌, ◌==◌, nat_le, not, ◌||◌, List, [], ◌∷◌, drop, if◌then◌else◌, Option, Some, None, unwrap_or}
 use Rattle.tangle_lexer.specs.declared.constants.AsciiConstant.{AsciiConstant}
-use Rattle.tangle_lines.specs.declared.faults.FaultKind.TheVariants as fault
-use Rattle.tangle_lexer.specs.declared.regions.Region.TheVariants as region
+use Rattle.tangle_faults.specs.declared.faults.FaultKind.TheVariants as fault
+use Rattle.tangle_text.specs.declared.regions.Region.TheVariants as region
 use Rattle.tangle_lexer.specs.declared.modes.ScanState.{ScanState}
 use Rattle.tangle_lexer.specs.declared.tokens.Token.TheVariants as token
-use Rattle.tangle_lexer.specs.Bytes.{at_sign, backslash, apostrophe, double_quote, holds, is_octal}
-use Rattle.tangle_lexer.specs.Text.{Cell, byte_at, line_at}
-use Rattle.tangle_lexer.specs.Regions.{count_before}
+use Rattle.tangle_text.specs.Bytes.{at_sign, backslash, apostrophe, double_quote, holds, is_octal}
+use Rattle.tangle_text.specs.Text.{Cell, byte_at, line_at}
+use Rattle.tangle_text.specs.Regions.{count_before}
 use Rattle.tangle_lexer.specs.Quoted.{one_if}
 use Rattle.tangle_lexer.specs.Lexemes.{Lexeme, lexeme_of, elsewhere, white_lexeme}
 

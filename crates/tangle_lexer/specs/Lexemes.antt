@@ -1,6 +1,6 @@
 -- What is at the front of the text, and what is known there.
 use Rattle.std.specs.Prelude.{ℕ, Bool, List, [], ◌∷◌, ◌++◌, if◌then◌else◌, Option, None}
-use Rattle.tangle_lines.specs.declared.faults.FaultKind.{FaultKind}
+use Rattle.tangle_faults.specs.declared.faults.FaultKind.{FaultKind}
 use Rattle.tangle_lexer.specs.declared.occurrences.OccurrenceRole.{OccurrenceRole}
 use Rattle.tangle_lexer.specs.declared.modes.Mode.{Mode}
 use Rattle.tangle_lexer.specs.declared.modes.IncludeState.{IncludeState}
@@ -8,7 +8,7 @@ use Rattle.tangle_lexer.specs.declared.modes.IncludeState.TheVariants as include
 use Rattle.tangle_lexer.specs.declared.modes.ScanState.{ScanState}
 use Rattle.tangle_lexer.specs.declared.tokens.Token.{Token}
 use Rattle.tangle_lexer.specs.declared.tokens.Token.TheVariants as token
-use Rattle.tangle_lexer.specs.Bytes.{is_line_end}
+use Rattle.tangle_text.specs.Bytes.{is_line_end}
 
 -- an occurrence of a section name as it is read: the text of the name, whether it is opened by @(, and the line of its first byte
 pub record ReadOccurrence : Type 0 where

@@ -1,7 +1,4 @@
-pub mod Bytes
-pub mod Text
-pub mod Ahead
-pub mod Regions
+pub mod Reads
 pub mod Lexemes
 pub mod Comments
 pub mod Quoted

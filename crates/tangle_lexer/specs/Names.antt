@@ -1,38 +1,26 @@
 -- Section names: @< or @( up to @>, also over lines.
-use Rattle.std.specs.Prelude.{◌≡◌, ◌≤◌, ℕ, ◌+◌, ◌-◌, Bool, false, true, not, ◌&&◌, ◌||◌, List, [], ◌∷◌, ◌++◌, length, nat_lt, drop, if◌then◌else◌, Option, Some, None, unwrap_or, codes}
+use Rattle.std.specs.Prelude.{ℕ, ◌+◌, ◌-◌, Bool, false, true, not, ◌&&◌, ◌||◌, List, [], ◌∷◌, ◌++◌, length, nat_lt, drop, if◌then◌else◌, Option, Some, None, codes}
 use Rattle.std.specs.Str.{bytes_eq}
 use Rattle.tangle_lines.specs.Bytes.{is_white}
-use Rattle.tangle_lines.specs.declared.faults.FaultKind.TheVariants as fault
+use Rattle.tangle_faults.specs.declared.faults.FaultKind.TheVariants as fault
 use Rattle.tangle_lexer.specs.declared.occurrences.OccurrenceRole.{OccurrenceRole}
 use Rattle.tangle_lexer.specs.declared.occurrences.OccurrenceRole.TheVariants as role
 use Rattle.tangle_lexer.specs.declared.names.Equals.{Equals}
 use Rattle.tangle_lexer.specs.declared.names.Equals.TheVariants as equals
-use Rattle.tangle_lexer.specs.declared.regions.Region.TheVariants as region
-use Rattle.tangle_lexer.specs.declared.regions.Unit.{Unit as Unit-of}
-use Rattle.tangle_lexer.specs.declared.regions.Unit.TheVariants as unit
+use Rattle.tangle_lexer.specs.declared.names.Name.{Name}
+use Rattle.tangle_text.specs.declared.regions.Region.TheVariants as region
 use Rattle.tangle_lexer.specs.declared.modes.Mode.TheVariants as mode
 use Rattle.tangle_lexer.specs.declared.modes.ScanState.{ScanState}
 use Rattle.tangle_lexer.specs.declared.tokens.Token.{Token}
 use Rattle.tangle_lexer.specs.declared.tokens.Token.TheVariants as token
-use Rattle.tangle_lexer.specs.Bytes.{at_sign, left_parenthesis, plus_sign, equals_sign, holds}
-use Rattle.tangle_lexer.specs.Text.{Cell, byte_at, line_at}
-use Rattle.tangle_lexer.specs.Regions.{count_before, from_units, region_end}
+use Rattle.tangle_text.specs.Bytes.{left_parenthesis, plus_sign, equals_sign, holds}
+use Rattle.tangle_text.specs.Text.{Cell, byte_at, line_at}
+use Rattle.tangle_text.specs.Regions.{count_before, from_units}
 use Rattle.tangle_lexer.specs.Lexemes.{ReadOccurrence, Lexeme, fault_if, in_mode, elsewhere}
 use Rattle.tangle_lexer.specs.Comments.{has_end_code, two_if}
+use Rattle.tangle_text.specs.NameBytes.{name_bytes}
 
 -- the text of a name
-
--- a line end in a name is a space
-abbrev pub name_byte : Option ℕ → ℕ
-name_byte b = unwrap_or b 32
-
--- @@ is @, and other control codes are kept as two bytes
-abbrev pub unit_name_bytes : Unit-of → Option ℕ → Option ℕ → List ℕ
-unit_name_bytes unit.Two b next = if holds at_sign next then at_sign ∷ [] else at_sign ∷ name_byte next ∷ []
-unit_name_bytes _ b next = name_byte b ∷ []
-
-abbrev pub name_bytes : Unit-of → Cell → Option ℕ → List ℕ
-name_bytes u c next = unit_name_bytes u c.byte next
 
 -- A byte that isn't white space is added, behind a space where white space is between it and a byte before. The flags say whether
 -- such a byte is before, and whether white space is directly before.
@@ -52,12 +40,6 @@ normal_form bytes = with_single_spaces false false bytes
 -- the text of the name that is read from here on
 abbrev pub name_text : List Cell → List ℕ
 name_text text = normal_form (from_units name_bytes region.Name 0 text)
-
--- These bytes are at the front of a text, and the rest behind them: where a name is read there, they belong to it.
-pub record BeginsName (bytes : List ℕ) (text rest : List Cell) : Type 0 where
-  pub units : from_units name_bytes region.Name 0 text ≡ bytes ++ from_units name_bytes region.Name 0 rest
-  pub end : region_end region.Name text ≡ region_end region.Name rest
-  pub shorter : length rest ≤ length text
 
 abbrev pub dots : List ℕ
 dots = codes "..."
@@ -127,6 +109,10 @@ abbrev pub head_count : List Cell → Option ℕ
 head_count text = if is_ended text then equals_count (behind_name text) else None
 
 -- the lexemes of names
+
+-- a name that was read, in a role
+abbrev pub in_role : OccurrenceRole → Name → ReadOccurrence
+in_role role name = record { text = name.text.items; is_file = name.is_file; role = role; line = name.line }
 
 abbrev pub name_read : OccurrenceRole → ℕ → List Cell → ReadOccurrence
 name_read role last text = record {

@@ -1,7 +1,7 @@
 -- The occurrences of section names.
 use Rattle.std.specs.Prelude.{ℕ, Bool, List}
-use Rattle.tangle_lines.specs.declared.faults.Origin.{Origin}
-use Rattle.tangle_lines.specs.Reading.{Line, place_at}
+use Rattle.tangle_faults.specs.declared.faults.Origin.{Origin}
+use Rattle.tangle_lines.specs.Reading.{Line, origin_at}
 use Rattle.tangle_lexer.specs.declared.occurrences.OccurrenceRole.{OccurrenceRole}
 use Rattle.tangle_lexer.specs.Lexemes.{ReadOccurrence}
 use Rattle.tangle_lexer.specs.Names.{is_abbreviation}
@@ -12,7 +12,7 @@ pub record OccurrenceRead : Type 0 where
   pub is_abbreviation : Bool
   pub is_file : Bool
   pub role : OccurrenceRole
-  pub place : Origin
+  pub origin : Origin
 
 -- the occurrence that a name is which was read
 abbrev pub occurrence_of : List Line → ReadOccurrence → OccurrenceRead
@@ -21,5 +21,5 @@ occurrence_of lines n = record {
   is_abbreviation = is_abbreviation n.text;
   is_file = n.is_file;
   role = n.role;
-  place = place_at lines n.line;
+  origin = origin_at lines n.line;
 }

@@ -1,19 +1,19 @@
 -- Quoted and verbatim texts, which are cut: behind the first @ of each @@, and at a line end inside.
 use Rattle.std.specs.Prelude.{Bool, ◌&&◌, Bool, ℕ, ◌+◌, zero, suc, ◌==◌, nat_lt, List, [], ◌∷◌, ◌++◌, drop, if◌then◌else◌, Option}
-use Rattle.tangle_lines.specs.declared.faults.FaultKind.TheVariants as fault
-use Rattle.tangle_lexer.specs.declared.spans.Span.{Span}
-use Rattle.tangle_lexer.specs.declared.regions.Region.{Region}
-use Rattle.tangle_lexer.specs.declared.regions.Region.TheVariants as region
-use Rattle.tangle_lexer.specs.declared.regions.Unit.{Unit as Unit-of}
-use Rattle.tangle_lexer.specs.declared.regions.Unit.TheVariants as unit
+use Rattle.tangle_faults.specs.declared.faults.FaultKind.TheVariants as fault
+use Rattle.tangle_text.specs.declared.spans.Span.{Span}
+use Rattle.tangle_text.specs.declared.regions.Region.{Region}
+use Rattle.tangle_text.specs.declared.regions.Region.TheVariants as region
+use Rattle.tangle_text.specs.declared.regions.Unit.{Unit as Unit-of}
+use Rattle.tangle_text.specs.declared.regions.Unit.TheVariants as unit
 use Rattle.tangle_lexer.specs.declared.modes.ScanState.{ScanState}
 use Rattle.tangle_lexer.specs.declared.tokens.Token.{Token}
 use Rattle.tangle_lexer.specs.declared.tokens.TextKind.{TextKind}
 use Rattle.tangle_lexer.specs.declared.tokens.TextKind.TheVariants as text_kind
 use Rattle.tangle_lexer.specs.declared.tokens.Token.TheVariants as token
-use Rattle.tangle_lexer.specs.Bytes.{at_sign, backslash, holds, is_line_end}
-use Rattle.tangle_lexer.specs.Text.{Cell, byte_at, column_at, span_at}
-use Rattle.tangle_lexer.specs.Regions.{unit_at, more_by, count_before}
+use Rattle.tangle_text.specs.Bytes.{at_sign, backslash, holds, is_line_end}
+use Rattle.tangle_text.specs.Text.{Cell, byte_at, column_at, span_at}
+use Rattle.tangle_text.specs.Regions.{unit_at, more_by, count_before}
 use Rattle.tangle_lexer.specs.Lexemes.{Lexeme, lexeme_of, elsewhere, fault_if}
 use Rattle.tangle_lexer.specs.Comments.{has_end_code, two_if}
 

@@ -2,8 +2,8 @@
 use Rattle.std.specs.Prelude.{◌≡◌, ◌≤◌, ◌<◌, ◌⊎◌, ℕ, zero, suc, ◌+◌, ◌-◌, Bool, true, false, ◌&&◌, not, List, [], ◌∷◌, ◌++◌, length, flat_map, take, drop, if◌then◌else◌, Option, None, Some}
 use Rattle.std.specs.List.{AllByRecursion}
 use Rattle.tangle_lines.specs.Reading.{Line}
-use Rattle.tangle_lexer.specs.declared.spans.Span.{Span}
-use Rattle.tangle_lexer.specs.declared.regions.Region.TheVariants as region
+use Rattle.tangle_text.specs.declared.spans.Span.{Span}
+use Rattle.tangle_text.specs.declared.regions.Region.TheVariants as region
 use Rattle.tangle_lexer.specs.declared.modes.Mode.{Mode}
 use Rattle.tangle_lexer.specs.declared.modes.Mode.TheVariants as mode
 use Rattle.tangle_lexer.specs.declared.modes.ScanState.{ScanState}
@@ -11,9 +11,9 @@ use Rattle.tangle_lexer.specs.declared.token_kinds.ControlCode.{ControlCode}
 use Rattle.tangle_lexer.specs.declared.token_kinds.ControlCode.TheVariants as code
 use Rattle.tangle_lexer.specs.declared.token_kinds.TokenKind.{TokenKind}
 use Rattle.tangle_lexer.specs.declared.token_kinds.TokenKind.TheVariants as token_kind
-use Rattle.tangle_lexer.specs.Bytes.{at_sign, asterisk, slash, holds, is_line_end, is_space, are}
-use Rattle.tangle_lexer.specs.Text.{Cell, byte_at, text_from}
-use Rattle.tangle_lexer.specs.Regions.{count_before}
+use Rattle.tangle_text.specs.Bytes.{at_sign, asterisk, slash, holds, is_line_end, is_space, are}
+use Rattle.tangle_text.specs.Text.{Cell, byte_at, text_from}
+use Rattle.tangle_text.specs.Regions.{count_before}
 use Rattle.tangle_lexer.specs.Lexemes.{Lexeme}
 use Rattle.tangle_lexer.specs.Comments.{has_end_code}
 use Rattle.tangle_lexer.specs.Steps.{code_at, kind_of, lexeme, at_first}
@@ -134,7 +134,7 @@ abbrev pub segments_in : Mode → ScanState → ℕ → List Cell → List Segme
 segments_in mode.CPart s n text = c_segments (kind_of s.include text) n text
 segments_in _ s n text = segment Outside (take n text) ∷ []
 
--- The segments of a text, lexeme by lexeme. The number handed in is how many cells are still to be passed over.
+-- The segments of a text, lexeme by lexeme. The number passed in is how many cells are still to be passed over.
 abbrev pub segments : ℕ → ScanState → List Cell → List Segment
 segments k s [] = []
 segments (suc k) s (c ∷ cs) = segments k s cs

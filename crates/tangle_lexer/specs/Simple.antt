@@ -1,4 +1,4 @@
--- What is in most places of C text: words, white space, signs and line ends that open nothing.
+-- What is in most positions of C text: words, white space, signs and line ends that open nothing.
 use Rattle.std.specs.Prelude.{◌≡◌, ◌<◌, ℕ, Bool, true, false, ◌==◌, ◌||◌, not, if◌then◌else◌, List, length, Option, None, Some, IsSome}
 use Rattle.tangle_lines.specs.Bytes.{is_white}
 use Rattle.tangle_lexer.specs.declared.modes.Mode.{Mode}
@@ -8,8 +8,8 @@ use Rattle.tangle_lexer.specs.declared.simple.Simple.{Simple}
 use Rattle.tangle_lexer.specs.declared.simple.Simple.TheVariants as simple
 use Rattle.tangle_lexer.specs.declared.token_kinds.TokenKind.{TokenKind}
 use Rattle.tangle_lexer.specs.declared.token_kinds.TokenKind.TheVariants as token_kind
-use Rattle.tangle_lexer.specs.Bytes.{at_sign, slash, double_quote, apostrophe, less_sign, is_word_byte}
-use Rattle.tangle_lexer.specs.Text.{Cell, byte_at}
+use Rattle.tangle_text.specs.Bytes.{at_sign, slash, double_quote, apostrophe, less_sign, is_word_byte}
+use Rattle.tangle_text.specs.Text.{Cell, byte_at}
 use Rattle.tangle_lexer.specs.Steps.{kind_of}
 
 -- a byte that may open something longer

@@ -1,10 +1,9 @@
--- The four modes: what begins at a place, and what is read there.
-use Rattle.std.specs.Prelude.{ℕ, zero, suc, ◌+◌, ◌-◌, Bool, ◌==◌, ◌&&◌, ◌||◌, List, [], ◌∷◌, length, flat_map, take, drop, if◌then◌else◌, Option, Some, None, option_to_list, codes}
-use Rattle.std.specs.Str.{bytes_eq}
+-- The four modes: what begins at a position, and what is read there.
+use Rattle.std.specs.Prelude.{ℕ, zero, suc, ◌+◌, ◌-◌, Bool, ◌==◌, ◌&&◌, ◌||◌, List, [], ◌∷◌, length, flat_map, take, drop, if◌then◌else◌, Option, Some, None, option_to_list}
 use Rattle.tangle_lines.specs.Bytes.{is_white}
 use Rattle.tangle_lines.specs.Reading.{Line}
-use Rattle.tangle_lines.specs.declared.faults.FaultKind.TheVariants as fault
-use Rattle.tangle_lexer.specs.declared.regions.Region.TheVariants as region
+use Rattle.tangle_faults.specs.declared.faults.FaultKind.TheVariants as fault
+use Rattle.tangle_text.specs.declared.regions.Region.TheVariants as region
 use Rattle.tangle_lexer.specs.declared.modes.Mode.{Mode}
 use Rattle.tangle_lexer.specs.declared.modes.Mode.TheVariants as mode
 use Rattle.tangle_lexer.specs.declared.modes.IncludeState.{IncludeState}
@@ -17,16 +16,17 @@ use Rattle.tangle_lexer.specs.declared.token_kinds.TokenKind.TheVariants as toke
 use Rattle.tangle_lexer.specs.declared.tokens.Token.{Token}
 use Rattle.tangle_lexer.specs.declared.tokens.TextKind.TheVariants as text_kind
 use Rattle.tangle_lexer.specs.declared.tokens.Token.TheVariants as token
-use Rattle.tangle_lexer.specs.Bytes.{at_sign, asterisk, slash, less_sign, left_parenthesis, equals_sign, greater_sign, number_sign, double_quote, apostrophe, holds, is_word_byte, lower}
-use Rattle.tangle_lexer.specs.Text.{Cell, byte_at, bytes_of, line_at, span_at, text_from}
-use Rattle.tangle_lexer.specs.Regions.{count_before}
+use Rattle.tangle_text.specs.Bytes.{at_sign, asterisk, slash, less_sign, left_parenthesis, equals_sign, greater_sign, number_sign, double_quote, apostrophe, holds, is_word_byte, lower}
+use Rattle.tangle_text.specs.Text.{Cell, byte_at, bytes_of, line_at, span_at, text_from}
+use Rattle.tangle_text.specs.Regions.{count_before}
 use Rattle.tangle_lexer.specs.Lexemes.{ReadOccurrence, Lexeme, lexeme_of, in_mode, with_include, elsewhere, white_lexeme}
 use Rattle.tangle_lexer.specs.Comments.{block_comment, line_comment, control_text, starts_section}
 use Rattle.tangle_lexer.specs.Quoted.{quoted_text, verbatim_text}
 use Rattle.tangle_lexer.specs.Constants.{ascii_constant}
 use Rattle.tangle_lexer.specs.Names.{use_of_name, name_in_documentation}
+use Rattle.tangle_text.specs.Words.{is_include_word, word_more}
 
--- what begins at a place
+-- what begins at a position
 
 -- which control code @ and this byte are
 abbrev pub code_of : ℕ → ControlCode
@@ -79,17 +79,10 @@ abbrev pub include_after_sign : Option ℕ → IncludeState → IncludeState
 include_after_sign b include.AtStart = if holds number_sign b then include.AfterSign else include.Elsewhere
 include_after_sign b _ = include.Elsewhere
 
-abbrev pub is_include_word : List ℕ → Bool
-is_include_word bytes = bytes_eq bytes (codes "include")
-
 -- the word include behind it
 abbrev pub include_after_word : Bool → IncludeState → IncludeState
 include_after_word is_include include.AfterSign = if is_include then include.AfterInclude else include.Elsewhere
 include_after_word is_include _ = include.Elsewhere
-
--- how many cells a word has after its first
-abbrev pub word_more : List Cell → ℕ
-word_more text = count_before region.Word 0 (drop 1 text)
 
 -- word bytes, as many as there are
 abbrev pub word : ScanState → List Cell → Lexeme
@@ -199,17 +192,17 @@ lexeme_in mode.Macro s text = macro_lexeme (kind_of s.include text) s text
 unfoldable pub lexeme : ScanState → List Cell → Lexeme
 lexeme s text = lexeme_in s.mode s text
 
--- All lexemes of a text: each begins where the one before ended. The number handed in is how many cells are still to be passed over.
+-- All lexemes of a text: each begins where the one before ended. The number passed in is how many cells are still to be passed over.
 abbrev pub lexemes : ℕ → ScanState → List Cell → List Lexeme
 lexemes k s [] = []
 lexemes (suc k) s (c ∷ cs) = lexemes k s cs
 lexemes zero s (c ∷ cs) = let here : Lexeme = lexeme s (c ∷ cs) in here ∷ lexemes here.more here.after cs
 
--- the tokens from a place on, where this is known
+-- the tokens from a position on, where this is known
 unfoldable pub tokens_from : ScanState → List Cell → List Token
 tokens_from s text = flat_map (λ l. l.tokens) (lexemes 0 s text)
 
--- the occurrences of names from a place on
+-- the occurrences of names from a position on
 unfoldable pub occurrences_from : ScanState → List Cell → List ReadOccurrence
 occurrences_from s text = flat_map (λ l. option_to_list l.name) (lexemes 0 s text)
 

@@ -1,18 +1,15 @@
 //! Comments and control texts, which are white space.
 ghost use Rattle.std.specs.Prelude.{◌≡◌, ◌++◌, true, drop, IfOk, OnOk, Option};
-ghost use Rattle.tangle_lexer.specs.Ahead.{IsRead};
-ghost use Rattle.tangle_lexer.specs.Text.{byte_at};
-ghost use Rattle.tangle_lexer.specs.Regions.{is_text, region_end};
+ghost use Rattle.tangle_lexer.specs.Reads.{IsRead};
+ghost use Rattle.tangle_text.specs.Regions.{is_text, region_end};
 ghost use Rattle.tangle_lexer.specs.Lexemes.{line_end_by, include_over};
 ghost use Rattle.tangle_lexer.specs.Comments as spec;
 
-use crate::ahead::Reader;
-use crate::bytes::{holds, is_end_code, is_section_start};
 use crate::modes::{IncludeState, ScanState};
-use crate::regions::{Region, Unit, unit_of};
 use crate::tokens::Token;
 use std::alloc::AllocError;
 use tangle_lines::FaultKind;
+use tangle_text::{Reader, Region, Unit, holds, is_end_code, is_section_start, unit_of};
 
 /// Adds the line end that is here, if there is one. Behind it `#include` may begin.
 fn push_line_end(
@@ -103,6 +100,41 @@ pub fn starts_section(ahead: &Reader) -> bool
     }
 }
 
+/// What ends a comment over lines, or else a control text, is here.
+fn ends_region(region: Region, ahead: &Reader) -> bool
+    ensures { result ≡ spec.ends_region region ahead.now }
+{
+    match region {
+        Region::Comment => ends_comment(ahead),
+        _ => has_end_code(ahead),
+    }
+}
+
+/// Reads the two bytes that open a comment over lines or a control text, and what is up to its end,
+/// which is two bytes too; it is a fault of this kind if they are not there.
+#[inline(always)]
+fn text_over_lines(
+    region: Region,
+    kind: FaultKind,
+    tokens: &mut Vec<Token>,
+    ahead: &mut Reader,
+    state: ScanState,
+) -> Result<ScanState, AllocError>
+    requires { is_text region ≡ true }
+    ensures { IfOk result (λ after. IsRead tokens.old.items tokens.new.items ahead.old ahead.new
+        after (spec.text_over_lines region kind state ahead.old)) }
+{
+    tokens.push(Token::White)?;
+    ahead.pass(Unit::Two);
+    let include = pass_line_ends(tokens, ahead, region, state)?;
+    if ends_region(region, ahead) {
+        ahead.pass(Unit::Two);
+    } else {
+        tokens.push(Token::Fault(kind, ahead.line(state.last)))?;
+    }
+    Ok(ScanState { include, ..state })
+}
+
 /// Reads `/*` and the comment up to its end.
 pub fn block_comment(
     tokens: &mut Vec<Token>,
@@ -110,37 +142,9 @@ pub fn block_comment(
     state: ScanState,
 ) -> Result<ScanState, AllocError>
     ensures { IfOk result (λ after. IsRead tokens.old.items tokens.new.items ahead.old ahead.new
-        after
-        (spec.block_comment state ahead.old)) }
+        after (spec.block_comment state ahead.old)) }
 {
-    tokens.push(Token::White)?;
-    ahead.pass(Unit::Two);
-    let include = pass_line_ends(tokens, ahead, Region::Comment, state)?;
-    if ends_comment(ahead) {
-        ahead.pass(Unit::Two);
-    } else {
-        tokens.push(Token::Fault(FaultKind::CommentEnd, ahead.line(state.last)))?;
-    }
-    Ok(ScanState { include, ..state })
-}
-
-/// Reads `//` and the comment up to the line end.
-pub fn line_comment(
-    tokens: &mut Vec<Token>,
-    ahead: &mut Reader,
-    state: ScanState,
-) -> Result<ScanState, AllocError>
-    ensures { IfOk result (λ after. IsRead tokens.old.items tokens.new.items ahead.old ahead.new
-        after
-        (spec.line_comment state ahead.old)) }
-{
-    tokens.push(Token::White)?;
-    ahead.pass(Unit::Two);
-    ahead.skip_to_end(Region::LineComment);
-    if starts_section(ahead) {
-        tokens.push(Token::Fault(FaultKind::CommentEnd, ahead.line(state.last)))?;
-    }
-    Ok(state)
+    text_over_lines(Region::Comment, FaultKind::CommentEnd, tokens, ahead, state)
 }
 
 /// Reads the control code of a control text, and the text up to `@>`.
@@ -150,16 +154,31 @@ pub fn control_text(
     state: ScanState,
 ) -> Result<ScanState, AllocError>
     ensures { IfOk result (λ after. IsRead tokens.old.items tokens.new.items ahead.old ahead.new
-        after
-        (spec.control_text state ahead.old)) }
+        after (spec.control_text state ahead.old)) }
+{
+    text_over_lines(
+        Region::ControlText,
+        FaultKind::ControlText,
+        tokens,
+        ahead,
+        state,
+    )
+}
+
+/// Reads `//` and the comment up to the line end.
+pub fn line_comment(
+    tokens: &mut Vec<Token>,
+    ahead: &mut Reader,
+    state: ScanState,
+) -> Result<ScanState, AllocError>
+    ensures { IfOk result (λ after. IsRead tokens.old.items tokens.new.items ahead.old ahead.new
+        after (spec.line_comment state ahead.old)) }
 {
     tokens.push(Token::White)?;
     ahead.pass(Unit::Two);
-    let include = pass_line_ends(tokens, ahead, Region::ControlText, state)?;
-    if has_end_code(ahead) {
-        ahead.pass(Unit::Two);
-    } else {
-        tokens.push(Token::Fault(FaultKind::ControlText, ahead.line(state.last)))?;
+    ahead.skip_to_end(Region::LineComment);
+    if starts_section(ahead) {
+        tokens.push(Token::Fault(FaultKind::CommentEnd, ahead.line(state.last)))?;
     }
-    Ok(ScanState { include, ..state })
+    Ok(state)
 }

@@ -1,16 +1,13 @@
 //! ASCII constants.
-ghost use Rattle.std.specs.Prelude.{◌≡◌, ◌≤◌, ◌<◌, ◌+◌, ◌++◌, IfOk, OnOk, Option, drop, List};
-ghost use Rattle.tangle_lexer.specs.Ahead.{IsRead};
-ghost use Rattle.tangle_lexer.specs.Text.{Cell, byte_at};
+ghost use Rattle.std.specs.Prelude.{◌≡◌, ◌<◌, ◌+◌, IfOk, Option};
+ghost use Rattle.tangle_lexer.specs.Reads.{IsRead};
 ghost use Rattle.tangle_lexer.specs.Constants as spec;
 
-use crate::ahead::Reader;
-use crate::bytes::{holds, is_octal};
 use crate::modes::ScanState;
-use crate::regions::{Region, Unit};
 use crate::tokens::Token;
 use std::alloc::AllocError;
 use tangle_lines::FaultKind;
+use tangle_text::{Reader, Region, Unit, holds, is_octal};
 
 /// A constant: its value, and how many bytes its character has.
 #[derive(Clone, Copy)]
@@ -138,8 +135,7 @@ fn bad_constant(
     state: ScanState,
 ) -> Result<ScanState, AllocError>
     ensures { IfOk result (λ after. IsRead tokens.old.items tokens.new.items ahead.old ahead.new
-        after
-        (spec.bad_constant state ahead.old)) }
+        after (spec.bad_constant state ahead.old)) }
 {
     tokens.push(Token::White)?;
     tokens.push(Token::Fault(FaultKind::AsciiBad, ahead.line(state.last)))?;
@@ -158,8 +154,7 @@ pub fn ascii_constant(
     state: ScanState,
 ) -> Result<ScanState, AllocError>
     ensures { IfOk result (λ after. IsRead tokens.old.items tokens.new.items ahead.old ahead.new
-        after
-        (spec.ascii_constant state ahead.old)) }
+        after (spec.ascii_constant state ahead.old)) }
 {
     let mut character = ahead.copy();
     character.pass(Unit::Two);

@@ -1,4 +1,4 @@
-//! The scanner: from the text to its tokens, one C part or macro at a time.
+//! The lexer: from the text to its tokens, one C part or macro at a time.
 ghost use Rattle.std.specs.Prelude.{◌≡◌, ◌<◌, ◌++◌, [], false, true, length, map, IfOk, IfSome};
 ghost use Rattle.std.specs.Prelude.{IfNone, OnOk, option_to_list};
 ghost use Rattle.std.specs.List.{list_any};
@@ -7,14 +7,14 @@ ghost use Rattle.tangle_lexer.specs.Occurrences.{occurrence_of};
 ghost use Rattle.tangle_lexer.specs.Heads.{is_head as is_head_token};
 ghost use Rattle.tangle_lexer.specs.Heads.{PopsHead};
 
-use crate::ahead::Reader;
 use crate::modes::{IncludeState, Mode, ScanState};
 use crate::names::LexerOutput;
 use crate::simple::read_simple;
 use crate::steps::step;
 use crate::tokens::Token;
-use std::alloc::{AllocError, Global};
+use std::alloc::AllocError;
 use tangle_lines::Source;
+use tangle_text::Reader;
 
 /// A section, a macro or a C part begins.
 fn is_head(token: Token) -> bool
@@ -51,7 +51,6 @@ fn pop_head(tokens: &mut Vec<Token>) -> Option<Token>
 /// Reads the tokens before the next head, and answers that head and what is known behind it; or
 /// those before the end of the text. The tokens read before are dropped.
 pub fn next_block(
-    alloc: Global,
     source: &Source,
     output: &mut LexerOutput,
     ahead: &mut Reader,
@@ -65,7 +64,7 @@ pub fn next_block(
     ensures end { IfOk result (λ next. IfNone next.1 (ahead.new ≡ [])) }
     ensures shorter { IfOk result
         (λ next. IfSome next.1 (λ head. length ahead.new < length ahead.old)) }
-    ensures names { IfOk result (λ next. output.new.occurrences.items
+    ensures occurrences { IfOk result (λ next. output.new.occurrences.items
         ++ map (occurrence_of source.now.lines) (occurrences_from next.0 ahead.new)
         ≡ output.old.occurrences.items ++ map (occurrence_of source.now.lines)
         (occurrences_from from ahead.old)) }
@@ -74,7 +73,7 @@ pub fn next_block(
     output.tokens.clear();
     let mut state = from;
     while let Some(front) = ahead.front() {
-        state = step(alloc, source, output, ahead, state, front)?;
+        state = step(source, output, ahead, state, front)?;
         if let Some(head) = pop_head(&mut output.tokens) {
             return Ok((state, Some(head)));
         }

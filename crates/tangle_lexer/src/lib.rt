@@ -1,8 +1,6 @@
 //! The lexer: from the bytes of source lines to tokens, and to the occurrences of section names.
 #![tactic(auto)]
 
-mod ahead;
-mod bytes;
 mod comments;
 mod constants;
 mod lexer;
@@ -10,17 +8,13 @@ mod modes;
 mod names;
 mod occurrences;
 mod quoted;
-mod regions;
 mod simple;
-mod spans;
 mod steps;
 mod token_kinds;
 mod tokens;
 
-pub use ahead::Reader;
 pub use lexer::{first_state, next_block};
 pub use modes::{IncludeState, Mode, ScanState};
 pub use names::LexerOutput;
 pub use occurrences::{Occurrence, OccurrenceRole};
-pub use spans::Span;
 pub use tokens::{TextKind, Token};

@@ -1,9 +1,9 @@
-//! What is known at a place of the text.
+//! What is known at a position of the text.
 ghost use Rattle.std.specs.Prelude.{◌≡◌, Option};
 ghost use Rattle.tangle_lexer.specs.Lexemes as lexemes;
 ghost use Rattle.tangle_lexer.specs.Steps as steps;
 
-use crate::bytes::holds;
+use tangle_text::holds;
 
 /// Which kind of text is read.
 #[derive(Clone, Copy)]
@@ -28,7 +28,7 @@ pub enum IncludeState {
     Elsewhere,
 }
 
-/// What is known at a place of the text.
+/// What is known at a position of the text.
 #[derive(Clone, Copy)]
 pub struct ScanState {
     /// How many occurrences of names were read before.

@@ -1,29 +1,28 @@
 //! Section names.
 ghost use Rattle.std.specs.Prelude.{◌≡◌, ◌+◌, ◌++◌, [], ◌∷◌, ℕ, List, length, drop, IfOk, OnOk};
 ghost use Rattle.std.specs.Prelude.{not, Option, Some, None};
-ghost use Rattle.tangle_lexer.specs.Ahead.{IsFront, IsRead};
-ghost use Rattle.tangle_lexer.specs.Bytes as byte;
-ghost use Rattle.tangle_lexer.specs.Text.{byte_at, line_at, front_cell};
-ghost use Rattle.tangle_lexer.specs.Regions.{region_end};
+ghost use Rattle.tangle_text.specs.Bytes as byte;
+ghost use Rattle.tangle_text.specs.Text.{byte_at, line_at};
+ghost use Rattle.tangle_text.specs.Regions.{region_end};
 ghost use Rattle.tangle_lexer.specs.Occurrences.{occurrence_of};
-ghost use Rattle.tangle_lexer.specs.declared.regions.Region.TheVariants as region;
-ghost use Rattle.tangle_lines.specs.declared.faults.FaultKind.TheVariants as fault;
+ghost use Rattle.tangle_text.specs.declared.regions.Region.TheVariants as region;
+ghost use Rattle.tangle_faults.specs.declared.faults.FaultKind.TheVariants as fault;
 ghost use Rattle.tangle_lexer.specs.declared.tokens.Token.TheVariants as token;
 ghost use Rattle.tangle_lexer.specs.Lexemes.{fault_if, in_mode};
 ghost use Rattle.tangle_lexer.specs.declared.modes.Mode.TheVariants as mode;
 ghost use Rattle.tangle_lexer.specs.declared.occurrences.OccurrenceRole.TheVariants as role;
-ghost use Rattle.tangle_lexer.specs.Ahead.{PassesHead, AddsOccurrence};
+ghost use Rattle.tangle_lexer.specs.Reads.{PassesHead, ReadsLexeme};
 ghost use Rattle.tangle_lexer.specs.Names as spec;
+ghost use Rattle.tangle_text.specs.NameBytes as name_bytes;
 
-use crate::ahead::{Front, Reader};
-use crate::bytes::{holds, is_white};
 use crate::comments::pass_end_code;
 use crate::modes::{Mode, ScanState};
 use crate::occurrences::{Occurrence, OccurrenceRole};
-use crate::regions::{Region, Unit, unit_of};
 use crate::tokens::Token;
+use bstr::ByteSlice;
 use std::alloc::{AllocError, Global};
 use tangle_lines::{FaultKind, Source};
+use tangle_text::{Front, Reader, Region, Unit, holds, is_white, unit_of};
 
 /// What was read: the tokens, and the occurrences of names.
 #[derive(Drop)]
@@ -74,7 +73,7 @@ fn push_byte(name: &mut Vec<u8>, white: bool, byte: u8) -> Result<bool, AllocErr
 
 /// A line end in a name is a space.
 fn name_byte(byte: Option<u8>) -> u8
-    ensures { result ≡ spec.name_byte byte }
+    ensures { result ≡ name_bytes.name_byte byte }
 {
     match byte {
         Some(byte) => byte,
@@ -87,7 +86,7 @@ fn push_unit(name: &mut Vec<u8>, white: bool, unit: Unit, front: Front) -> Resul
     ensures { IfOk result (λ after. (bytes : List ℕ) →
         name.new.items ++ spec.with_single_spaces (spec.has_begun name.new.items) after bytes
         ≡ name.old.items ++ spec.with_single_spaces (spec.has_begun name.old.items) white
-        (spec.unit_name_bytes unit front.byte front.next ++ bytes)) }
+        (name_bytes.unit_name_bytes unit front.byte front.next ++ bytes)) }
 {
     match unit {
         Unit::Two => {
@@ -116,7 +115,7 @@ fn push_bytes(name: &mut Vec<u8>, white: bool, bytes: &[u8]) -> Result<bool, All
     Ok(after)
 }
 
-/// Room for the text of most names: it grows for longer ones.
+/// Capacity for the text of most names: it grows for longer ones.
 const NAME_ROOM: usize = 32;
 
 /// Reads the text of a name up to its end.
@@ -177,28 +176,30 @@ fn opens_file(ahead: &Reader) -> bool
 fn is_abbreviation(text: &[u8]) -> bool
     ensures { result ≡ spec.is_abbreviation text.now }
 {
-    &text[text.len().saturating_sub(3)..] == b"...".as_slice()
+    text.ends_with_str(b"...")
 }
 
-/// Adds the occurrence of a name.
+/// Adds the occurrence of a name, and answers what is known behind it.
 fn push_name(
     source: &Source,
     occurrences: &mut Vec<Occurrence>,
     name: Name,
     role: OccurrenceRole,
-) -> Result<(), AllocError>
-    ensures { OnOk result (occurrences.new.items ≡ occurrences.old.items
-        ++ occurrence_of source.now.lines (record {
-          text = name.text.items;
-          is_file = name.is_file;
-          role = role;
-          line = name.line;
-        }) ∷ []) }
+    state: ScanState,
+) -> Result<ScanState, AllocError>
+    requires { state.occurrences ≡ length occurrences.old.items }
+    ensures occurrences { OnOk result (occurrences.new.items ≡ occurrences.old.items
+        ++ occurrence_of source.now.lines (spec.in_role role name) ∷ []) }
+    ensures state { IfOk result
+        (λ after. after ≡ record state { occurrences = state.occurrences + 1 }) }
 {
     let is_abbreviation = is_abbreviation(&name.text);
-    let place = source.origin(name.line as usize);
-    occurrences.push(Occurrence::new(name.text, is_abbreviation, name.is_file, role, place))?;
-    Ok(())
+    let origin = source.origin(name.line as usize);
+    occurrences.push(Occurrence::new(name.text, is_abbreviation, name.is_file, role, origin))?;
+    Ok(ScanState {
+        occurrences: occurrences.len(),
+        ..state
+    })
 }
 
 /// Goes on to where the equals sign of a head may be: over white space, `+` and white space.
@@ -237,6 +238,18 @@ fn has_single_equals(ahead: &Reader) -> bool
     matches!(equals_at(&further), Equals::Single)
 }
 
+/// Adds the fault of a name that is not ended.
+#[inline(always)]
+fn push_end_fault(tokens: &mut Vec<Token>, name: &Name) -> Result<(), AllocError>
+    ensures { OnOk result (tokens.new.items ≡ tokens.old.items
+        ++ fault_if (not name.now.is_ended) fault.NameEnd name.now.end) }
+{
+    if !name.is_ended {
+        tokens.push(Token::Fault(FaultKind::NameEnd, name.end))?;
+    }
+    Ok(())
+}
+
 /// Adds a use of this name, and its faults.
 fn push_use(
     tokens: &mut Vec<Token>,
@@ -249,9 +262,7 @@ fn push_use(
         ++ fault_if has_single_equals fault.NameEquals name.now.line) }
 {
     tokens.push(Token::UseOf(number, name.end))?;
-    if !name.is_ended {
-        tokens.push(Token::Fault(FaultKind::NameEnd, name.end))?;
-    }
+    push_end_fault(tokens, name)?;
     if has_single_equals {
         tokens.push(Token::Fault(FaultKind::NameEquals, name.line))?;
     }
@@ -260,28 +271,27 @@ fn push_use(
 
 /// Reads a use.
 pub fn use_of_name(
-    alloc: Global,
     source: &Source,
     output: &mut LexerOutput,
     ahead: &mut Reader,
     state: ScanState,
 ) -> Result<ScanState, AllocError>
     requires { state.occurrences ≡ length output.old.occurrences.items }
-    ensures read { IfOk result
-        (λ after. IsRead output.old.tokens.items output.new.tokens.items ahead.old ahead.new after
-        (spec.use_of_name state ahead.old)) }
-    ensures names { OnOk result
-        (AddsOccurrence source.now.lines output.old.occurrences.items output.new.occurrences.items
-        (spec.use_of_name state ahead.old).name) }
+    ensures { IfOk result (λ after. ReadsLexeme source.now.lines output.old output.new
+        ahead.old ahead.new after (spec.use_of_name state ahead.old)) }
 {
-    let name = read_name(alloc, ahead, state.last)?;
+    let number = state.occurrences;
+    let name = read_name(*output.occurrences.allocator(), ahead, state.last)?;
     let equals = has_single_equals(ahead);
-    push_use(&mut output.tokens, &name, state.occurrences, equals)?;
-    push_name(source, &mut output.occurrences, name, OccurrenceRole::Use)?;
-    Ok(ScanState {
-        occurrences: output.occurrences.len(),
-        ..state.elsewhere()
-    })
+    push_use(&mut output.tokens, &name, number, equals)?;
+    let after = push_name(
+        source,
+        &mut output.occurrences,
+        name,
+        OccurrenceRole::Use,
+        state.elsewhere(),
+    )?;
+    Ok(after)
 }
 
 /// Goes on behind the head of a definition, if one is here, and answers the line on which it ends.
@@ -319,31 +329,20 @@ fn mention(
     requires { state.occurrences ≡ length output.old.occurrences.items }
     ensures tokens { OnOk result (output.new.tokens.items
         ≡ output.old.tokens.items ++ fault_if (not name.is_ended) fault.NameEnd name.end) }
-    ensures names { OnOk result (output.new.occurrences.items ≡ output.old.occurrences.items
-        ++ occurrence_of source.now.lines (record {
-          text = name.text.items;
-          is_file = name.is_file;
-          role = role.Mention;
-          line = name.line;
-        }) ∷ []) }
+    ensures occurrences { OnOk result (output.new.occurrences.items ≡ output.old.occurrences.items
+        ++ occurrence_of source.now.lines (spec.in_role role.Mention name) ∷ []) }
     ensures state { IfOk result
         (λ after. after ≡ record state { occurrences = state.occurrences + 1 }) }
 {
-    if !name.is_ended {
-        output
-            .tokens
-            .push(Token::Fault(FaultKind::NameEnd, name.end))?;
-    }
-    push_name(
+    push_end_fault(&mut output.tokens, &name)?;
+    let after = push_name(
         source,
         &mut output.occurrences,
         name,
         OccurrenceRole::Mention,
+        state,
     )?;
-    Ok(ScanState {
-        occurrences: output.occurrences.len(),
-        ..state
-    })
+    Ok(after)
 }
 
 /// Adds the head of a definition, which ends on this line.
@@ -357,13 +356,8 @@ fn definition(
     requires { state.occurrences ≡ length output.old.occurrences.items }
     ensures tokens { OnOk result (output.new.tokens.items
         ≡ output.old.tokens.items ++ token.NamedPart state.occurrences line ∷ []) }
-    ensures names { OnOk result (output.new.occurrences.items ≡ output.old.occurrences.items
-        ++ occurrence_of source.now.lines (record {
-          text = name.text.items;
-          is_file = name.is_file;
-          role = role.Definition;
-          line = name.line;
-        }) ∷ []) }
+    ensures occurrences { OnOk result (output.new.occurrences.items ≡ output.old.occurrences.items
+        ++ occurrence_of source.now.lines (spec.in_role role.Definition name) ∷ []) }
     ensures state { IfOk result
         (λ after. after ≡ record (in_mode mode.CPart state)
         { occurrences = state.occurrences + 1 }) }
@@ -371,35 +365,28 @@ fn definition(
     output
         .tokens
         .push(Token::NamedPart(state.occurrences, line))?;
-    push_name(
+    let after = push_name(
         source,
         &mut output.occurrences,
         name,
         OccurrenceRole::Definition,
+        state.in_mode(Mode::CPart),
     )?;
-    Ok(ScanState {
-        occurrences: output.occurrences.len(),
-        ..state.in_mode(Mode::CPart)
-    })
+    Ok(after)
 }
 
 /// Reads a mention, or the head of a definition.
 pub fn name_in_documentation(
-    alloc: Global,
     source: &Source,
     output: &mut LexerOutput,
     ahead: &mut Reader,
     state: ScanState,
 ) -> Result<ScanState, AllocError>
     requires { state.occurrences ≡ length output.old.occurrences.items }
-    ensures read { IfOk result
-        (λ after. IsRead output.old.tokens.items output.new.tokens.items ahead.old ahead.new after
-        (spec.name_in_documentation state ahead.old)) }
-    ensures names { OnOk result
-        (AddsOccurrence source.now.lines output.old.occurrences.items output.new.occurrences.items
-        (spec.name_in_documentation state ahead.old).name) }
+    ensures { IfOk result (λ after. ReadsLexeme source.now.lines output.old output.new
+        ahead.old ahead.new after (spec.name_in_documentation state ahead.old)) }
 {
-    let name = read_name(alloc, ahead, state.last)?;
+    let name = read_name(*output.occurrences.allocator(), ahead, state.last)?;
     if !name.is_ended {
         let after = mention(source, output, name, state)?;
         return Ok(after);

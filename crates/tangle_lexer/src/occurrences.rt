@@ -22,7 +22,7 @@ pub struct Occurrence {
     is_abbreviation: bool,
     is_file: bool,
     role: OccurrenceRole,
-    place: Origin,
+    origin: Origin,
 }
 
 impl Model for Occurrence {
@@ -35,7 +35,7 @@ impl Model for Occurrence {
       is_abbreviation = o.is_abbreviation;
       is_file = o.is_file;
       role = o.role;
-      place = o.place;
+      origin = o.origin;
     } };
 }
 
@@ -46,14 +46,14 @@ impl Occurrence {
         is_abbreviation: bool,
         is_file: bool,
         role: OccurrenceRole,
-        place: Origin,
+        origin: Origin,
     ) -> Self
         ensures { result ≡ record {
           text = text.items;
           is_abbreviation = is_abbreviation;
           is_file = is_file;
           role = role;
-          place = place;
+          origin = origin;
         } }
     {
         Occurrence {
@@ -61,7 +61,7 @@ impl Occurrence {
             is_abbreviation,
             is_file,
             role,
-            place,
+            origin,
         }
     }
 
@@ -95,9 +95,9 @@ impl Occurrence {
     }
 
     /// The line of its first byte.
-    pub fn place(&self) -> Origin
-        ensures { result ≡ self.now.place }
+    pub fn origin(&self) -> Origin
+        ensures { result ≡ self.now.origin }
     {
-        self.place
+        self.origin
     }
 }

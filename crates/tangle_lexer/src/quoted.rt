@@ -1,24 +1,22 @@
 //! Quoted and verbatim texts.
-ghost use Rattle.std.specs.Prelude.{true, ◌≡◌, ◌≤◌, ◌++◌, ℕ, List, IfOk, OnOk, IsSome, ◌∷◌, drop};
-ghost use Rattle.tangle_lexer.specs.Ahead.{IsFront, IsRead};
-ghost use Rattle.tangle_lexer.specs.Text.{Cell, byte_at, line_at, front_cell, span_at};
-ghost use Rattle.tangle_lexer.specs.Regions.{is_text, region_end, count_before};
+ghost use Rattle.std.specs.Prelude.{true, ◌≡◌, ◌≤◌, ◌++◌, ℕ, List, IfOk, OnOk, ◌∷◌, drop};
+ghost use Rattle.tangle_text.specs.Ahead.{IsFront};
+ghost use Rattle.tangle_lexer.specs.Reads.{IsRead};
+ghost use Rattle.tangle_text.specs.Text.{Cell, byte_at, line_at, front_cell, span_at};
+ghost use Rattle.tangle_text.specs.Regions.{is_text, region_end};
 ghost use Rattle.tangle_lexer.specs.declared.tokens.Token.{Token as TokenRead};
-ghost use Rattle.tangle_lexer.specs.declared.regions.Region.TheVariants as region;
+ghost use Rattle.tangle_text.specs.declared.regions.Region.TheVariants as region;
 ghost use Rattle.tangle_lexer.specs.declared.tokens.TextKind.TheVariants as text_kind;
 ghost use Rattle.tangle_lexer.specs.declared.tokens.Token.TheVariants as token;
-ghost use Rattle.tangle_lexer.specs.Bytes as byte;
+ghost use Rattle.tangle_text.specs.Bytes as byte;
 ghost use Rattle.tangle_lexer.specs.Quoted as spec;
 
-use crate::ahead::{Front, Reader};
-use crate::bytes::holds;
 use crate::comments::has_end_code;
 use crate::modes::{IncludeState, ScanState};
-use crate::regions::{Region, Unit, unit_of};
-use crate::spans::Span;
 use crate::tokens::{TextKind, Token};
 use std::alloc::AllocError;
 use tangle_lines::FaultKind;
+use tangle_text::{Front, Reader, Region, Span, Unit, holds, unit_of};
 
 /// What kind of text a region is.
 fn kind_in(region: Region) -> TextKind
@@ -154,8 +152,7 @@ pub fn quoted_text(
 ) -> Result<ScanState, AllocError>
     requires { is_text region ≡ true }
     ensures { IfOk result (λ after. IsRead tokens.old.items tokens.new.items ahead.old ahead.new
-        after
-        (spec.quoted_text region close state ahead.old)) }
+        after (spec.quoted_text region close state ahead.old)) }
 {
     let opening = ahead.column();
     ahead.advance();
@@ -242,8 +239,7 @@ pub fn verbatim_text(
     state: ScanState,
 ) -> Result<ScanState, AllocError>
     ensures { IfOk result (λ after. IsRead tokens.old.items tokens.new.items ahead.old ahead.new
-        after
-        (spec.verbatim_text state ahead.old)) }
+        after (spec.verbatim_text state ahead.old)) }
 {
     ahead.pass(Unit::Two);
     push_verbatim(tokens, ahead, state.last)?;

@@ -1,21 +1,19 @@
 //! Runs of words, white space, signs and line ends, which are most of C text.
 ghost use Rattle.std.specs.Prelude.{◌≡◌, ◌≤◌, ◌++◌, false, length, IfOk, IfSome, OnOk};
 ghost use Rattle.std.specs.List.{list_any};
-ghost use Rattle.tangle_lexer.specs.Ahead.{IsRead};
+ghost use Rattle.tangle_lexer.specs.Reads.{IsRead};
 ghost use Rattle.tangle_lexer.specs.Simple.{IsSimple, simple_kind};
 ghost use Rattle.tangle_lexer.specs.Simple as spec;
 ghost use Rattle.tangle_lexer.specs.Steps.{c_lexeme, tokens_from, occurrences_from};
 ghost use Rattle.tangle_lexer.specs.Heads.{is_head};
 
-use crate::ahead::Reader;
-use crate::bytes::{is_white, is_word_byte};
 use crate::modes::{Mode, ScanState};
-use crate::regions::Unit;
 use crate::steps::{line_end, sign, white_space, word};
 use crate::tokens::Token;
 use std::alloc::AllocError;
+use tangle_text::{Reader, Unit, is_white, is_word_byte};
 
-/// What is in most places of C text.
+/// What is in most positions of C text.
 #[derive(Clone, Copy)]
 pub enum Simple {
     Word,
@@ -93,8 +91,7 @@ fn simple_step(
 ) -> Result<ScanState, AllocError>
     requires { IsSimple ahead.old simple }
     ensures { IfOk result (λ after. IsRead tokens.old.items tokens.new.items ahead.old ahead.new
-        after
-        (c_lexeme (simple_kind simple) state ahead.old)) }
+        after (c_lexeme (simple_kind simple) state ahead.old)) }
 {
     match simple {
         Simple::Word => word(tokens, ahead, state),
@@ -124,7 +121,7 @@ pub fn read_simple(
         ≡ tokens.old.items ++ tokens_from from ahead.old) }
     ensures no_head { list_any is_head tokens.old.items ≡ false →
         OnOk result (list_any is_head tokens.new.items ≡ false) }
-    ensures names { IfOk result
+    ensures occurrences { IfOk result
         (λ after. occurrences_from after ahead.new ≡ occurrences_from from ahead.old) }
     ensures count { IfOk result (λ after. after.occurrences ≡ from.occurrences) }
     ensures shorter { OnOk result (length ahead.new ≤ length ahead.old) }
@@ -132,7 +129,7 @@ pub fn read_simple(
     if !is_c_text(from.mode) {
         return Ok(from);
     }
-    // The place and what is known there stay in registers: both are handed back at the end alone.
+    // The position and what is known there stay in registers: both are returned at the end alone.
     let mut here = ahead.copy();
     let mut include = from.include;
     while let Some(simple) = simple_at(&here) {

@@ -1,27 +1,27 @@
-//! What is at a place, by the mode.
-ghost use Rattle.std.specs.Prelude.{◌≡◌, ◌++◌, [], ◌∷◌, length, drop, IfOk, OnOk, IsSome};
-ghost use Rattle.tangle_lexer.specs.Ahead.{AddsOccurrence, IsFront, IsRead};
-ghost use Rattle.tangle_lexer.specs.Text.{byte_at, line_at, span_at};
-ghost use Rattle.tangle_lexer.specs.Regions.{count_before, more_by};
-ghost use Rattle.tangle_lexer.specs.declared.regions.Region.TheVariants as region;
+//! What is at a position, by the mode.
+ghost use Rattle.std.specs.Prelude.{◌≡◌, ◌≢◌, [], ◌∷◌, length, drop, IfOk, IsSome, None};
+ghost use Rattle.tangle_text.specs.Ahead.{IsFront};
+ghost use Rattle.tangle_lexer.specs.Reads.{IsRead, ReadsLexeme};
+ghost use Rattle.tangle_text.specs.Text.{byte_at, line_at, span_at};
+ghost use Rattle.tangle_text.specs.Regions.{count_before, more_by};
+ghost use Rattle.tangle_text.specs.declared.regions.Region.TheVariants as region;
 ghost use Rattle.tangle_lexer.specs.Lexemes.{in_mode, lexeme_of, white_lexeme};
 ghost use Rattle.tangle_lexer.specs.declared.tokens.TextKind.TheVariants as text_kind;
 ghost use Rattle.tangle_lexer.specs.declared.tokens.Token.TheVariants as token;
+ghost use Rattle.tangle_lexer.specs.declared.token_kinds.ControlCode.TheVariants as control_code;
 ghost use Rattle.tangle_lexer.specs.declared.token_kinds.TokenKind.TheVariants as token_kinds;
 ghost use Rattle.tangle_lexer.specs.Steps as spec;
 
-use crate::ahead::{Front, Reader};
-use crate::bytes::{holds, is_section_start};
 use crate::comments::{block_comment, control_text, line_comment};
 use crate::constants::ascii_constant;
 use crate::modes::{IncludeState, Mode, ScanState};
 use crate::names::{LexerOutput, name_in_documentation, use_of_name};
 use crate::quoted::{quoted_text, verbatim_text};
-use crate::regions::{Region, Unit};
 use crate::token_kinds::{ControlCode, TokenKind, code_at, kind_by};
 use crate::tokens::{TextKind, Token};
-use std::alloc::{AllocError, Global};
+use std::alloc::AllocError;
 use tangle_lines::{FaultKind, Source};
+use tangle_text::{Front, Reader, Region, Unit, holds, is_section_start};
 
 /// Begins a section: its `@` is read.
 fn section_start(
@@ -30,8 +30,7 @@ fn section_start(
     state: ScanState,
 ) -> Result<ScanState, AllocError>
     ensures { IfOk result (λ after. IsRead tokens.old.items tokens.new.items ahead.old ahead.new
-        after
-        (spec.section_start state)) }
+        after (spec.section_start state)) }
 {
     tokens.push(Token::Section)?;
     ahead.advance();
@@ -55,8 +54,7 @@ fn limbo(
 ) -> Result<ScanState, AllocError>
     requires { IsFront ahead.old front }
     ensures { IfOk result (λ after. IsRead tokens.old.items tokens.new.items ahead.old ahead.new
-        after
-        (spec.limbo_lexeme state ahead.old)) }
+        after (spec.limbo_lexeme state ahead.old)) }
 {
     if is_section_start(front.byte, front.next) {
         return section_start(tokens, ahead, state);
@@ -78,8 +76,7 @@ fn start_block(
     mode: Mode,
 ) -> Result<ScanState, AllocError>
     ensures { IfOk result (λ after. IsRead tokens.old.items tokens.new.items ahead.old ahead.new
-        after
-        (lexeme_of (head ∷ []) 1 (in_mode mode state))) }
+        after (lexeme_of (head ∷ []) 1 (in_mode mode state))) }
 {
     tokens.push(head)?;
     ahead.pass(Unit::Two);
@@ -88,7 +85,6 @@ fn start_block(
 
 /// Reads a control code of documentation.
 fn documentation_code(
-    alloc: Global,
     source: &Source,
     output: &mut LexerOutput,
     ahead: &mut Reader,
@@ -96,12 +92,8 @@ fn documentation_code(
     code: ControlCode,
 ) -> Result<ScanState, AllocError>
     requires { state.occurrences ≡ length output.old.occurrences.items }
-    ensures read { IfOk result
-        (λ after. IsRead output.old.tokens.items output.new.tokens.items ahead.old ahead.new after
-        (spec.documentation_code code state ahead.old)) }
-    ensures names { OnOk result
-        (AddsOccurrence source.now.lines output.old.occurrences.items output.new.occurrences.items
-        (spec.documentation_code code state ahead.old).name) }
+    ensures { IfOk result (λ after. ReadsLexeme source.now.lines output.old output.new
+        ahead.old ahead.new after (spec.documentation_code code state ahead.old)) }
 {
     let line = ahead.line(state.last);
     let tokens = &mut output.tokens;
@@ -113,37 +105,12 @@ fn documentation_code(
         ControlCode::UnnamedPart => {
             start_block(tokens, ahead, state, Token::UnnamedPart(line), Mode::CPart)
         }
-        ControlCode::Name => name_in_documentation(alloc, source, output, ahead, state),
+        ControlCode::Name => name_in_documentation(source, output, ahead, state),
         _ => {
             ahead.pass(Unit::Two);
             Ok(state)
         }
     }
-}
-
-/// Documentation.
-fn documentation(
-    alloc: Global,
-    source: &Source,
-    output: &mut LexerOutput,
-    ahead: &mut Reader,
-    state: ScanState,
-    front: Front,
-) -> Result<ScanState, AllocError>
-    requires front { IsFront ahead.old front }
-    requires names { state.occurrences ≡ length output.old.occurrences.items }
-    ensures read { IfOk result
-        (λ after. IsRead output.old.tokens.items output.new.tokens.items ahead.old ahead.new after
-        (spec.documentation_lexeme state ahead.old)) }
-    ensures names { OnOk result
-        (AddsOccurrence source.now.lines output.old.occurrences.items output.new.occurrences.items
-        (spec.documentation_lexeme state ahead.old).name) }
-{
-    if holds(b'@', front.byte) {
-        return documentation_code(alloc, source, output, ahead, state, code_at(front.next));
-    }
-    prose(ahead);
-    Ok(state)
 }
 
 /// Reads one sign, which has so many bytes.
@@ -172,8 +139,7 @@ fn code_token(
     after: ScanState,
 ) -> Result<ScanState, AllocError>
     ensures { IfOk result (λ state. IsRead tokens.old.items tokens.new.items ahead.old ahead.new
-        state
-        (lexeme_of (token ∷ []) 1 after)) }
+        state (lexeme_of (token ∷ []) 1 after)) }
 {
     tokens.push(token)?;
     ahead.pass(Unit::Two);
@@ -188,8 +154,7 @@ fn code_fault(
     state: ScanState,
 ) -> Result<ScanState, AllocError>
     ensures { IfOk result (λ after. IsRead tokens.old.items tokens.new.items ahead.old ahead.new
-        after
-        (white_lexeme [] (token.Fault kind (line_at state.last ahead.old) ∷ []) 1 state)) }
+        after (white_lexeme [] (token.Fault kind (line_at state.last ahead.old) ∷ []) 1 state)) }
 {
     tokens.push(Token::White)?;
     tokens.push(Token::Fault(kind, ahead.line(state.last)))?;
@@ -197,33 +162,26 @@ fn code_fault(
     Ok(state)
 }
 
-/// Reads a control code of C text.
+/// Reads a control code of C text that opens no name.
 fn c_code(
-    alloc: Global,
-    source: &Source,
-    output: &mut LexerOutput,
+    tokens: &mut Vec<Token>,
     ahead: &mut Reader,
     state: ScanState,
     code: ControlCode,
 ) -> Result<ScanState, AllocError>
     requires at { IsSome (byte_at 0 ahead.old) }
-    requires names { state.occurrences ≡ length output.old.occurrences.items }
-    ensures read { IfOk result
-        (λ after. IsRead output.old.tokens.items output.new.tokens.items ahead.old ahead.new after
-        (spec.c_code code state ahead.old)) }
-    ensures names { OnOk result
-        (AddsOccurrence source.now.lines output.old.occurrences.items output.new.occurrences.items
-        (spec.c_code code state ahead.old).name) }
+    requires no_name { code ≢ control_code.Name }
+    ensures read { IfOk result (λ after. IsRead tokens.old.items tokens.new.items
+        ahead.old ahead.new after (spec.c_code code state ahead.old)) }
+    ensures no_name { (spec.c_code code state ahead.old).name ≡ None }
 {
     let line = ahead.line(state.last);
-    let tokens = &mut output.tokens;
     match code {
         ControlCode::SectionStart => section_start(tokens, ahead, state),
         ControlCode::DoubleAt => sign(tokens, ahead, Unit::Two, state.elsewhere()),
         ControlCode::Macro => code_fault(tokens, ahead, FaultKind::CodeInC, state),
         ControlCode::Format => code_fault(tokens, ahead, FaultKind::CodeInC, state),
         ControlCode::UnnamedPart => code_fault(tokens, ahead, FaultKind::CodeInC, state),
-        ControlCode::Name => use_of_name(alloc, source, output, ahead, state),
         ControlCode::ControlText => control_text(tokens, ahead, state),
         ControlCode::Verbatim => verbatim_text(tokens, ahead, state),
         ControlCode::Join => code_token(tokens, ahead, Token::Join, state.elsewhere()),
@@ -234,7 +192,7 @@ fn c_code(
             state.elsewhere(),
         ),
         ControlCode::AsciiConstant => ascii_constant(tokens, ahead, state),
-        ControlCode::Other => code_token(tokens, ahead, Token::White, state),
+        ControlCode::Name | ControlCode::Other => code_token(tokens, ahead, Token::White, state),
     }
 }
 
@@ -247,8 +205,7 @@ pub fn word(
 ) -> Result<ScanState, AllocError>
     requires { IsSome (byte_at 0 ahead.old) }
     ensures { IfOk result (λ after. IsRead tokens.old.items tokens.new.items ahead.old ahead.new
-        after
-        (spec.word state ahead.old)) }
+        after (spec.word state ahead.old)) }
 {
     let after = match state.include {
         IncludeState::AfterSign => state.after_word(ahead.begins_include()),
@@ -267,8 +224,7 @@ pub fn white_space(
 ) -> Result<ScanState, AllocError>
     requires { IsSome (byte_at 0 ahead.old) }
     ensures { IfOk result (λ after. IsRead tokens.old.items tokens.new.items ahead.old ahead.new
-        after
-        (spec.white_space state ahead.old)) }
+        after (spec.white_space state ahead.old)) }
 {
     tokens.push(Token::White)?;
     ahead.skip_white();
@@ -283,8 +239,7 @@ pub fn line_end(
     state: ScanState,
 ) -> Result<ScanState, AllocError>
     ensures { IfOk result (λ after. IsRead tokens.old.items tokens.new.items ahead.old ahead.new
-        after
-        (spec.c_lexeme token_kinds.LineEnd state ahead.old)) }
+        after (spec.c_lexeme token_kinds.LineEnd state ahead.old)) }
 {
     tokens.push(Token::LineEnd(ahead.line(state.last)))?;
     ahead.advance();
@@ -294,7 +249,6 @@ pub fn line_end(
 /// Reads C text, by what begins there.
 #[inline(always)]
 fn c_text(
-    alloc: Global,
     source: &Source,
     output: &mut LexerOutput,
     ahead: &mut Reader,
@@ -302,17 +256,16 @@ fn c_text(
     token_kind: TokenKind,
 ) -> Result<ScanState, AllocError>
     requires byte { (token_kind ≡ token_kinds.LineEnd → ⊥) → IsSome (byte_at 0 ahead.old) }
-    requires names { state.occurrences ≡ length output.old.occurrences.items }
-    ensures read { IfOk result
-        (λ after. IsRead output.old.tokens.items output.new.tokens.items ahead.old ahead.new after
-        (spec.c_lexeme token_kind state ahead.old)) }
-    ensures names { OnOk result
-        (AddsOccurrence source.now.lines output.old.occurrences.items output.new.occurrences.items
-        (spec.c_lexeme token_kind state ahead.old).name) }
+    requires occurrences { state.occurrences ≡ length output.old.occurrences.items }
+    ensures { IfOk result (λ after. ReadsLexeme source.now.lines output.old output.new
+        ahead.old ahead.new after (spec.c_lexeme token_kind state ahead.old)) }
 {
     let tokens = &mut output.tokens;
     match token_kind {
-        TokenKind::Control(code) => c_code(alloc, source, output, ahead, state, code),
+        TokenKind::Control(code) => match code {
+            ControlCode::Name => use_of_name(source, output, ahead, state),
+            _ => c_code(tokens, ahead, state, code),
+        },
         TokenKind::BlockComment => block_comment(tokens, ahead, state),
         TokenKind::LineComment => line_comment(tokens, ahead, state),
         TokenKind::DoubleQuote => quoted_text(tokens, ahead, Region::DoubleQuote, b'"', state),
@@ -330,7 +283,6 @@ fn c_text(
 
 /// Reads a macro, by the control code that is there.
 fn macro_code(
-    alloc: Global,
     source: &Source,
     output: &mut LexerOutput,
     ahead: &mut Reader,
@@ -338,21 +290,17 @@ fn macro_code(
     code: ControlCode,
 ) -> Result<ScanState, AllocError>
     requires at { IsSome (byte_at 0 ahead.old) }
-    requires names { state.occurrences ≡ length output.old.occurrences.items }
-    ensures read { IfOk result
-        (λ after. IsRead output.old.tokens.items output.new.tokens.items ahead.old ahead.new after
-        (spec.macro_code code state ahead.old)) }
-    ensures names { OnOk result
-        (AddsOccurrence source.now.lines output.old.occurrences.items output.new.occurrences.items
-        (spec.macro_code code state ahead.old).name) }
+    requires occurrences { state.occurrences ≡ length output.old.occurrences.items }
+    ensures { IfOk result (λ after. ReadsLexeme source.now.lines output.old output.new
+        ahead.old ahead.new after (spec.macro_code code state ahead.old)) }
 {
     match code {
         ControlCode::Macro | ControlCode::UnnamedPart => {
-            documentation_code(alloc, source, output, ahead, state, code)
+            documentation_code(source, output, ahead, state, code)
         }
         ControlCode::Name => {
             let state = state.in_mode(Mode::Documentation);
-            documentation_code(alloc, source, output, ahead, state, code)
+            documentation_code(source, output, ahead, state, code)
         }
         ControlCode::Format => {
             ahead.pass(Unit::Two);
@@ -361,38 +309,13 @@ fn macro_code(
         ControlCode::AllMacros => {
             code_fault(&mut output.tokens, ahead, FaultKind::MisplacedH, state)
         }
-        _ => c_code(alloc, source, output, ahead, state, code),
-    }
-}
-
-/// Reads a macro, by what begins there.
-fn macro_text(
-    alloc: Global,
-    source: &Source,
-    output: &mut LexerOutput,
-    ahead: &mut Reader,
-    state: ScanState,
-    token_kind: TokenKind,
-) -> Result<ScanState, AllocError>
-    requires byte { (token_kind ≡ token_kinds.LineEnd → ⊥) → IsSome (byte_at 0 ahead.old) }
-    requires names { state.occurrences ≡ length output.old.occurrences.items }
-    ensures read { IfOk result
-        (λ after. IsRead output.old.tokens.items output.new.tokens.items ahead.old ahead.new after
-        (spec.macro_lexeme token_kind state ahead.old)) }
-    ensures names { OnOk result
-        (AddsOccurrence source.now.lines output.old.occurrences.items output.new.occurrences.items
-        (spec.macro_lexeme token_kind state ahead.old).name) }
-{
-    match token_kind {
-        TokenKind::Control(code) => macro_code(alloc, source, output, ahead, state, code),
-        _ => c_text(alloc, source, output, ahead, state, token_kind),
+        _ => c_code(&mut output.tokens, ahead, state, code),
     }
 }
 
 /// Reads what is here, in any mode.
 #[tactic(auto, unfolding(crate::specs::Steps::lexeme))]
 pub fn step(
-    alloc: Global,
     source: &Source,
     output: &mut LexerOutput,
     ahead: &mut Reader,
@@ -400,24 +323,26 @@ pub fn step(
     front: Front,
 ) -> Result<ScanState, AllocError>
     requires front { IsFront ahead.old front }
-    requires names { state.occurrences ≡ length output.old.occurrences.items }
-    ensures read { IfOk result
-        (λ after. IsRead output.old.tokens.items output.new.tokens.items ahead.old ahead.new after
-        (spec.lexeme state ahead.old)) }
-    ensures names { OnOk result
-        (AddsOccurrence source.now.lines output.old.occurrences.items output.new.occurrences.items
-        (spec.lexeme state ahead.old).name) }
+    requires occurrences { state.occurrences ≡ length output.old.occurrences.items }
+    ensures { IfOk result (λ after. ReadsLexeme source.now.lines output.old output.new
+        ahead.old ahead.new after (spec.lexeme state ahead.old)) }
 {
     match state.mode {
         Mode::Limbo => limbo(&mut output.tokens, ahead, state, front),
-        Mode::Documentation => documentation(alloc, source, output, ahead, state, front),
+        Mode::Documentation => {
+            if holds(b'@', front.byte) {
+                return documentation_code(source, output, ahead, state, code_at(front.next));
+            }
+            prose(ahead);
+            Ok(state)
+        }
         Mode::CPart => {
             let token_kind = kind_by(state.include, front.byte, front.next);
-            c_text(alloc, source, output, ahead, state, token_kind)
+            c_text(source, output, ahead, state, token_kind)
         }
-        Mode::Macro => {
-            let token_kind = kind_by(state.include, front.byte, front.next);
-            macro_text(alloc, source, output, ahead, state, token_kind)
-        }
+        Mode::Macro => match kind_by(state.include, front.byte, front.next) {
+            TokenKind::Control(code) => macro_code(source, output, ahead, state, code),
+            token_kind => c_text(source, output, ahead, state, token_kind),
+        },
     }
 }

@@ -1,9 +1,27 @@
-//! What begins at a place of the text.
+//! What begins at a position of the text.
 ghost use Rattle.std.specs.Prelude.{◌≡◌, Option};
 ghost use Rattle.tangle_lexer.specs.Steps as spec;
 
-use crate::bytes::{holds, is_white, is_word_byte, lower};
 use crate::modes::IncludeState;
+use tangle_text::{holds, is_white, is_word_byte, lower};
+
+/// What begins at a position of C text or of a macro.
+#[derive(Clone, Copy)]
+pub enum TokenKind {
+    Control(ControlCode),
+    /// `/*`.
+    BlockComment,
+    /// `//`.
+    LineComment,
+    DoubleQuote,
+    Apostrophe,
+    /// `<` behind `#include`.
+    IncludeName,
+    LineEnd,
+    White,
+    Word,
+    Other,
+}
 
 /// A control code: `@` and the byte behind it, where a capital letter counts as the small one.
 #[derive(Clone, Copy)]
@@ -31,24 +49,6 @@ pub enum ControlCode {
     /// `@'`.
     AsciiConstant,
     /// `@` before another byte.
-    Other,
-}
-
-/// What begins at a place of C text or of a macro.
-#[derive(Clone, Copy)]
-pub enum TokenKind {
-    Control(ControlCode),
-    /// `/*`.
-    BlockComment,
-    /// `//`.
-    LineComment,
-    DoubleQuote,
-    Apostrophe,
-    /// `<` behind `#include`.
-    IncludeName,
-    LineEnd,
-    White,
-    Word,
     Other,
 }
 

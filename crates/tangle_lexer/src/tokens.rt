@@ -1,6 +1,6 @@
 //! What the text has, one after another.
-use crate::spans::Span;
 use tangle_lines::FaultKind;
+use tangle_text::Span;
 
 /// What kind of text a range of a line is.
 #[derive(Clone, Copy)]

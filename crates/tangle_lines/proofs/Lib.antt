@@ -1,3 +1,4 @@
+pub mod ByteSetLemmas
 pub mod WaitingLemmas
 pub mod PassingLemmas
 pub mod ReadingLemmas

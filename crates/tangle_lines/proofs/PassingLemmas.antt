@@ -2,14 +2,14 @@
 use Rattle.std.proofs.Common.{◌≡◌, ℕ, ◌+◌, Bool, List, [], ◌∷◌, ◌++◌, drop, Option, None, Some, slice_get, true, false, not, ◌&&◌, cond, refl, sym, ap, ◌∙◌, append-nil, arith}
 use Rattle.tangle_files.specs.Lines.{FileTable}
 use Rattle.tangle_lines.specs.Change.{Change}
-use Rattle.tangle_lines.specs.Faults.{FaultRead}
+use Rattle.tangle_faults.specs.Faults.{FaultRead}
 use Rattle.tangle_lines.specs.Inclusion.{included_name}
 use Rattle.tangle_lines.specs.Reading.{WaitingLine, Line, Reads, plain_step, begins, change_here, waiting_lines, reads_from, before_reads}
 use Rattle.tangle_lines.specs.Waiting.{Makes, PassesOn, awaited, is_awaited}
 use Rattle.tangle_lines.proofs.ReadingLemmas.{at, so_far-plain}
 
 abbrev line_of : WaitingLine → Line
-line_of w = record { bytes = w.bytes; place = w.place; changed = w.changed }
+line_of w = record { bytes = w.bytes; origin = w.origin; changed = w.changed }
 
 -- what is read in all from these lines and from what waits
 abbrev all : FileTable → ℕ → List Change → List Line → List FaultRead → List WaitingLine → ℕ → Reads
@@ -43,10 +43,10 @@ module _ (cs : List Change) (lines : List Line) (ws : List WaitingLine) where
 pub waiting-next : (file : ℕ) (changed : Bool) (depth number next : ℕ) (texts : List (List ℕ)) (text : List ℕ) (rest : List WaitingLine)
     → next ≡ number + 1 → drop number texts ≡ text ∷ drop (number + 1) texts
     → waiting_lines file changed depth (number + 1) (drop number texts) ++ rest
-    ≡ record { bytes = text; place = record { file = file; line = next }; changed = changed; depth = depth } ∷ waiting_lines file changed depth (next + 1) (drop next texts) ++ rest
+    ≡ record { bytes = text; origin = record { file = file; line = next }; changed = changed; depth = depth } ∷ waiting_lines file changed depth (next + 1) (drop next texts) ++ rest
 waiting-next file changed depth number next texts text rest is_next first =
     ap (λ ls. waiting_lines file changed depth (number + 1) ls ++ rest) first
-    ∙ ap (λ k. record { bytes = text; place = record { file = file; line = k }; changed = changed; depth = depth } ∷ waiting_lines file changed depth (k + 1) (drop k texts) ++ rest) (sym is_next)
+    ∙ ap (λ k. record { bytes = text; origin = record { file = file; line = k }; changed = changed; depth = depth } ∷ waiting_lines file changed depth (k + 1) (drop k texts) ++ rest) (sym is_next)
 
 -- one more line was taken
 pub passes-next : (cs : List Change) (lines lines₁ lines₂ : List Line) (ws ws₁ ws₂ : List WaitingLine) (n m : ℕ) (w : WaitingLine)

@@ -1,7 +1,7 @@
 -- Each step of reading takes a line, so reading has as many steps as it needs.
 use Rattle.std.proofs.Common.{◌≡◌, ℕ, zero, suc, ◌+◌, ◌-◌, ◌<◌, ◌≤◌, Bool, true, false, cond, not, ◌&&◌, List, [], ◌∷◌, ◌++◌, length, min, drop, Option, None, Some, refl, sym, ap, ◌∙◌, arith, true≢false, append_assoc, append-nil}
-use Rattle.tangle_lines.specs.declared.faults.FaultKind.TheVariants.{SourceTooLong}
-use Rattle.tangle_lines.specs.Faults.{fault_at, FaultRead}
+use Rattle.tangle_faults.specs.declared.faults.FaultKind.TheVariants.{SourceTooLong}
+use Rattle.tangle_faults.specs.Faults.{fault_at, FaultRead}
 use Rattle.std.proofs.lemmas.Bool.{ltb-true, lt-ltb, false_from_ne_true}
 use Rattle.std.specs.Prelude.{nat_lt}
 use Rattle.tangle_files.specs.Lines.{FileTable}
@@ -43,7 +43,7 @@ module _ (files : FileTable) (change_file : ℕ) where
   step_of-advances [] cs t = tt
   step_of-advances (w ∷ ws) cs t = by (nat_lt t line_limit) refl
     where
-      by : (b : Bool) → nat_lt t line_limit ≡ b → Advances t (cond b (line_step files change_file w ws cs t (change_here cs w)) (Ends (fault_at SourceTooLong (named files w.place) ∷ [])))
+      by : (b : Bool) → nat_lt t line_limit ≡ b → Advances t (cond b (line_step files change_file w ws cs t (change_here cs w)) (Ends (fault_at SourceTooLong (named files w.origin) ∷ [])))
       by true e = line_step-advances w ws cs t (change_here cs w) refl (ltb-true t line_limit e)
       by false e = tt
 
@@ -84,9 +84,9 @@ module _ (files : FileTable) (change_file : ℕ) (ws : List WaitingLine) (cs : L
   reads_from-end = reads_from-step files change_file (at [] cs t)
 
   by_limit : WaitingLine → Bool → Reads
-  by_limit w b = after files change_file (cond b (line_step files change_file w ws cs t (change_here cs w)) (Ends (fault_at SourceTooLong (named files w.place) ∷ []))) (λ s. reads_from files change_file s)
+  by_limit w b = after files change_file (cond b (line_step files change_file w ws cs t (change_here cs w)) (Ends (fault_at SourceTooLong (named files w.origin) ∷ []))) (λ s. reads_from files change_file s)
 
-  reads_from-stop : (w : WaitingLine) → line_limit ≤ t → reads_from files change_file (at (w ∷ ws) cs t) ≡ record { lines = []; faults = fault_at SourceTooLong (named files w.place) ∷ [] }
+  reads_from-stop : (w : WaitingLine) → line_limit ≤ t → reads_from files change_file (at (w ∷ ws) cs t) ≡ record { lines = []; faults = fault_at SourceTooLong (named files w.origin) ∷ [] }
   unfolding by_limit
   reads_from-stop w h = reads_from-step files change_file (at (w ∷ ws) cs t) ∙ ap (by_limit w) (not_below h)
     where
@@ -114,13 +114,13 @@ module _ (files : FileTable) (change_file : ℕ) (start : Reads) (lines : List L
       ∙ (λ i. record { lines = append-nil lines i; faults = faults ++ unused_faults files change_file changes })
 
   module _ (w : WaitingLine) (ws : List WaitingLine) (first : waiting ≡ w ∷ ws) where
-    pub so_far-stop : line_limit ≤ t → start ≡ record { lines = lines; faults = faults ++ fault_at SourceTooLong (named files w.place) ∷ [] }
+    pub so_far-stop : line_limit ≤ t → start ≡ record { lines = lines; faults = faults ++ fault_at SourceTooLong (named files w.origin) ∷ [] }
     unfolding out
     so_far-stop h =
         sym so_far
         ∙ ap (λ ws. before_reads out (reads_from files change_file (at ws changes t))) first
         ∙ ap (before_reads out) (reads_from-stop files change_file ws changes t w h)
-        ∙ (λ i. record { lines = append-nil lines i; faults = faults ++ fault_at SourceTooLong (named files w.place) ∷ [] })
+        ∙ (λ i. record { lines = append-nil lines i; faults = faults ++ fault_at SourceTooLong (named files w.origin) ∷ [] })
 
     -- a step gives more, and reading goes on from where it leads
     step_out : (more : Reads) (s : State) → line_step files change_file w ws changes t (change_here changes w) ≡ Goes more s

@@ -1,9 +1,9 @@
 -- Small projects of which the source comes out as the rules of reading say, by computing the definition.
 use Rattle.std.proofs.Common.{◌≡◌, ℕ, zero, suc, List, [], ◌∷◌, None, Some, true, false, refl}
 use Rattle.std.specs.Prelude.{codes}
-use Rattle.tangle_lines.specs.declared.faults.FaultKind.TheVariants.{ChangeMismatch, EmptyOld, ChangeUnused, StrayMark, MissingY, MissingZ, IncludeNoName, IncludeMissing, IncludeTooDeep}
+use Rattle.tangle_faults.specs.declared.faults.FaultKind.TheVariants.{ChangeMismatch, EmptyOld, ChangeUnused, StrayMark, MissingY, MissingZ, IncludeNoName, IncludeMissing, IncludeTooDeep}
 use Rattle.tangle_files.specs.Lines.{cut}
-use Rattle.tangle_lines.specs.Faults.{fault_at, fault_about, fault_counting}
+use Rattle.tangle_faults.specs.Faults.{fault_at, fault_about, fault_counting}
 use Rattle.tangle_lines.specs.Reading.{Line, Reads, reads, reads_in}
 
 abbrev web : List ℕ
@@ -20,12 +20,12 @@ abbrev changed : List ℕ → List ℕ → Reads
 changed bytes changes = reads ((web, cut bytes) ∷ (change, cut changes) ∷ []) web (Some change)
 
 abbrev line : ℕ → List ℕ → ℕ → Line
-line file bytes n = record { bytes = bytes; place = record { file = file; line = n }; changed = false }
+line file bytes n = record { bytes = bytes; origin = record { file = file; line = n }; changed = false }
 
 abbrev new_line : List ℕ → ℕ → Line
-new_line bytes n = record { bytes = bytes; place = record { file = 1; line = n }; changed = true }
+new_line bytes n = record { bytes = bytes; origin = record { file = 1; line = n }; changed = true }
 
--- a new line replaces an old one, with its own place
+-- a new line replaces an old one, with its own origin
 line_replaced : changed (codes "@ A.\n@c\nint a;\nint b;\n") (codes "@x\nint a;\n@y\nint z;\n@z\n") ≡ record {
   lines = line 0 (codes "@ A.") 1 ∷ line 0 (codes "@c") 2 ∷ new_line (codes "int z;") 4 ∷ line 0 (codes "int b;") 4 ∷ [];
   faults = [];

@@ -1,6 +1,4 @@
 pub mod Bytes
-pub mod Faults
-pub mod FaultText
 pub mod Change
 pub mod Changes
 pub mod Inclusion

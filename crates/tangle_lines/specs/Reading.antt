@@ -1,12 +1,12 @@
 -- Reading: the source lines and the faults of files, a web and a change file.
 use Rattle.std.specs.Prelude.{ℕ, ◌+◌, ◌-◌, Bool, true, false, ◌==◌, ◌&&◌, not, nat_lt, min, get_or, length, drop, List, [], ◌∷◌, ◌++◌, if◌then◌else◌, suc, zero, Option, None, Some}
 use Rattle.std.specs.Str.{bytes_eq}
-use Rattle.tangle_lines.specs.declared.faults.FaultKind.{FaultKind}
-use Rattle.tangle_lines.specs.declared.faults.FaultKind.TheVariants.{IncludeNoName, IncludeMissing, IncludeTooDeep, ChangeMismatch, SourceTooLong, ChangeUnused}
-use Rattle.tangle_lines.specs.declared.faults.Origin.{Origin}
+use Rattle.tangle_faults.specs.declared.faults.FaultKind.{FaultKind}
+use Rattle.tangle_faults.specs.declared.faults.FaultKind.TheVariants.{IncludeNoName, IncludeMissing, IncludeTooDeep, ChangeMismatch, SourceTooLong, ChangeUnused}
+use Rattle.tangle_faults.specs.declared.faults.Origin.{Origin}
 use Rattle.tangle_files.specs.Lines.{FileTable, file_number, number_of, name_at, lines_at}
 use Rattle.tangle_files.specs.Roles.{RolesRead}
-use Rattle.tangle_lines.specs.Faults.{PlaceRead, FaultRead, fault_at, fault_about, fault_counting}
+use Rattle.tangle_faults.specs.Faults.{PlaceRead, FaultRead, fault_at, fault_about, fault_counting}
 use Rattle.tangle_lines.specs.Change.{Change}
 use Rattle.tangle_lines.specs.Changes.{Found, nothing, changes_of}
 use Rattle.tangle_lines.specs.Inclusion.{included_name}
@@ -19,21 +19,21 @@ depth_limit = 10
 abbrev pub line_limit : ℕ
 line_limit = 2000000
 
--- a place with its file's name
+-- an origin with its file's name
 abbrev pub named : FileTable → Origin → PlaceRead
 named files origin = record { file = name_at files origin.file; line = origin.line }
 
 -- a line that waits to be read; it is changed if it comes from the change file, or from a file that a changed line includes
 pub record WaitingLine : Type 0 where
   pub bytes : List ℕ
-  pub place : Origin
+  pub origin : Origin
   pub changed : Bool
   pub depth : ℕ
 
 -- a source line
 pub record Line : Type 0 where
   pub bytes : List ℕ
-  pub place : Origin
+  pub origin : Origin
   pub changed : Bool
 
 -- what is read: source lines, and the faults of change file and reading
@@ -48,13 +48,13 @@ before_reads first rest = record { lines = first.lines ++ rest.lines; faults = f
 abbrev pub waiting_lines : ℕ → Bool → ℕ → ℕ → List (List ℕ) → List WaitingLine
 waiting_lines file changed depth n [] = []
 waiting_lines file changed depth n (l ∷ ls) =
-    record { bytes = l; place = record { file = file; line = n }; changed = changed; depth = depth } ∷ waiting_lines file changed depth (n + 1) ls
+    record { bytes = l; origin = record { file = file; line = n }; changed = changed; depth = depth } ∷ waiting_lines file changed depth (n + 1) ls
 
 -- the new lines of a change
 abbrev pub change_lines : ℕ → ℕ → List (ℕ × List ℕ) → List WaitingLine
 change_lines file depth [] = []
 change_lines file depth (l ∷ ls) =
-    record { bytes = l.1; place = record { file = file; line = l.0 }; changed = true; depth = depth } ∷ change_lines file depth ls
+    record { bytes = l.1; origin = record { file = file; line = l.0 }; changed = true; depth = depth } ∷ change_lines file depth ls
 
 -- the line equals the first old line
 abbrev pub begins : List (List ℕ) → List ℕ → Bool
@@ -93,19 +93,19 @@ pub data Step : Type 0 where
 module _ (files : FileTable) where
   -- the lines that replace an inclusion of the file of this name and number, or the first fault that applies
   abbrev pub included : WaitingLine → List ℕ → Option ℕ → (List WaitingLine × List FaultRead)
-  included w name None = ([], fault_about IncludeMissing (named files w.place) name ∷ [])
+  included w name None = ([], fault_about IncludeMissing (named files w.origin) name ∷ [])
   included w name (Some n) =
       if nat_lt w.depth depth_limit then (waiting_lines n w.changed (w.depth + 1) 1 (lines_at files n), [])
-      else ([], fault_at IncludeTooDeep (named files w.place) ∷ [])
+      else ([], fault_at IncludeTooDeep (named files w.origin) ∷ [])
 
   abbrev pub inclusion : WaitingLine → List ℕ → (List WaitingLine × List FaultRead)
-  inclusion w [] = ([], fault_at IncludeNoName (named files w.place) ∷ [])
+  inclusion w [] = ([], fault_at IncludeNoName (named files w.origin) ∷ [])
   inclusion w (b ∷ bs) = included w (b ∷ bs) (file_number files (b ∷ bs))
 
   -- a line that no change takes is a source line or an inclusion
   abbrev pub plain_step : WaitingLine → List WaitingLine → List Change → ℕ → Option (List ℕ) → Step
   plain_step w ws changes taken None =
-      Goes (record { lines = record { bytes = w.bytes; place = w.place; changed = w.changed } ∷ []; faults = [] })
+      Goes (record { lines = record { bytes = w.bytes; origin = w.origin; changed = w.changed } ∷ []; faults = [] })
       (record { waiting = ws; changes = changes; taken = taken + 1 })
   plain_step w ws changes taken (Some name) =
       Goes (record { lines = []; faults = (inclusion w name).1 })
@@ -138,7 +138,7 @@ module _ (files : FileTable) (change_file : ℕ) where
   step_of [] changes taken = Ends (unused_faults changes)
   step_of (w ∷ ws) changes taken =
       if nat_lt taken line_limit then line_step w ws changes taken (change_here changes w)
-      else Ends (fault_at SourceTooLong (named files w.place) ∷ [])
+      else Ends (fault_at SourceTooLong (named files w.origin) ∷ [])
 
   -- what a step gives, and then what the rest gives
   abbrev pub after : Step → (State → Reads) → Reads
@@ -190,16 +190,12 @@ source_of files roles = with_files files (reads files roles.web roles.change)
 
 -- what is read from a source without that line
 abbrev pub no_line : Line
-no_line = record { bytes = []; place = record { file = 0; line = 0 }; changed = false }
+no_line = record { bytes = []; origin = record { file = 0; line = 0 }; changed = false }
 
 -- the source line of this number, from 0
 abbrev pub line_at : List Line → ℕ → Line
 line_at lines number = get_or lines number no_line
 
--- the place of the source line of this number
-abbrev pub place_at : List Line → ℕ → Origin
-place_at lines number = (line_at lines number).place
-
--- a fault at the source line of this number
-abbrev pub fault_at_line : SourceRead → FaultKind → ℕ → FaultRead
-fault_at_line source kind number = fault_at kind (named source.files (place_at source.lines number))
+-- the origin of the source line of this number
+abbrev pub origin_at : List Line → ℕ → Origin
+origin_at lines number = (line_at lines number).origin

@@ -5,7 +5,7 @@ use Rattle.tangle_lines.specs.declared.waiting.Rest.{Rest}
 use Rattle.tangle_lines.specs.declared.waiting.Rest.TheVariants.{OfFile, OfChange}
 use Rattle.tangle_files.specs.Lines.{FileTable}
 use Rattle.tangle_files.specs.Adding.{most_lines}
-use Rattle.tangle_lines.specs.Faults.{FaultRead}
+use Rattle.tangle_faults.specs.Faults.{FaultRead}
 use Rattle.tangle_lines.specs.Change.{Change}
 use Rattle.tangle_lines.specs.Inclusion.{included_name}
 use Rattle.tangle_lines.specs.Reading.{WaitingLine, Line, Step, waiting_lines, change_lines, plain_step, change_step, reads_from, before_reads, line_limit}

@@ -9,10 +9,11 @@ ghost use Rattle.tangle_lines.specs.Changes.{changes_of as changes_found};
 ghost use Rattle.tangle_lines.specs.declared.changes.ChangePhase.TheVariants.{Outside, InOld};
 ghost use Rattle.tangle_lines.specs.declared.changes.ChangePhase.TheVariants.{InNew};
 
-use crate::faults::{Fault, FaultKind, note};
-use crate::inclusion::is_white_byte;
+use crate::inclusion::WHITE;
+use bstr::ByteSlice;
 use std::alloc::Global;
 use std::marker::Model;
+use tangle_faults::{Fault, FaultKind, note};
 use tangle_files::Line;
 use tangle_streams::NoMemory;
 
@@ -334,5 +335,5 @@ fn line_kind(line: &[u8]) -> LineKind
 fn is_blank(line: &[u8]) -> bool
     ensures { result ≡ list_all is_white line.now }
 {
-    line.iter().all(|b| is_white_byte(*b))
+    line.find_not_byteset(WHITE).is_none()
 }

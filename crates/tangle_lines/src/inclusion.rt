@@ -1,17 +1,18 @@
 //! The name that a line includes.
-ghost use Rattle.std.specs.Prelude.{◌≡◌, ◌==◌, ◌||◌, position};
+ghost use Rattle.std.specs.Prelude.{◌≡◌, ◌==◌, ◌||◌};
 ghost use Rattle.std.specs.List.{before_first};
 ghost use Rattle.std.specs.Option.{option_copied};
 ghost use Rattle.tangle_lines.specs.Bytes.{double_quote, is_white};
 ghost use Rattle.tangle_lines.specs.Inclusion.{name_in, after_white};
 ghost use Rattle.tangle_lines.specs.Inclusion.{included_name as name_of_inclusion};
 
-/// Whether the byte is white space: the space, tab, carriage return, vertical tab or form feed.
-pub(crate) fn is_white_byte(byte: u8) -> bool
-    ensures { result ≡ is_white byte }
-{
-    byte == b' ' || byte == b'\t' || byte == b'\r' || byte == b'\x0b' || byte == b'\x0c'
-}
+use bstr::ByteSlice;
+
+/// White space: the space, tab, carriage return, vertical tab and form feed.
+pub(crate) const WHITE: &[u8] = b" \t\r\x0b\x0c";
+
+/// White space and the quote: a name without quotes ends before the first of these.
+const WHITE_OR_QUOTE: &[u8] = b" \t\r\x0b\x0c\"";
 
 /// The name that a line includes, which may be empty: a line that begins with `@i` or `@I` is an
 /// inclusion. A name in quotes may have white space in it; what follows the name is ignored. Other
@@ -37,49 +38,35 @@ fn inclusion_name(bytes: &[u8]) -> &[u8]
 }
 
 /// The bytes from the first one on that isn't white space.
+// Separate, as the one below, since its search has a table on the stack, and most lines include
+// nothing.
+#[inline(never)]
 fn skip_white(bytes: &[u8]) -> &[u8]
     ensures { result.now ≡ after_white bytes.now }
 {
-    let mut rest = bytes;
-    while let [first, tail @ ..] = rest {
-        if !is_white_byte(*first) {
-            return rest;
-        }
-        rest = tail;
+    match bytes.find_not_byteset(WHITE) {
+        Some(start) => &bytes[start..],
+        None => &[],
     }
-    rest
 }
 
 /// The bytes before the first quote.
 fn before_quote(bytes: &[u8]) -> &[u8]
     ensures { result.now ≡ before_first (λ c. c == double_quote) bytes.now }
 {
-    match first_quote(bytes) {
-        Some(n) => &bytes[..n],
+    match bytes.find_byte(b'"') {
+        Some(end) => &bytes[..end],
         None => bytes,
     }
-}
-
-/// The place of the first quote.
-fn first_quote(bytes: &[u8]) -> Option<usize>
-    ensures { result ≡ position (λ c. c == double_quote) bytes.now }
-{
-    bytes.iter().position(|b| *b == b'"')
 }
 
 /// The bytes before the first white space or quote.
+#[inline(never)]
 fn before_white_or_quote(bytes: &[u8]) -> &[u8]
     ensures { result.now ≡ before_first (λ c. is_white c || (c == double_quote)) bytes.now }
 {
-    match first_white_or_quote(bytes) {
-        Some(n) => &bytes[..n],
+    match bytes.find_byteset(WHITE_OR_QUOTE) {
+        Some(end) => &bytes[..end],
         None => bytes,
     }
-}
-
-/// The place of the first white space or quote.
-fn first_white_or_quote(bytes: &[u8]) -> Option<usize>
-    ensures { result ≡ position (λ c. is_white c || (c == double_quote)) bytes.now }
-{
-    bytes.iter().position(|b| is_white_byte(*b) || *b == b'"')
 }

@@ -13,11 +13,11 @@ ghost use Rattle.tangle_lines.specs.Waiting.{IsPlain, IsUsed, awaited, is_awaite
 ghost use Rattle.tangle_lines.specs.Inclusion.{included_name};
 
 use crate::changes::{Change, changes_of};
-use crate::faults::{Fault, FaultKind, note};
 use crate::inclusion::included_name;
 use crate::source::{Source, SourceLine};
 use crate::waiting::{OpenFile, RawLine, Waiting};
 use std::alloc::Global;
+use tangle_faults::{Fault, FaultKind, note};
 use tangle_files::{Files, Line, Roles};
 use tangle_streams::NoMemory;
 
@@ -94,19 +94,19 @@ fn include<'a, 'c>(
     ensures noted { OnOk result
         (faults.new.items ≡ faults.old.items ++ (inclusion files.entry.now line.now name.now).1) }
 {
-    let place = line.place;
-    let file = files.name_at(place.file);
+    let origin = line.origin;
+    let file = files.name_at(origin.file);
     if name.is_empty() {
-        return note(alloc, FaultKind::IncludeNoName, file, place.line, faults);
+        return note(alloc, FaultKind::IncludeNoName, file, origin.line, faults);
     }
     match files.find(name) {
         None => {
             let kind = FaultKind::IncludeMissing;
-            faults.push(Fault::about(alloc, kind, file, place.line, name)?)?;
+            faults.push(Fault::about(alloc, kind, file, origin.line, name)?)?;
             Ok(())
         }
         Some(_) if line.depth >= DEPTH_LIMIT => {
-            note(alloc, FaultKind::IncludeTooDeep, file, place.line, faults)
+            note(alloc, FaultKind::IncludeTooDeep, file, origin.line, faults)
         }
         Some(number) => {
             let lines = files.lines_at(number);
@@ -133,7 +133,7 @@ fn read_plain<'a, 'c>(
     match included_name(line.text.bytes()) {
         Some(name) => include(alloc, files, waiting, faults, line, name),
         None => {
-            lines.push(SourceLine::new(line.text, line.place, line.is_changed))?;
+            lines.push(SourceLine::new(line.text, line.origin, line.is_changed))?;
             Ok(())
         }
     }
@@ -335,9 +335,9 @@ fn read_on<'a, 'c>(
     let mut taken = 0usize;
     while let Some(line) = waiting.take() {
         if taken >= LINE_LIMIT {
-            let place = line.place;
-            let file = files.name_at(place.file);
-            note(alloc, FaultKind::SourceTooLong, file, place.line, faults)?;
+            let origin = line.origin;
+            let file = files.name_at(origin.file);
+            note(alloc, FaultKind::SourceTooLong, file, origin.line, faults)?;
             return Ok(lines);
         }
         match change_at(changes, &line) {

@@ -1,16 +1,14 @@
 //! The source: what reading gives.
-ghost use Rattle.std.specs.Prelude.{◌≡◌, ◌<◌, ◌≤◌, length, slice_get, IfOk};
+ghost use Rattle.std.specs.Prelude.{◌≡◌, ◌<◌, ◌≤◌, length, slice_get};
 ghost use Rattle.tangle_files.specs.Lines.{name_at};
 ghost use Rattle.tangle_files.specs.Adding.{longest_line, most_files};
-ghost use Rattle.tangle_lines.specs.Reading.{fault_at_line, line_at, line_limit, place_at};
+ghost use Rattle.tangle_lines.specs.Reading.{line_at, line_limit, origin_at};
 
-use crate::faults::{Fault, FaultKind, Origin};
-use std::alloc::Global;
 use std::marker::Model;
+use tangle_faults::{Fault, Origin};
 use tangle_files::{Files, Line};
-use tangle_streams::NoMemory;
 
-/// A source line, with its place, and whether it is from the change file. The place is as its two
+/// A source line, with its origin, and whether it is from the change file. The origin is as its two
 /// numbers, so that a line takes 16 bytes.
 #[derive(Drop)]
 pub(crate) struct SourceLine<'a> {
@@ -27,18 +25,18 @@ impl<'a> Model for SourceLine<'a> {
 
     ghost view = { λ l. record {
       bytes = l.text.now;
-      place =
+      origin =
           record { file = l.file; line = l.number };
       changed = l.is_changed;
     } };
 }
 
 impl<'a> SourceLine<'a> {
-    /// The line of this place.
-    pub(crate) fn new(text: &'a Line, place: Origin, is_changed: bool) -> Self
-        ensures { result ≡ record { bytes = text.now; place = place; changed = is_changed } }
+    /// The line of this origin.
+    pub(crate) fn new(text: &'a Line, origin: Origin, is_changed: bool) -> Self
+        ensures { result ≡ record { bytes = text.now; origin = origin; changed = is_changed } }
     {
-        let Origin { file, line: number } = place;
+        let Origin { file, line: number } = origin;
         SourceLine {
             text,
             number,
@@ -47,8 +45,8 @@ impl<'a> SourceLine<'a> {
         }
     }
 
-    fn place(&self) -> Origin
-        ensures { result ≡ self.now.place }
+    fn origin(&self) -> Origin
+        ensures { result ≡ self.now.origin }
     {
         Origin {
             file: self.file,
@@ -113,25 +111,13 @@ impl<'a> Source<'a> {
         }
     }
 
-    /// A fault at the line of this number, from 0.
-    ///
-    /// # Errors
-    ///
-    /// `NoMemory`.
-    pub fn fault_at(&self, alloc: Global, kind: FaultKind, number: usize) -> Result<Fault, NoMemory>
-        ensures { IfOk result (λ fault. fault ≡ fault_at_line self.now kind number) }
-    {
-        let origin = self.origin(number);
-        Fault::at(alloc, kind, self.file_name(origin), origin.line)
-    }
-
     /// Where the line of this number, from 0, is in the files: behind the last line, line 0 of file
     /// 0.
     pub fn origin(&self, number: usize) -> Origin
-        ensures { result ≡ place_at self.now.lines number }
+        ensures { result ≡ origin_at self.now.lines number }
     {
         match self.lines.get(number) {
-            Some(line) => line.place(),
+            Some(line) => line.origin(),
             None => Origin { file: 0, line: 0 },
         }
     }
@@ -155,7 +141,7 @@ impl<'a> Source<'a> {
         self.files.count()
     }
 
-    /// The name of the file of a place: no bytes if the table has no such file.
+    /// The name of the file of an origin: no bytes if the table has no such file.
     pub fn file_name(&self, origin: Origin) -> &'a [u8]
         ensures { result.now ≡ name_at self.now.files origin.file }
     {

@@ -6,11 +6,11 @@ ghost use Rattle.tangle_lines.specs.Reading.{WaitingLine, waiting_lines, change_
 ghost use Rattle.tangle_lines.specs.Waiting.{PassesOn};
 
 use crate::changes::Change;
-use crate::faults::Origin;
 use crate::reading::{awaited_line, is_source_line};
 use crate::source::SourceLine;
 use std::alloc::Global;
 use std::marker::Model;
+use tangle_faults::Origin;
 use tangle_files::Line;
 use tangle_streams::NoMemory;
 
@@ -20,7 +20,7 @@ use tangle_streams::NoMemory;
 #[derive(Drop)]
 pub(crate) struct RawLine<'a> {
     pub(crate) text: &'a Line,
-    pub(crate) place: Origin,
+    pub(crate) origin: Origin,
     pub(crate) is_changed: bool,
     pub(crate) depth: u8,
 }
@@ -32,7 +32,7 @@ impl<'a> Model for RawLine<'a> {
 
     ghost view = { λ r. record {
       bytes = r.text.now;
-      place = r.place;
+      origin = r.origin;
       changed = r.is_changed;
       depth = r.depth;
     } };
@@ -106,7 +106,7 @@ impl<'a, 'c> OpenFile<'a, 'c> {
                     self.rest = Rest::OfFile(lines, number);
                     Some(RawLine {
                         text,
-                        place: Origin {
+                        origin: Origin {
                             file: self.file,
                             line: number,
                         },
@@ -121,7 +121,7 @@ impl<'a, 'c> OpenFile<'a, 'c> {
                     self.rest = Rest::OfChange(others);
                     Some(RawLine {
                         text,
-                        place: Origin {
+                        origin: Origin {
                             file: self.file,
                             line: *line,
                         },
@@ -156,11 +156,11 @@ impl<'a, 'c> OpenFile<'a, 'c> {
             if (number - read) as usize >= room || !is_source_line(awaited, text.bytes()) {
                 break;
             }
-            let place = Origin {
+            let origin = Origin {
                 file: self.file,
                 line: next,
             };
-            lines.push(SourceLine::new(text, place, self.is_changed))?;
+            lines.push(SourceLine::new(text, origin, self.is_changed))?;
             number = next;
         }
         self.rest = Rest::OfFile(texts, number);

@@ -3,8 +3,8 @@ use Rattle.std.proofs.Common.{◌≡◌, ◌<◌, ◌+◌, ◌∙◌, ◌&&◌, 
 use Rattle.std.specs.Prelude.{nat_lt}
 use Rattle.std.specs.List.{position_or_len}
 use Rattle.std.proofs.lemmas.List.{get_or-map, length-map, map_push, take_more}
-use Rattle.tangle_lines.specs.declared.faults.Origin.{Origin}
-use Rattle.tangle_lines.specs.Faults.{FaultRead}
+use Rattle.tangle_faults.specs.declared.faults.Origin.{Origin}
+use Rattle.tangle_faults.specs.Faults.{FaultRead}
 use Rattle.tangle_lexer.specs.declared.occurrences.OccurrenceRole.TheVariants.{Mention}
 use Rattle.tangle_lexer.specs.Occurrences.{OccurrenceRead}
 use Rattle.tangle_names.specs.Names.{Text, Meaning, full_names, meaning, means}
@@ -14,9 +14,9 @@ use Rattle.tangle_names.specs.Resolution.{IsResolutionOf, IsWellKept, table_read
 use Rattle.tangle_names.specs.Resolving.{first_file_number, first_number, meanings, names_in_order, names_of, resolution, resolve}
 use Rattle.tangle_names.proofs.TableLemmas.{map-map}
 
--- an occurrence that is written so, without role and place
+-- an occurrence that is written so, without role and origin
 plain : Text × Bool × Bool → OccurrenceRead
-plain w = record { text = w.0; is_abbreviation = w.1; is_file = w.2; role = Mention; place = record { file = 0; line = 0 } }
+plain w = record { text = w.0; is_abbreviation = w.1; is_file = w.2; role = Mention; origin = record { file = 0; line = 0 } }
 
 bare : OccurrenceRead → OccurrenceRead
 unfolding plain
@@ -28,9 +28,9 @@ position_or_len-map q f (x ∷ xs) = ap (λ n. cond (not (q (f x))) (1 + n) 0) (
 
 position-map : {X Y : Type 0} (q : Y → Bool) (f : X → Y) (xs : List X) → position q (map f xs) ≡ position (λ x. q (f x)) xs
 position-map q f xs =
-    let place = position_or_len-map q f xs in
+    let at = position_or_len-map q f xs in
     let size = length-map xs f in
-    λ i. cond (nat_lt (place i) (size i)) (Some (place i)) None
+    λ i. cond (nat_lt (at i) (size i)) (Some (at i)) None
 
 module _ where
   full-bare : (os : List OccurrenceRead) → full_names (map bare os) ≡ full_names os

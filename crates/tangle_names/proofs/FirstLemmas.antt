@@ -18,7 +18,7 @@ use Rattle.tangle_names.proofs.LawLemmas.{occur}
 use Rattle.tangle_names.proofs.MeaningLemmas.{cons_cases, no_item}
 use Rattle.tangle_names.proofs.TableLemmas.{distinct_names, is_number-means}
 
--- the first place that passes
+-- the first position that passes
 past_first : {X : Type 0} (q : X → Bool) (x : X) (xs : List X) → q x ≡ false → position_or_len q (x ∷ xs) ≡ suc (position_or_len q xs)
 past_first q x xs is = ap (λ b. cond (not b) (1 + position_or_len q xs) 0) is ∙ omega arith
 

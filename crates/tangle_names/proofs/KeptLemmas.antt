@@ -5,8 +5,8 @@ use Rattle.std.specs.List.{enumerate_from}
 use Rattle.std.specs.Str.{bytes_eq}
 use Rattle.std.proofs.lemmas.List.{get_or-map, length-map, take_more}
 use Rattle.std.proofs.lemmas.List.Folds.{find_at}
-use Rattle.tangle_lines.specs.declared.faults.FaultKind.TheVariants as kind
-use Rattle.tangle_lines.specs.Faults.{FaultRead, fault_about}
+use Rattle.tangle_faults.specs.declared.faults.FaultKind.TheVariants as kind
+use Rattle.tangle_faults.specs.Faults.{FaultRead, fault_about}
 use Rattle.tangle_lexer.specs.Occurrences.{OccurrenceRead}
 use Rattle.tangle_scan.specs.Web.{WebRead}
 use Rattle.tangle_names.specs.declared.Resolved.{Resolved}
@@ -63,7 +63,7 @@ pub listed-step : {X : Type 0} (q : X → Bool) (xs : List X) (i : ℕ) (d : X) 
 listed-step q xs i d b before after h tested sofar pushed =
     pushed ∙ ((λ j. sofar j ++ cond (tested j) (i ∷ []) []) ∙ sym (numbers-more q xs i d h))
 
--- lists whose items pass at the same places
+-- lists whose items pass at the same positions
 numbers-agree : {X Y : Type 0} (q : X → Bool) (p : Y → Bool) (k : ℕ) (xs : List X) (ys : List Y) (d : X) (e : Y) → length xs ≡ length ys
     → ((i : ℕ) → i < length ys → q (get_or xs i d) ≡ p (get_or ys i e)) → numbers_from q k xs ≡ numbers_from p k ys
 numbers-agree q p k [] [] d e long at = refl
@@ -116,10 +116,10 @@ inside_list [] i x found = absurd (cc)
 inside_list (y ∷ ys) zero x found = omega arith
 inside_list (y ∷ ys) (suc i) x found = omega (arith, inside_list ys i x found)
 
-at_place : {X : Type 0} (xs : List X) (i : ℕ) (x d : X) → slice_get xs i ≡ Some x → get_or xs i d ≡ x
-at_place [] i x d found = absurd (cc)
-at_place (y ∷ ys) zero x d found = cc
-at_place (y ∷ ys) (suc i) x d found = at_place ys i x d found
+at_position : {X : Type 0} (xs : List X) (i : ℕ) (x d : X) → slice_get xs i ≡ Some x → get_or xs i d ≡ x
+at_position [] i x d found = absurd (cc)
+at_position (y ∷ ys) zero x d found = cc
+at_position (y ∷ ys) (suc i) x d found = at_position ys i x d found
 
 -- the faults of occurrences
 by_what : (files : List Text) (r : Resolved) (o : OccurrenceRead) → cond (is_unresolved r) (resolution_fault files r o) [] ≡ resolution_fault files r o
@@ -143,7 +143,7 @@ faults_of_numbers web rs all =
     at i o found =
         let number : 0 + i ≡ i = zero-add i in
         let known : get_or rs i NoFullName ≡ f o =
-        ap (λ rs. get_or rs i NoFullName) all ∙ (get_or-map f os i o NoFullName (inside_list os i o found) ∙ ap f (at_place os i o o found)) in
+        ap (λ rs. get_or rs i NoFullName) all ∙ (get_or-map f os i o NoFullName (inside_list os i o found) ∙ ap f (at_position os i o o found)) in
         let one : fault_of_number web rs i ≡ resolution_fault web.file_names (f o) o =
         (λ j. flat_map (resolution_fault web.file_names (known j)) (option_to_list (found j))) ∙ append-nil (resolution_fault web.file_names (f o) o) in
         ap (λ r. cond (is_unresolved (f o)) r []) (ap (fault_of_number web rs) number ∙ one) ∙ by_what web.file_names (f o) o
@@ -167,14 +167,14 @@ beginnings_are os texts names flags numbers same named long known are =
 
 warning-is : (web : WebRead) (name : Text)
     → warning web (first_number web.occurrences name) name
-    ≡ map (λ (o : OccurrenceRead). fault_about kind.PrefixName (named_place_of web.file_names o.place) name) (option_to_list (first_occurrence web.occurrences name))
+    ≡ map (λ (o : OccurrenceRead). fault_about kind.PrefixName (named_place_of web.file_names o.origin) name) (option_to_list (first_occurrence web.occurrences name))
 warning-is web name =
-    ap (λ found. map (λ (o : OccurrenceRead). fault_about kind.PrefixName (named_place_of web.file_names o.place) name) (option_to_list found)) (sym (find_at (resolves_to web.occurrences name) web.occurrences))
+    ap (λ found. map (λ (o : OccurrenceRead). fault_about kind.PrefixName (named_place_of web.file_names o.origin) name) (option_to_list found)) (sym (find_at (resolves_to web.occurrences name) web.occurrences))
 
 pub warnings_of_numbers : (web : WebRead) (names : List Text) (firsts : List ℕ) → names ≡ names_in_order web.occurrences
     → firsts ≡ map (first_number web.occurrences) (names_in_order web.occurrences)
     → flat_map (warning_of_number web names firsts) (numbers_from (begins_another names) 0 names) ≡ flat_map (prefix_fault web) (names_in_order web.occurrences)
-warnings_of_numbers web names firsts named places =
+warnings_of_numbers web names firsts named positions =
     by_number (warning_of_number web names firsts) (prefix_fault web) (begins_another names) 0 names at ∙ ap (flat_map (prefix_fault web)) named
   where
     os : List OccurrenceRead
@@ -183,10 +183,10 @@ warnings_of_numbers web names firsts named places =
     at : (i : ℕ) (name : Text) → slice_get names i ≡ Some name → cond (begins_another names name) (warning_of_number web names firsts (0 + i)) [] ≡ prefix_fault web name
     at i name found =
         let number : 0 + i ≡ i = zero-add i in
-        let read : get_or names i [] ≡ name = at_place names i name [] found in
+        let read : get_or names i [] ≡ name = at_position names i name [] found in
         let inside : i < length (names_in_order os) = omega (arith, inside_list names i name found, ap length named) in
-        let placed : get_or firsts i 0 ≡ first_number os name =
-        ap (λ ns. get_or ns i 0) places ∙ (get_or-map (first_number os) (names_in_order os) i [] 0 inside ∙ ap (first_number os) (ap (λ ns. get_or ns i []) (sym named) ∙ read)) in
+        let position : get_or firsts i 0 ≡ first_number os name =
+        ap (λ ns. get_or ns i 0) positions ∙ (get_or-map (first_number os) (names_in_order os) i [] 0 inside ∙ ap (first_number os) (ap (λ ns. get_or ns i []) (sym named) ∙ read)) in
         let marked : begins_another names name ≡ begins_another (full_names os) name = ap (λ ns. begins_another ns name) named ∙ sym (begins_same os name) in
-        let one : warning_of_number web names firsts i ≡ warning web (first_number os name) name = λ j. warning web (placed j) (read j) in
+        let one : warning_of_number web names firsts i ≡ warning web (first_number os name) name = λ j. warning web (position j) (read j) in
         λ j. cond (marked j) ((ap (warning_of_number web names firsts) number ∙ (one ∙ warning-is web name)) j) []

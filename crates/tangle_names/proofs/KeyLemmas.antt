@@ -30,9 +30,9 @@ key_texts-insert keys next v text e is =
         map_push (λ (k : Vec ℕ Global). k.items) keys v ∙ (ap (λ t. key_texts keys ++ t ∷ []) e
         ∙ sym (ap (λ b. cond b (key_texts keys) (key_texts keys ++ text ∷ [])) (same_test keys text ∙ subst (λ t. list_any (λ (k : Vec ℕ Global). bytes_eq t k.items) keys ≡ false) e found)))
 
-place-map : (keys : List (Vec ℕ Global)) (text : Text) → position_or_len (bytes_eq text) (key_texts keys) ≡ position_or_len (λ (v : Vec ℕ Global). bytes_eq text v.items) keys
-place-map [] text = refl
-place-map (k ∷ keys) text = ap (λ n. cond (not (bytes_eq text k.items)) (1 + n) 0) (place-map keys text)
+position-map : (keys : List (Vec ℕ Global)) (text : Text) → position_or_len (bytes_eq text) (key_texts keys) ≡ position_or_len (λ (v : Vec ℕ Global). bytes_eq text v.items) keys
+position-map [] text = refl
+position-map (k ∷ keys) text = ap (λ n. cond (not (bytes_eq text k.items)) (1 + n) 0) (position-map keys text)
 
 chosen : (n size : ℕ) → n ≤ size → unwrap_or (cond (ltb n size) (Some n) None) size ≡ n
 chosen n size most = by (ltb n size) refl
@@ -45,10 +45,10 @@ pub number_is : (keys : List (Vec ℕ Global)) (text : Text) (found : Option ℕ
     → unwrap_or found len ≡ position_or_len (bytes_eq text) (key_texts keys)
 number_is keys text found len e l =
     (λ i. unwrap_or (e i) (l i)) ∙ (chosen (position_or_len (λ (v : Vec ℕ Global). bytes_eq text v.items) keys) (length keys) (prefix_len-le-length (λ (v : Vec ℕ Global). not (bytes_eq text v.items)) keys)
-    ∙ sym (place-map keys text))
+    ∙ sym (position-map keys text))
 
 pub position-keys : (keys : List (Vec ℕ Global)) (text : Text) → position (λ (v : Vec ℕ Global). bytes_eq text v.items) keys ≡ position (bytes_eq text) (key_texts keys)
 position-keys keys text =
-    let place = sym (place-map keys text) in
+    let at = sym (position-map keys text) in
     let size = sym (length-map keys (λ (v : Vec ℕ Global). v.items)) in
-    λ i. cond (ltb (place i) (size i)) (Some (place i)) None
+    λ i. cond (ltb (at i) (size i)) (Some (at i)) None

@@ -6,8 +6,8 @@ use Rattle.std.proofs.lemmas.Option.{slice_get_past}
 use Rattle.std.proofs.lemmas.List.Folds.{list_any_more}
 use Rattle.tangle_names.specs.declared.Resolved.{Resolved}
 use Rattle.tangle_names.specs.declared.Resolved.TheVariants.{NoFullName}
-use Rattle.tangle_lines.specs.declared.faults.FaultKind.TheVariants as kind
-use Rattle.tangle_lines.specs.Faults.{FaultRead, fault_about}
+use Rattle.tangle_faults.specs.declared.faults.FaultKind.TheVariants as kind
+use Rattle.tangle_faults.specs.Faults.{FaultRead, fault_about}
 use Rattle.tangle_scan.specs.Web.{WebRead}
 use Rattle.tangle_lexer.specs.Occurrences.{OccurrenceRead}
 use Rattle.std.specs.List.{list_any, position_or_len}
@@ -67,7 +67,7 @@ beginning_step texts names i id old new inside h sofar flags =
 -- no occurrence, no warning and no fault
 pub no_warning : (web : WebRead) (first : ℕ) (name : Text) → length web.occurrences ≤ first → warning web first name ≡ []
 no_warning web first name past =
-    ap (λ found. map (λ (o : OccurrenceRead). fault_about kind.PrefixName (named_place_of web.file_names o.place) name) (option_to_list found)) (slice_get_past web.occurrences first past)
+    ap (λ found. map (λ (o : OccurrenceRead). fault_about kind.PrefixName (named_place_of web.file_names o.origin) name) (option_to_list found)) (slice_get_past web.occurrences first past)
 
 pub no_fault : (web : WebRead) (resolved : List Resolved) (number : ℕ) → length web.occurrences ≤ number → fault_of_number web resolved number ≡ []
 no_fault web resolved number past =

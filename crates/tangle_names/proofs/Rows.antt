@@ -1,8 +1,8 @@
 -- Worked webs: the full names in order, what each occurrence resolves to, and the faults.
 use Rattle.std.proofs.Common.{◌≡◌, ℕ, false, None, Some, List, [], ◌∷◌, ◌+◌, ◌++◌, refl}
 use Rattle.std.specs.Prelude.{codes}
-use Rattle.tangle_lines.specs.declared.faults.FaultKind.TheVariants as kind
-use Rattle.tangle_lines.specs.Faults.{fault_about}
+use Rattle.tangle_faults.specs.declared.faults.FaultKind.TheVariants as kind
+use Rattle.tangle_faults.specs.Faults.{fault_about}
 use Rattle.tangle_lines.specs.Reading.{Line}
 use Rattle.tangle_lexer.specs.Steps.{lexeme, occurrences_from}
 use Rattle.tangle_scan.specs.Web.{web_of}
@@ -12,7 +12,7 @@ use Rattle.tangle_names.specs.NameTable.{TableRead, table_of}
 -- the source lines of the file a.w from a line number on
 abbrev numbered_lines : ℕ → List (List ℕ) → List Line
 numbered_lines n [] = []
-numbered_lines n (text ∷ texts) = record { bytes = text; place = record { file = 0; line = n }; changed = false } ∷ numbered_lines (n + 1) texts
+numbered_lines n (text ∷ texts) = record { bytes = text; origin = record { file = 0; line = n }; changed = false } ∷ numbered_lines (n + 1) texts
 
 -- the table of the web that has these lines
 abbrev table : List (List ℕ) → TableRead

@@ -20,14 +20,14 @@ use Rattle.std.proofs.lemmas.Map.Views.{All-after_first}
 use Rattle.std.proofs.lemmas.Slice.Eq.{bytes_eq-Decides}
 use Rattle.tangle_names.specs.Names.{Text, Nothing, One, Several, only_with, begins_with}
 use Rattle.tangle_names.specs.Faults.{begins_another}
-use Rattle.tangle_names.specs.Sorted.{BeginsAt, IsInOrder, SameTexts, texts_of}
+use Rattle.tangle_names.specs.Sorted.{BeginsAt, IsInOrder, SameTexts, borrowed_names}
 use Rattle.tangle_names.proofs.MeaningLemmas.{into_filter, list_any-none, list_any-some, only-nothing, only-one, only-several, out_of_filter}
 use Rattle.tangle_names.proofs.OrderLemmas.{begins-above, begins-between}
 
-size : (sorted : List (Bor Text)) → length (texts_of sorted) ≡ length sorted
+size : (sorted : List (Bor Text)) → length (borrowed_names sorted) ≡ length sorted
 size sorted = length-map sorted (λ (b : Bor Text). b.now)
 
-pub at_text : (sorted : List (Bor Text)) (k : ℕ) (d : Bor Text) → k < length sorted → get_or (texts_of sorted) k [] ≡ (get_or sorted k d).now
+pub at_text : (sorted : List (Bor Text)) (k : ℕ) (d : Bor Text) → k < length sorted → get_or (borrowed_names sorted) k [] ≡ (get_or sorted k d).now
 at_text sorted k d h = get_or-map (λ (b : Bor Text). b.now) sorted k d [] h
 
 -- of two names the one that is first is below the other
@@ -59,7 +59,7 @@ no_higher texts up i j low high = elim (cases_lt i j) [
       ap (λ k. is_gt (slice_cmp nat_cmp (get_or texts i []) (get_or texts k []))) (sym same) ∙ ap is_gt (alike (get_or texts i [])))
 ]
 
--- the names that begin with a prefix are together, from one place on
+-- the names that begin with a prefix are together, from one position on
 pub record Gathers (texts : List Text) (p : Text) (first : ℕ) : Type 0 where
   pub below : (k : ℕ) → k < first → k < length texts → begins_with p (get_or texts k []) ≡ false
   pub together : (j k : ℕ) → first ≤ j → j ≤ k → k < length texts → begins_with p (get_or texts k []) ≡ true → begins_with p (get_or texts j []) ≡ true
@@ -79,7 +79,7 @@ gathers texts p first up lower upper = record {
       begins-between p (get_or texts j []) (get_or texts k []) (upper j low within) (no_higher texts up j k high inside) begun;
 }
 
--- a name of the table that begins with the prefix is at this place or behind it
+-- a name of the table that begins with the prefix is at this position or behind it
 found_at : (texts : List Text) (p : Text) (first : ℕ) → Gathers texts p first → (t : Text) → Contains texts t → begins_with p t ≡ true
     → (k : ℕ) × (first ≤ k) × (k < length texts) × (get_or texts k [] ≡ t)
 found_at texts p first g t c begun =
@@ -110,10 +110,10 @@ one_found full texts p first same g begun alone =
       | inl behind ↦ absurd (
           let inside : first + 1 < length texts = omega (arith, behind, at.2) in
           alone (inside, g.together (first + 1) at.0 (omega arith) (omega (arith, behind)) at.2 (ap (begins_with p) at.3 ∙ member.1)))
-      | inr here ↦ (let same_place : at.0 ≡ first = omega (arith, here, at.1) in sym at.3 ∙ ap (λ k. get_or texts k []) same_place)
+      | inr here ↦ (let same_position : at.0 ≡ first = omega (arith, here, at.1) in sym at.3 ∙ ap (λ k. get_or texts k []) same_position)
     ])
 
--- names at different places differ
+-- names at different positions differ
 pub apart : (texts : List Text) → IsInOrder texts → (i j : ℕ) → i < j → j < length texts → get_or texts i [] ≢ get_or texts j []
 apart texts up i j low high same =
     let clash : Less ≡ Equal = sym (rising texts up i j low high) ∙ (ap (slice_cmp nat_cmp (get_or texts i [])) (sym same) ∙ alike (get_or texts i [])) in
@@ -156,8 +156,8 @@ begins-none texts i up inside alone =
           let within : i + 1 < length texts = omega (arith, behind, at.2) in
           alone (within, (gathers_at texts i up inside).together (i + 1) at.0 (omega arith) (omega (arith, behind)) at.2 (ap (begins_with (get_or texts i [])) at.3 ∙ begun)))
       | inr here ↦ (
-          let same_place : i ≡ at.0 = omega (arith, here, at.1) in
-          let same : get_or texts i [] ≡ v = ap (λ k. get_or texts k []) same_place ∙ at.3 in
+          let same_position : i ≡ at.0 = omega (arith, here, at.1) in
+          let same : get_or texts i [] ≡ v = ap (λ k. get_or texts k []) same_position ∙ at.3 in
           let clash : true ≡ false = sym (right _ _ passes) ∙ ap not ((bytes_eq-Decides (get_or texts i []) v).1 same) in
           cc)
     ]))
@@ -171,7 +171,7 @@ begins-none texts i up inside alone =
     right false b h = absurd (cc)
 
 -- what a sort and a `dedup` leave
-sorted_texts : (sorted : List (Bor Text)) → IsSorted (λ (x y : Bor Text). slice_cmp nat_cmp x.now y.now) sorted → IsSorted (slice_cmp nat_cmp) (texts_of sorted)
+sorted_texts : (sorted : List (Bor Text)) → IsSorted (λ (x y : Bor Text). slice_cmp nat_cmp x.now y.now) sorted → IsSorted (slice_cmp nat_cmp) (borrowed_names sorted)
 sorted_texts [] up k d low high = absurd (omega arith)
 sorted_texts (b ∷ bs) up k d low high =
     let count : k + 1 < length (b ∷ bs) = omega (arith, size (b ∷ bs)) in
@@ -179,46 +179,46 @@ sorted_texts (b ∷ bs) up k d low high =
     let is = up k b low count in
     rw (get_or-map (λ (b : Bor Text). b.now) (b ∷ bs) (k + 1) b d count, get_or-map (λ (b : Bor Text). b.now) (b ∷ bs) k b d lower) is
 
-texts_of-cond : (test : Bool) (xs ys : List (Bor Text)) (us vs : List Text) → texts_of xs ≡ us → texts_of ys ≡ vs → texts_of (cond test xs ys) ≡ cond test us vs
-texts_of-cond true xs ys us vs e f = e
-texts_of-cond false xs ys us vs e f = f
+borrowed_names-cond : (test : Bool) (xs ys : List (Bor Text)) (us vs : List Text) → borrowed_names xs ≡ us → borrowed_names ys ≡ vs → borrowed_names (cond test xs ys) ≡ cond test us vs
+borrowed_names-cond true xs ys us vs e f = e
+borrowed_names-cond false xs ys us vs e f = f
 
-texts_of-dedup_from : (b : Bor Text) (bs : List (Bor Text)) → texts_of (dedup_from (λ (x y : Bor Text). bytes_eq x.now y.now) b bs) ≡ dedup_from bytes_eq b.now (texts_of bs)
-texts_of-dedup_from b [] = refl
-texts_of-dedup_from b (c ∷ cs) = texts_of-cond (bytes_eq c.now b.now) _ _ _ _ (texts_of-dedup_from b cs) (ap (λ (ts : List Text). b.now ∷ ts) (texts_of-dedup_from c cs))
+borrowed_names-dedup_from : (b : Bor Text) (bs : List (Bor Text)) → borrowed_names (dedup_from (λ (x y : Bor Text). bytes_eq x.now y.now) b bs) ≡ dedup_from bytes_eq b.now (borrowed_names bs)
+borrowed_names-dedup_from b [] = refl
+borrowed_names-dedup_from b (c ∷ cs) = borrowed_names-cond (bytes_eq c.now b.now) _ _ _ _ (borrowed_names-dedup_from b cs) (ap (λ (ts : List Text). b.now ∷ ts) (borrowed_names-dedup_from c cs))
 
-pub texts_of-dedup : (bs : List (Bor Text)) → texts_of (dedup (λ (x y : Bor Text). bytes_eq x.now y.now) bs) ≡ dedup bytes_eq (texts_of bs)
-texts_of-dedup [] = refl
-texts_of-dedup (b ∷ bs) = texts_of-dedup_from b bs
+pub borrowed_names-dedup : (bs : List (Bor Text)) → borrowed_names (dedup (λ (x y : Bor Text). bytes_eq x.now y.now) bs) ≡ dedup bytes_eq (borrowed_names bs)
+borrowed_names-dedup [] = refl
+borrowed_names-dedup (b ∷ bs) = borrowed_names-dedup_from b bs
 
 pub order_of : (sorted left : List (Bor Text)) → IsSorted (λ (x y : Bor Text). slice_cmp nat_cmp x.now y.now) sorted
-    → left ≡ dedup (λ (x y : Bor Text). bytes_eq x.now y.now) sorted → IsInOrder (texts_of left)
+    → left ≡ dedup (λ (x y : Bor Text). bytes_eq x.now y.now) sorted → IsInOrder (borrowed_names left)
 order_of sorted left up is =
-    rw (ap texts_of is ∙ texts_of-dedup sorted) (IsStrictlySortedBy-dedup nat_list_cmp_total texts_ties (texts_of sorted) (sorted_texts sorted up))
+    rw (ap borrowed_names is ∙ borrowed_names-dedup sorted) (IsStrictlySortedBy-dedup nat_list_cmp_total texts_ties (borrowed_names sorted) (sorted_texts sorted up))
 
-pub same_of : (full : List Text) (names sorted left : List (Bor Text)) → texts_of names ≡ full → IsPermutation names sorted
-    → left ≡ dedup (λ (x y : Bor Text). bytes_eq x.now y.now) sorted → SameTexts full (texts_of left)
+pub same_of : (full : List Text) (names sorted left : List (Bor Text)) → borrowed_names names ≡ full → IsPermutation names sorted
+    → left ≡ dedup (λ (x y : Bor Text). bytes_eq x.now y.now) sorted → SameTexts full (borrowed_names left)
 same_of full names sorted left e moved is =
-    let texts : IsPermutation (texts_of names) (texts_of sorted) = IsPermutation-map (λ (b : Bor Text). b.now) names sorted moved in
-    let once : texts_of left ≡ dedup bytes_eq (texts_of sorted) = ap texts_of is ∙ texts_of-dedup sorted in
+    let texts : IsPermutation (borrowed_names names) (borrowed_names sorted) = IsPermutation-map (λ (b : Bor Text). b.now) names sorted moved in
+    let once : borrowed_names left ≡ dedup bytes_eq (borrowed_names sorted) = ap borrowed_names is ∙ borrowed_names-dedup sorted in
     record {
       over = λ t c. subst (λ xs. Contains xs t) (sym once)
-          (Contains-dedup nat_list_eq_equiv (λ x y h. (bytes_eq-Decides x y).0 h) (texts_of sorted) t (Contains-permutation (texts_of names) (texts_of sorted) t texts (rw e c)));
-      back = λ t c. subst (λ xs. Contains xs t) e (Contains-permutation (texts_of sorted) (texts_of names) t (IsPermutation-sym (texts_of names) (texts_of sorted) texts)
-          (Contains-from_dedup bytes_eq (texts_of sorted) t (subst (λ xs. Contains xs t) once c)));
+          (Contains-dedup nat_list_eq_equiv (λ x y h. (bytes_eq-Decides x y).0 h) (borrowed_names sorted) t (Contains-permutation (borrowed_names names) (borrowed_names sorted) t texts (rw e c)));
+      back = λ t c. subst (λ xs. Contains xs t) e (Contains-permutation (borrowed_names sorted) (borrowed_names names) t (IsPermutation-sym (borrowed_names names) (borrowed_names sorted) texts)
+          (Contains-from_dedup bytes_eq (borrowed_names sorted) t (subst (λ xs. Contains xs t) once c)));
     }
 
--- the place where the names begin that aren't below a prefix
-pub is_parted : (sorted : List (Bor Text)) (p : Text) → IsInOrder (texts_of sorted) → IsPartitionedBy (λ (b : Bor Text). is_lt (slice_cmp nat_cmp b.now p)) sorted
+-- the position where the names begin that aren't below a prefix
+pub is_parted : (sorted : List (Bor Text)) (p : Text) → IsInOrder (borrowed_names sorted) → IsPartitionedBy (λ (b : Bor Text). is_lt (slice_cmp nat_cmp b.now p)) sorted
 is_parted sorted p up i j d low high is =
     let before : i < length sorted = omega (arith, low, high) in
-    let within : j < length (texts_of sorted) = omega (arith, high, size sorted) in
+    let within : j < length (borrowed_names sorted) = omega (arith, high, size sorted) in
     let first = at_text sorted i d before in
     let second = at_text sorted j d high in
-    let no_more : is_le (slice_cmp nat_cmp (get_or (texts_of sorted) i []) (get_or (texts_of sorted) j [])) ≡ true =
-    at_most _ (no_higher (texts_of sorted) up i j low within) in
+    let no_more : is_le (slice_cmp nat_cmp (get_or (borrowed_names sorted) i []) (get_or (borrowed_names sorted) j [])) ≡ true =
+    at_most _ (no_higher (borrowed_names sorted) up i j low within) in
     ap (λ t. is_lt (slice_cmp nat_cmp t p)) (sym first)
-    ∙ ap is_lt (le_lt_trans nat_list_cmp_total (get_or (texts_of sorted) i []) (get_or (texts_of sorted) j []) p no_more
+    ∙ ap is_lt (le_lt_trans nat_list_cmp_total (get_or (borrowed_names sorted) i []) (get_or (borrowed_names sorted) j []) p no_more
     (less _ (ap (λ t. is_lt (slice_cmp nat_cmp t p)) second ∙ is)))
   where
     at_most : (r : Ordering) → is_gt r ≡ false → is_le r ≡ true
@@ -231,31 +231,31 @@ is_parted sorted p up i j d low high is =
     less Equal h = absurd (cc)
     less Greater h = absurd (cc)
 
-pub gathers_from : (sorted : List (Bor Text)) (p : Text) (first : ℕ) (d : Bor Text) → IsInOrder (texts_of sorted)
+pub gathers_from : (sorted : List (Bor Text)) (p : Text) (first : ℕ) (d : Bor Text) → IsInOrder (borrowed_names sorted)
     → IsPartitionPoint (λ (b : Bor Text). is_lt (slice_cmp nat_cmp b.now p) ≡ true) (λ (b : Bor Text). is_lt (slice_cmp nat_cmp b.now p) ≡ false) sorted first
-    → Gathers (texts_of sorted) p first
-gathers_from sorted p first d up point = gathers (texts_of sorted) p first up
+    → Gathers (borrowed_names sorted) p first
+gathers_from sorted p first d up point = gathers (borrowed_names sorted) p first up
     (λ k low h. let inside : k < length sorted = omega (arith, h, size sorted) in rw (at_text sorted k d inside) (point.0 k d (omega arith) low))
     (λ k low h. let inside : k < length sorted = omega (arith, h, size sorted) in rw (at_text sorted k d inside) (point.1 k d low inside))
 
 -- the name that begins with the prefix, as the code reads it
-pub at_begun : (sorted : List (Bor Text)) (p : Text) (k : ℕ) (d : Bor Text) → BeginsAt (texts_of sorted) p k → (get_or sorted k d).now ≡ get_or (texts_of sorted) k []
+pub at_begun : (sorted : List (Bor Text)) (p : Text) (k : ℕ) (d : Bor Text) → BeginsAt (borrowed_names sorted) p k → (get_or sorted k d).now ≡ get_or (borrowed_names sorted) k []
 at_begun sorted p k d begun =
     let inside : k < length sorted = omega (arith, begun.0, size sorted) in
     sym (at_text sorted k d inside)
 
 -- whether a name begins another, by the names as the code reads them
-pub begins_another-read : (sorted : List (Bor Text)) (i : ℕ) (d : Bor Text) → IsInOrder (texts_of sorted) → i < length sorted
-    → BeginsAt (texts_of sorted) (get_or sorted i d).now (i + 1) → begins_another (texts_of sorted) (get_or (texts_of sorted) i []) ≡ true
+pub begins_another-read : (sorted : List (Bor Text)) (i : ℕ) (d : Bor Text) → IsInOrder (borrowed_names sorted) → i < length sorted
+    → BeginsAt (borrowed_names sorted) (get_or sorted i d).now (i + 1) → begins_another (borrowed_names sorted) (get_or (borrowed_names sorted) i []) ≡ true
 begins_another-read sorted i d up inside next =
-    let within : i < length (texts_of sorted) = omega (arith, inside, size sorted) in
-    begins-next (texts_of sorted) i up within (subst (λ p. BeginsAt (texts_of sorted) p (i + 1)) (sym (at_text sorted i d inside)) next)
+    let within : i < length (borrowed_names sorted) = omega (arith, inside, size sorted) in
+    begins-next (borrowed_names sorted) i up within (subst (λ p. BeginsAt (borrowed_names sorted) p (i + 1)) (sym (at_text sorted i d inside)) next)
 
-pub begins_none-read : (sorted : List (Bor Text)) (i : ℕ) (d : Bor Text) → IsInOrder (texts_of sorted) → i < length sorted
-    → (BeginsAt (texts_of sorted) (get_or sorted i d).now (i + 1) → ⊥) → begins_another (texts_of sorted) (get_or (texts_of sorted) i []) ≡ false
+pub begins_none-read : (sorted : List (Bor Text)) (i : ℕ) (d : Bor Text) → IsInOrder (borrowed_names sorted) → i < length sorted
+    → (BeginsAt (borrowed_names sorted) (get_or sorted i d).now (i + 1) → ⊥) → begins_another (borrowed_names sorted) (get_or (borrowed_names sorted) i []) ≡ false
 begins_none-read sorted i d up inside alone =
-    let within : i < length (texts_of sorted) = omega (arith, inside, size sorted) in
-    begins-none (texts_of sorted) i up within (λ next. alone (subst (λ p. BeginsAt (texts_of sorted) p (i + 1)) (at_text sorted i d inside) next))
+    let within : i < length (borrowed_names sorted) = omega (arith, inside, size sorted) in
+    begins-none (borrowed_names sorted) i up within (λ next. alone (subst (λ p. BeginsAt (borrowed_names sorted) p (i + 1)) (at_text sorted i d inside) next))
 
-pub inside_texts : (sorted : List (Bor Text)) (i : ℕ) → i < length sorted → i < length (texts_of sorted)
+pub inside_texts : (sorted : List (Bor Text)) (i : ℕ) → i < length sorted → i < length (borrowed_names sorted)
 inside_texts sorted i h = omega (arith, h, size sorted)

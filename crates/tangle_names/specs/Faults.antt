@@ -4,23 +4,23 @@ use Rattle.std.specs.List.{list_any}
 use Rattle.std.specs.Str.{bytes_eq}
 use Rattle.tangle_names.specs.declared.Resolved.{Resolved}
 use Rattle.tangle_names.specs.declared.Resolved.TheVariants.{Name, NoFullName, Ambiguous}
-use Rattle.tangle_lines.specs.declared.faults.Origin.{Origin}
-use Rattle.tangle_lines.specs.declared.faults.FaultKind.TheVariants as kind
-use Rattle.tangle_lines.specs.Faults.{FaultRead, PlaceRead, fault_about}
+use Rattle.tangle_faults.specs.declared.faults.Origin.{Origin}
+use Rattle.tangle_faults.specs.declared.faults.FaultKind.TheVariants as kind
+use Rattle.tangle_faults.specs.Faults.{FaultRead, PlaceRead, fault_about}
 use Rattle.tangle_scan.specs.Web.{WebRead}
 use Rattle.tangle_lexer.specs.Occurrences.{OccurrenceRead}
 use Rattle.tangle_names.specs.Names.{Text, full_names, begins_with}
 use Rattle.tangle_names.specs.Resolving.{names_in_order, resolve, first_occurrence}
 
--- the line of a place, by its file's name
+-- the line of an origin, by its file's name
 abbrev pub named_place_of : List Text → Origin → PlaceRead
-named_place_of files place = record { file = slice_index_or files place.file []; line = place.line }
+named_place_of files origin = record { file = slice_index_or files origin.file []; line = origin.line }
 
 -- the fault of an occurrence that resolves to no name
 abbrev pub resolution_fault : List Text → Resolved → OccurrenceRead → List FaultRead
 resolution_fault files (Name id) o = []
-resolution_fault files NoFullName o = fault_about kind.NoFullName (named_place_of files o.place) o.text ∷ []
-resolution_fault files Ambiguous o = fault_about kind.Ambiguous (named_place_of files o.place) o.text ∷ []
+resolution_fault files NoFullName o = fault_about kind.NoFullName (named_place_of files o.origin) o.text ∷ []
+resolution_fault files Ambiguous o = fault_about kind.Ambiguous (named_place_of files o.origin) o.text ∷ []
 
 -- the faults of the occurrences, by what each resolves to
 abbrev pub resolution_faults : List Text → (OccurrenceRead → Resolved) → List OccurrenceRead → List FaultRead
@@ -33,7 +33,7 @@ begins_another full name = list_any (λ other. begins_with name other && not (by
 -- the warning for a name that begins another, at its first occurrence
 abbrev pub prefix_fault : WebRead → Text → List FaultRead
 prefix_fault web name = if begins_another (full_names web.occurrences) name
-    then map (λ o. fault_about kind.PrefixName (named_place_of web.file_names o.place) name)
+    then map (λ o. fault_about kind.PrefixName (named_place_of web.file_names o.origin) name)
     (option_to_list (first_occurrence web.occurrences name))
     else []
 

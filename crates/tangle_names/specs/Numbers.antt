@@ -4,8 +4,8 @@ use Rattle.std.specs.List.{enumerate_from, list_any, position_or_len}
 use Rattle.std.specs.Global.{Global}
 use Rattle.tangle_names.specs.declared.Resolved.{Resolved}
 use Rattle.tangle_names.specs.declared.Resolved.TheVariants.{Name, NoFullName, Ambiguous}
-use Rattle.tangle_lines.specs.declared.faults.FaultKind.TheVariants as kind
-use Rattle.tangle_lines.specs.Faults.{fault_about, FaultRead}
+use Rattle.tangle_faults.specs.declared.faults.FaultKind.TheVariants as kind
+use Rattle.tangle_faults.specs.Faults.{fault_about, FaultRead}
 use Rattle.tangle_scan.specs.Web.{WebRead}
 use Rattle.tangle_lexer.specs.Occurrences.{OccurrenceRead}
 use Rattle.tangle_names.specs.Faults.{resolution_fault, named_place_of}
@@ -63,7 +63,7 @@ fault_of_number web resolved n =
 -- the warning for a name that begins another and whose first occurrence has this number
 abbrev pub warning : WebRead → ℕ → Text → List FaultRead
 warning web first name =
-    map (λ o. fault_about kind.PrefixName (named_place_of web.file_names o.place) name)
+    map (λ o. fault_about kind.PrefixName (named_place_of web.file_names o.origin) name)
     (option_to_list (slice_get web.occurrences first))
 
 -- the warning for the name with this number

@@ -1,7 +1,7 @@
--- What is kept of a web's names that depends on no place. These words are cited by private contracts
+-- What is kept of a web's names that depends on no origin. These words are cited by private contracts
 -- alone.
 use Rattle.std.specs.Prelude.{◌≡◌, List, [], length, map}
-use Rattle.tangle_lines.specs.Faults.{FaultRead}
+use Rattle.tangle_faults.specs.Faults.{FaultRead}
 use Rattle.tangle_lexer.specs.Occurrences.{OccurrenceRead}
 use Rattle.tangle_names.specs.declared.resolution.Resolution.{Resolution}
 use Rattle.tangle_names.specs.Faults.{begins_another}

@@ -9,8 +9,8 @@ use Rattle.tangle_names.specs.declared.sorted.Meaning.TheVariants as found
 use Rattle.tangle_names.specs.Names.{Text, Meaning, Nothing, One, Several, begins_with}
 
 -- the texts that slices show
-abbrev pub texts_of : List (Bor Text) → List Text
-texts_of slices = map (λ (b : Bor Text). b.now) slices
+abbrev pub borrowed_names : List (Bor Text) → List Text
+borrowed_names slices = map (λ (b : Bor Text). b.now) slices
 
 -- a meaning, as the code has it
 abbrev pub meaning_of : Found → Meaning
@@ -27,6 +27,6 @@ pub record SameTexts (xs ys : List Text) : Type 0 where
   pub over : (t : Text) → Contains xs t → Contains ys t
   pub back : (t : Text) → Contains ys t → Contains xs t
 
--- at this place is a text that begins with the prefix
+-- at this position is a text that begins with the prefix
 abbrev pub BeginsAt : List Text → Text → ℕ → Type 0
-BeginsAt texts p place = (place < length texts) × (begins_with p (slice_index_or texts place []) ≡ true)
+BeginsAt texts p position = (position < length texts) × (begins_with p (slice_index_or texts position []) ≡ true)

@@ -6,7 +6,7 @@ ghost use Rattle.tangle_names.specs.Names.{One};
 ghost use Rattle.tangle_names.specs.Numbers.{begins_another_by_number, key_texts};
 ghost use Rattle.tangle_names.specs.Numbers.{numbers_from, Flags};
 ghost use Rattle.tangle_names.specs.Resolving.{resolution};
-ghost use Rattle.tangle_names.specs.Sorted.{IsInOrder, texts_of};
+ghost use Rattle.tangle_names.specs.Sorted.{IsInOrder, borrowed_names};
 
 use crate::numbers::{list_if, number};
 use crate::sorted::begins_at;
@@ -19,29 +19,34 @@ pub(crate) fn beginnings(
     sorted: &[&[u8]],
     names: &IndexSet<Vec<u8>>,
 ) -> Result<Vec<bool>, AllocError>
-    requires { IsInOrder (texts_of sorted.now) }
+    requires { IsInOrder (borrowed_names sorted.now) }
     ensures size { IfOk result (λ v. length v.items ≡ length names.now.keys) }
     ensures begins { IfOk result (λ v. (id : ℕ) → id < length names.now.keys
         → slice_index_or v.items id false
-        ≡ begins_another_by_number (key_texts names.now.keys) (texts_of sorted.now) id) }
+        ≡ begins_another_by_number (key_texts names.now.keys) (borrowed_names sorted.now) id) }
 {
     let mut begins = vec![in alloc; false; names.len()]?;
-    for place in 0..sorted.len() {
-        flag_beginning(&mut begins, sorted, names, place);
+    for position in 0..sorted.len() {
+        flag_beginning(&mut begins, sorted, names, position);
     }
     Ok(begins)
 }
 
-/// Flags the name at this place, if it begins the next one.
-fn flag_beginning(flags: &mut Vec<bool>, sorted: &[&[u8]], names: &IndexSet<Vec<u8>>, place: usize)
-    requires order { IsInOrder (texts_of sorted.now) }
-    requires inside { place < length sorted.now }
-    ensures { let text = slice_index_or (texts_of sorted.now) place [] in
-        Flags flags.old.items flags.new.items (begins_another (texts_of sorted.now) text)
+/// Flags the name at this position, if it begins the next one.
+fn flag_beginning(
+    flags: &mut Vec<bool>,
+    sorted: &[&[u8]],
+    names: &IndexSet<Vec<u8>>,
+    position: usize,
+)
+    requires order { IsInOrder (borrowed_names sorted.now) }
+    requires inside { position < length sorted.now }
+    ensures { let text = slice_index_or (borrowed_names sorted.now) position [] in
+        Flags flags.old.items flags.new.items (begins_another (borrowed_names sorted.now) text)
         (resolution (key_texts names.now.keys) (One text)) }
 {
-    if begins_at(sorted, place + 1, sorted[place]) {
-        flag(flags, number(names, sorted[place]));
+    if begins_at(sorted, position + 1, sorted[position]) {
+        flag(flags, number(names, sorted[position]));
     }
 }
 

@@ -1,6 +1,6 @@
 //! The faults of names.
 ghost use Rattle.std.specs.Prelude.{◌≡◌, ◌<◌, ◌++◌, ◌∷◌, [], All, IfOk, OnOk, flat_map, length};
-ghost use Rattle.tangle_lines.specs.Faults.{fault_about};
+ghost use Rattle.tangle_faults.specs.Faults.{fault_about};
 ghost use Rattle.tangle_names.specs.Faults.{faults, resolution_fault, named_place_of};
 ghost use Rattle.tangle_names.specs.Numbers.{fault_of_number, key_texts};
 ghost use Rattle.tangle_names.specs.Numbers.{warning, warning_of_number};
@@ -18,14 +18,14 @@ fn add(
     faults: &mut Vec<Fault>,
     web: &Web,
     kind: FaultKind,
-    place: Origin,
+    origin: Origin,
     name: &[u8],
 ) -> Result<(), NoMemory>
     ensures { OnOk result (faults.new.items
-        ≡ faults.old.items ++ fault_about kind (named_place_of web.now.file_names place) name.now
+        ≡ faults.old.items ++ fault_about kind (named_place_of web.now.file_names origin) name.now
         ∷ []) }
 {
-    faults.push(Fault::about(alloc, kind, web.file_name(place), place.line, name)?)?;
+    faults.push(Fault::about(alloc, kind, web.file_name(origin), origin.line, name)?)?;
     Ok(())
 }
 
@@ -40,12 +40,12 @@ fn add_resolution_fault(
     ensures { OnOk result (faults.new.items
         ≡ faults.old.items ++ resolution_fault web.now.file_names resolved occurrence.now) }
 {
-    let place = occurrence.place();
+    let origin = occurrence.origin();
     let text = occurrence.text();
     match resolved {
         Resolved::Name(_) => Ok(()),
-        Resolved::NoFullName => add(alloc, faults, web, FaultKind::NoFullName, place, text),
-        Resolved::Ambiguous => add(alloc, faults, web, FaultKind::Ambiguous, place, text),
+        Resolved::NoFullName => add(alloc, faults, web, FaultKind::NoFullName, origin, text),
+        Resolved::Ambiguous => add(alloc, faults, web, FaultKind::Ambiguous, origin, text),
     }
 }
 
@@ -96,8 +96,8 @@ fn add_warning(
     ensures { OnOk result (faults.new.items ≡ faults.old.items ++ warning web.now first name.now) }
 {
     if let Some(occurrence) = web.occurrences().get(first) {
-        let place = occurrence.place();
-        add(alloc, faults, web, FaultKind::PrefixName, place, name)?;
+        let origin = occurrence.origin();
+        add(alloc, faults, web, FaultKind::PrefixName, origin, name)?;
     }
     Ok(())
 }

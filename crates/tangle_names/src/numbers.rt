@@ -6,7 +6,7 @@ ghost use Rattle.tangle_names.specs.Names.{One, full_names};
 ghost use Rattle.tangle_names.specs.Numbers.{is_unresolved, key_texts, numbers_from};
 ghost use Rattle.tangle_names.specs.Resolving.{names_in_order, names_of, resolution, resolve};
 ghost use Rattle.tangle_names.specs.Resolving.{with_name};
-ghost use Rattle.tangle_names.specs.Sorted.{IsInOrder, SameTexts, meaning_of, texts_of};
+ghost use Rattle.tangle_names.specs.Sorted.{IsInOrder, SameTexts, meaning_of, borrowed_names};
 
 use crate::Resolved;
 use crate::sorted::{Meaning, meanings};
@@ -75,8 +75,8 @@ pub(crate) fn resolve_occurrences(
     occurrences: &[Occurrence],
 ) -> Result<Vec<Resolved>, AllocError>
     requires empty { names.old.keys ≡ [] }
-    requires order { IsInOrder (texts_of sorted.now) }
-    requires same { SameTexts (full_names occurrences.now) (texts_of sorted.now) }
+    requires order { IsInOrder (borrowed_names sorted.now) }
+    requires same { SameTexts (full_names occurrences.now) (borrowed_names sorted.now) }
     ensures names { OnOk result (key_texts names.new.keys ≡ names_in_order occurrences.now) }
     ensures resolved { IfOk result (λ resolved. resolved.items
         ≡ map (resolve occurrences.now) occurrences.now) }

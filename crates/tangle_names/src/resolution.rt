@@ -1,5 +1,5 @@
 //! What the names of a web resolve to. It depends on how the occurrences are written, and on no
-//! place.
+//! origin.
 ghost use Rattle.std.specs.Prelude.{◌≡◌, ◌↔◌, IfOk, IsTrue};
 ghost use Rattle.tangle_names.specs.NameTable.{AreWrittenAlike, written_name};
 ghost use Rattle.tangle_names.specs.Resolution.{IsResolutionOf};

@@ -1,10 +1,11 @@
 //! The full names of a web in the order of their bytes, and what a name means among them.
-ghost use Rattle.std.specs.Prelude.{◌≡◌, ◌<◌, ◌+◌, ◌↔◌, List, ℕ, [], IfOk, IsTrue, true, length};
-ghost use Rattle.std.specs.Prelude.{map, slice_index_or};
+ghost use Rattle.std.specs.Prelude.{◌≡◌, ◌<◌, ◌+◌, ◌↔◌, List, ℕ, IfOk, IsTrue};
+ghost use Rattle.std.specs.Prelude.{map};
 ghost use Rattle.std.specs.Ordering.{nat_cmp, is_lt};
 ghost use Rattle.std.specs.Cmp.Lexicographic.{slice_cmp};
 ghost use Rattle.tangle_names.specs.Names.{full_names, meaning, only_with, prefix};
-ghost use Rattle.tangle_names.specs.Sorted.{BeginsAt, IsInOrder, SameTexts, meaning_of, texts_of};
+ghost use Rattle.tangle_names.specs.Sorted.{BeginsAt, IsInOrder, SameTexts, meaning_of};
+ghost use Rattle.tangle_names.specs.Sorted.{borrowed_names};
 
 use std::alloc::{AllocError, Global};
 use tangle_scan::Occurrence;
@@ -22,9 +23,9 @@ pub(crate) fn sorted_names(
     alloc: Global,
     occurrences: &[Occurrence],
 ) -> Result<Vec<&[u8]>, AllocError>
-    ensures order { IfOk result (λ names. IsInOrder (texts_of names.items)) }
+    ensures order { IfOk result (λ names. IsInOrder (borrowed_names names.items)) }
     ensures same { IfOk result
-        (λ names. SameTexts (full_names occurrences.now) (texts_of names.items)) }
+        (λ names. SameTexts (full_names occurrences.now) (borrowed_names names.items)) }
 {
     let mut names = full_names(alloc, occurrences)?;
     names.sort_unstable();
@@ -34,7 +35,7 @@ pub(crate) fn sorted_names(
 
 /// The full names, each as often as it occurs.
 fn full_names(alloc: Global, occurrences: &[Occurrence]) -> Result<Vec<&[u8]>, AllocError>
-    ensures { IfOk result (λ names. texts_of names.items ≡ full_names occurrences.now) }
+    ensures { IfOk result (λ names. borrowed_names names.items ≡ full_names occurrences.now) }
 {
     let mut names = Vec::new(alloc);
     for occurrence in occurrences {
@@ -52,18 +53,18 @@ fn is_below(text: &[u8], prefix: &[u8]) -> bool
     text.cmp(prefix).is_lt()
 }
 
-/// Whether there is a name at this place that begins with the prefix.
-pub(crate) fn begins_at(sorted: &[&[u8]], place: usize, prefix: &[u8]) -> bool
-    ensures { IsTrue result ↔ BeginsAt (texts_of sorted.now) prefix.now place }
+/// Whether there is a name at this position that begins with the prefix.
+pub(crate) fn begins_at(sorted: &[&[u8]], position: usize, prefix: &[u8]) -> bool
+    ensures { IsTrue result ↔ BeginsAt (borrowed_names sorted.now) prefix.now position }
 {
-    place < sorted.len() && sorted[place].starts_with(prefix)
+    position < sorted.len() && sorted[position].starts_with(prefix)
 }
 
 /// The one full name that begins with the prefix.
 // Such names aren't below the prefix, and are together: two at most are looked at.
 fn only_with<'a>(sorted: &[&'a [u8]], prefix: &[u8]) -> Meaning<'a>
-    requires { IsInOrder (texts_of sorted.now) }
-    ensures { (full : List (List ℕ)) → SameTexts full (texts_of sorted.now)
+    requires { IsInOrder (borrowed_names sorted.now) }
+    ensures { (full : List (List ℕ)) → SameTexts full (borrowed_names sorted.now)
         → meaning_of result ≡ only_with full prefix.now }
 {
     let first = sorted.partition_point(|text| is_below(text, prefix));
@@ -85,8 +86,8 @@ fn prefix(abbreviation: &[u8]) -> &[u8]
 
 /// What the occurrence means, among the full names of the web.
 fn meaning_among<'a>(sorted: &[&'a [u8]], occurrence: &'a Occurrence) -> Meaning<'a>
-    requires { IsInOrder (texts_of sorted.now) }
-    ensures { (full : List (List ℕ)) → SameTexts full (texts_of sorted.now)
+    requires { IsInOrder (borrowed_names sorted.now) }
+    ensures { (full : List (List ℕ)) → SameTexts full (borrowed_names sorted.now)
         → meaning_of result ≡ meaning full occurrence.now }
 {
     if occurrence.is_abbreviation() {
@@ -102,8 +103,8 @@ pub(crate) fn meanings<'a>(
     sorted: &[&'a [u8]],
     occurrences: &'a [Occurrence],
 ) -> Result<Vec<Meaning<'a>>, AllocError>
-    requires { IsInOrder (texts_of sorted.now) }
-    ensures { IfOk result (λ v. (full : List (List ℕ)) → SameTexts full (texts_of sorted.now)
+    requires { IsInOrder (borrowed_names sorted.now) }
+    ensures { IfOk result (λ v. (full : List (List ℕ)) → SameTexts full (borrowed_names sorted.now)
         → map meaning_of v.items ≡ map (meaning full) occurrences.now) }
 {
     let mut meanings = Vec::new(alloc);

@@ -223,7 +223,7 @@ fn a_fault_line_in_a_short_slice(rt: HostRuntime) -> Result<(), Fail> {
     Ok(())
 }
 
-// A writer that takes all and can't hand it on.
+// A writer that takes all and can't pass it on.
 #[derive(Drop)]
 struct Stuck;
 
@@ -248,7 +248,7 @@ fn a_failed_flush_is_a_failure(rt: HostRuntime) -> Result<(), Fail> {
     Ok(())
 }
 
-// A writer that hands on all that it keeps back.
+// A writer that passes on all that it keeps back.
 #[test]
 fn a_flush_that_works_is_no_failure(rt: HostRuntime) -> Result<(), Fail> {
     let mut sink = IoSink::new(Vec::new(rt.alloc()));

@@ -1,4 +1,4 @@
-//! What the items, places, names and faults of small webs are.
+//! What the items, origins, names and faults of small webs are.
 ghost use Rattle.std.specs.List.{All};
 ghost use Rattle.tangle_scan.specs.SourceOrder.{IsInRange};
 
@@ -111,7 +111,7 @@ fn show_occurrence(alloc: Global, shown: &mut Vec<u8>, name: &Occurrence) -> Res
         OccurrenceRole::Use => b"use",
         OccurrenceRole::Mention => b"mention",
     })?;
-    shown.extend_from_slice(format!(in alloc; " at {}", name.place().line)?.as_bytes())?;
+    shown.extend_from_slice(format!(in alloc; " at {}", name.origin().line)?.as_bytes())?;
     if name.is_abbreviation() {
         shown.extend_from_slice(b", abbreviated")?;
     }
@@ -134,7 +134,7 @@ fn show_macros(alloc: Global, shown: &mut Vec<u8>, web: &Web) -> Result<(), Fail
 
 fn show_pieces(alloc: Global, shown: &mut Vec<u8>, web: &Web) -> Result<(), Fail> {
     for piece in web.pieces() {
-        let line = piece.place().line;
+        let line = piece.origin().line;
         shown.extend_from_slice(format!(in alloc; "{} at {line} ", piece.section())?.as_bytes())?;
         if let Some(name) = piece.occurrence() {
             shown.extend_from_slice(format!(in alloc; "named {name} ")?.as_bytes())?;
@@ -173,7 +173,7 @@ fn show_web(alloc: Global, web: &Web) -> Result<Vec<u8>, Fail> {
 }
 
 #[test]
-fn items_places_and_faults(rt: HostRuntime) -> Result<(), Fail> {
+fn items_origins_and_faults(rt: HostRuntime) -> Result<(), Fail> {
     let alloc = rt.alloc();
     for (web, expected) in WEBS {
         let files = files_with(alloc, &[(b"a.w", web)])?;

@@ -1,7 +1,7 @@
 -- What is gathered of a web, part by part.
 use Rattle.std.specs.Prelude.{ℕ, Bool, false, ◌||◌, List, [], ◌∷◌, ◌++◌, flat_map, map}
 use Rattle.std.specs.List.{list_any}
-use Rattle.tangle_lines.specs.Faults.{FaultRead}
+use Rattle.tangle_faults.specs.Faults.{FaultRead}
 use Rattle.tangle_files.specs.Lines.{FileTable}
 use Rattle.tangle_lines.specs.Reading.{Line, SourceRead}
 use Rattle.tangle_scan.specs.declared.items.Item.{Item}

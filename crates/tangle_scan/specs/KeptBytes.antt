@@ -2,7 +2,7 @@
 use Rattle.std.specs.Prelude.{◌≡◌, ◌≤◌, ◌<◌, ℕ, flat_map}
 use Rattle.std.specs.List.{AllByRecursion, AllPairs}
 use Rattle.tangle_lines.specs.Reading.{SourceRead}
-use Rattle.tangle_lexer.specs.Text.{text_from}
+use Rattle.tangle_text.specs.Text.{text_from}
 use Rattle.tangle_lexer.specs.Segments.{span_points, kept_points, ShowsFate, all_segments}
 use Rattle.tangle_scan.specs.Web.{WebRead}
 use Rattle.tangle_scan.specs.SourceOrder.{item_spans}

@@ -1,12 +1,12 @@
--- The compiler's place in a piece, and that the piece's texts are there on their own lines.
+-- The counted origin in a piece, and that the piece's texts are there on their own lines.
 use Rattle.std.specs.Prelude.{◌≡◌, ◌<◌, ℕ, length, Bool, true, false, List, [], ◌∷◌, flat_map, if◌then◌else◌, Option, Some, None}
 use Rattle.std.specs.List.{AllZip}
-use Rattle.tangle_lines.specs.declared.faults.Origin.{Origin}
+use Rattle.tangle_faults.specs.declared.faults.Origin.{Origin}
 use Rattle.tangle_lexer.specs.declared.tokens.Token.{Token}
 use Rattle.tangle_lexer.specs.declared.tokens.Token.TheVariants as token
 use Rattle.tangle_scan.specs.declared.items.Item.{Item}
 use Rattle.tangle_scan.specs.declared.items.Item.TheVariants as item
-use Rattle.tangle_lines.specs.Reading.{Line, SourceRead, place_at}
+use Rattle.tangle_lines.specs.Reading.{Line, SourceRead, origin_at}
 use Rattle.tangle_lexer.specs.Steps.{all_tokens}
 use Rattle.tangle_scan.specs.Web.{WebRead, BlockKind, blocks}
 use Rattle.tangle_scan.specs.Web.BlockKind.{OfMacro, OfPiece}
@@ -14,32 +14,32 @@ use Rattle.tangle_scan.specs.Rules.{text_item, next_line, without_faults}
 
 -- Items with a text of their own are words, signs, quoted and verbatim texts, and ASCII constants.
 
--- an item with a text, and the compiler's place there, where it is known
-pub record Placed : Type 0 where
+-- an item with a text, and the counted origin there, where it is known
+pub record CountedItem : Type 0 where
   pub item : Item
-  pub place : Option Origin
+  pub origin : Option Origin
 
 abbrev pub with_line_end : Option Origin → Option Origin
 with_line_end None = None
 with_line_end (Some p) = Some (next_line p)
 
--- The items with a text, each with the compiler's place. A mark sets the place, and a line end in the output adds one line. The place
+-- The items with a text, each with the counted origin. A mark sets the origin, and a line end in the output adds one line. The origin
 -- isn't known behind a use and behind the macros, until the next mark.
-abbrev pub placed_items : Option Origin → List Item → List Placed
-placed_items place [] = []
-placed_items place (item.Word s ∷ items) = record { item = item.Word s; place = place } ∷ placed_items place items
-placed_items place (item.Sign s ∷ items) = record { item = item.Sign s; place = place } ∷ placed_items place items
-placed_items place (item.Quoted s ∷ items) = record { item = item.Quoted s; place = place } ∷ placed_items place items
-placed_items place (item.Verbatim s ∷ items) = record { item = item.Verbatim s; place = place } ∷ placed_items place items
-placed_items place (item.Code b ∷ items) = record { item = item.Code b; place = place } ∷ placed_items place items
-placed_items place (item.LineMark p ∷ items) = placed_items (Some p) items
-placed_items place (item.LineEnd ∷ items) = placed_items (with_line_end place) items
-placed_items place (item.QuoteBreak ∷ items) = placed_items (with_line_end place) items
-placed_items place (item.UseOf name ∷ items) = placed_items None items
-placed_items place (item.Defs ∷ items) = placed_items None items
-placed_items place (item.Blank ∷ items) = placed_items place items
+abbrev pub counted_items : Option Origin → List Item → List CountedItem
+counted_items origin [] = []
+counted_items origin (item.Word s ∷ items) = record { item = item.Word s; origin = origin } ∷ counted_items origin items
+counted_items origin (item.Sign s ∷ items) = record { item = item.Sign s; origin = origin } ∷ counted_items origin items
+counted_items origin (item.Quoted s ∷ items) = record { item = item.Quoted s; origin = origin } ∷ counted_items origin items
+counted_items origin (item.Verbatim s ∷ items) = record { item = item.Verbatim s; origin = origin } ∷ counted_items origin items
+counted_items origin (item.Code b ∷ items) = record { item = item.Code b; origin = origin } ∷ counted_items origin items
+counted_items origin (item.LineMark p ∷ items) = counted_items (Some p) items
+counted_items origin (item.LineEnd ∷ items) = counted_items (with_line_end origin) items
+counted_items origin (item.QuoteBreak ∷ items) = counted_items (with_line_end origin) items
+counted_items origin (item.UseOf name ∷ items) = counted_items None items
+counted_items origin (item.Defs ∷ items) = counted_items None items
+counted_items origin (item.Blank ∷ items) = counted_items origin items
 
--- An item with a text, the source line that the text is on, and whether it is in a stretch, where the compiler's place is another.
+-- An item with a text, the source line that the text is on, and whether it is in a stretch, where the counted origin is another.
 -- The item of an ASCII constant doesn't report its line, and a run that was removed has no item: so these come from the tokens of the part.
 pub record Location : Type 0 where
   pub item : Item
@@ -68,16 +68,16 @@ locations stretch join broken (token.AsciiConstant b line ∷ es) =
     record { item = item.Code b; line = line; in_stretch = is_on stretch join broken } ∷ locations (is_on stretch join broken) false false es
 locations stretch join broken (_ ∷ es) = locations (is_on stretch join broken) false false es
 
--- Both are the same item, which is on a line of the source; outside a stretch the compiler's place is that of this line.
-pub record IsOwn (lines : List Line) (p : Placed) (s : Location) : Type 0 where
+-- Both are the same item, which is on a line of the source; outside a stretch the counted origin is that of this line.
+pub record IsOwn (lines : List Line) (p : CountedItem) (s : Location) : Type 0 where
   pub item : p.item ≡ s.item
   pub line : s.line < length lines
-  pub place : s.in_stretch ≡ false → p.place ≡ Some (place_at lines s.line)
+  pub origin : s.in_stretch ≡ false → p.origin ≡ Some (origin_at lines s.line)
 
--- The items with a text of a piece whose opening mark has this place, and where they are: outside stretches each is at the
--- compiler's place that is its own.
+-- The items with a text of a piece whose opening mark has this origin, and where they are: outside stretches each is at the
+-- counted origin that is its own.
 abbrev pub IsAtItsLine : List Line → Origin → List Item → List Location → Type 0
-IsAtItsLine lines mark items text_lines = AllZip (IsOwn lines) (placed_items (Some mark) items) text_lines
+IsAtItsLine lines mark items text_lines = AllZip (IsOwn lines) (counted_items (Some mark) items) text_lines
 
 -- where the texts of a C part are
 abbrev pub part_locations : List Token → List Location
@@ -94,4 +94,4 @@ piece_locations lines = flat_map (λ b. kind_locations b.kind b.tokens) (blocks 
 -- the texts of each piece are at their lines
 abbrev pub PiecesAreAtTheirLines : SourceRead → WebRead → Type 0
 PiecesAreAtTheirLines source web =
-    AllZip (λ p text_lines. IsAtItsLine source.lines p.place p.items text_lines) web.pieces (piece_locations source.lines)
+    AllZip (λ p text_lines. IsAtItsLine source.lines p.origin p.items text_lines) web.pieces (piece_locations source.lines)

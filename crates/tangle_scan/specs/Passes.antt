@@ -2,7 +2,7 @@
 use Rattle.std.specs.Prelude.{◌≡◌, ◌≤◌, ℕ, max, Bool, true, false, ◌||◌, not, if◌then◌else◌}
 use Rattle.std.specs.Prelude.{List, [], ◌∷◌, ◌++◌, length, take, drop}
 use Rattle.std.specs.Prelude.{Option, Some, None, option_to_list}
-use Rattle.tangle_lines.specs.declared.faults.Origin.{Origin}
+use Rattle.tangle_faults.specs.declared.faults.Origin.{Origin}
 use Rattle.tangle_lexer.specs.declared.tokens.Token.{Token}
 use Rattle.tangle_lexer.specs.declared.tokens.Token.TheVariants as token
 use Rattle.tangle_scan.specs.declared.items.Item.{Item}
@@ -18,10 +18,10 @@ use Rattle.tangle_scan.specs.declared.rare_parts.Last.TheVariants as last
 use Rattle.tangle_scan.specs.declared.rare_parts.RareLaying.{RareLaying}
 use Rattle.tangle_lexer.specs.declared.tokens.TextKind.TheVariants as text_kind
 use Rattle.tangle_scan.specs.declared.spacing.Stage.TheVariants as stage
-use Rattle.tangle_lines.specs.Reading.{Line, place_at}
+use Rattle.tangle_lines.specs.Reading.{Line, origin_at}
 use Rattle.tangle_scan.specs.Rules.{without_faults, without_front_gaps, may_follow_name, is_gap}
 use Rattle.tangle_scan.specs.Rules.{would_merge, is_constant, is_word_token, has_join, without_joins}
-use Rattle.tangle_scan.specs.Rules.{blanks, items_by_place, text_item, next_line, line_item}
+use Rattle.tangle_scan.specs.Rules.{blanks, items_by_origin, text_item, next_line, line_item}
 use Rattle.tangle_scan.specs.Rules.{count_behind, unmarked_items}
 
 -- the run at the end of a list begins in it, and its flag says whether it has a join
@@ -29,7 +29,7 @@ pub record IsRun (out : List Token) (run : Run) : Type 0 where
   pub start : run.start ≤ length out
   pub has : run.has_join ≡ has_join (drop run.start out)
 
--- rule 2 where its run begins at a place of what was added
+-- rule 2 where its run begins at a position of what was added
 unfoldable pub without_joins_from : List Token → ℕ → List Token → List Token
 without_joins_from out start es = take start out ++ without_joins (drop start out) es
 
@@ -93,7 +93,7 @@ abbrev pub counts : Count → Origin
 counts count = record { file = count.file; line = count.line }
 
 unfoldable pub items_ahead : List Line → Laying → List Token → List Item
-items_ahead lines at es = items_by_place lines (counts at.count) (blanks at.before.item at.before.white es)
+items_ahead lines at es = items_by_origin lines (counts at.count) (blanks at.before.item at.before.white es)
 
 -- the item that a token is in C parts and macros alike
 abbrev pub item_of : Token → Option Item
@@ -104,14 +104,14 @@ item_of _ = None
 
 -- the items that rules 4 and 5 give for a token that is no white space and no line end
 abbrev pub items_at : List Line → Token → List Item
-items_at lines (token.UseOf name line) = item.UseOf name ∷ item.LineMark (place_at lines line) ∷ []
-items_at lines (token.AllMacros line) = item.Defs ∷ item.LineMark (place_at lines line) ∷ []
+items_at lines (token.UseOf name line) = item.UseOf name ∷ item.LineMark (origin_at lines line) ∷ []
+items_at lines (token.AllMacros line) = item.Defs ∷ item.LineMark (origin_at lines line) ∷ []
 items_at lines e = option_to_list (item_of e)
 
 -- the count behind it
 abbrev pub count_after : List Line → Origin → Token → Origin
-count_after lines count (token.UseOf name line) = place_at lines line
-count_after lines count (token.AllMacros line) = place_at lines line
+count_after lines count (token.UseOf name line) = origin_at lines line
+count_after lines count (token.AllMacros line) = origin_at lines line
 count_after lines count token.QuoteBreak = next_line count
 count_after lines count e = count
 

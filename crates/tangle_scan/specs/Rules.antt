@@ -1,25 +1,21 @@
 -- From the tokens of a C part or a macro to its items: five rules, each applied to the whole list in turn.
 use Rattle.std.specs.Prelude.{ℕ, ◌+◌, Bool, true, false, ◌==◌, nat_le, ◌&&◌, ◌||◌, not, ◌-◌, List, [], ◌∷◌, ◌++◌, length, take, drop, get_or, if◌then◌else◌}
-use Rattle.tangle_lines.specs.declared.faults.Origin.{Origin}
-use Rattle.tangle_lines.specs.Reading.{Line, place_at}
-use Rattle.tangle_lexer.specs.declared.spans.Span.{Span}
+use Rattle.tangle_faults.specs.declared.faults.Origin.{Origin}
+use Rattle.tangle_lines.specs.Reading.{Line, origin_at}
+use Rattle.tangle_text.specs.declared.spans.Span.{Span}
 use Rattle.tangle_scan.specs.declared.items.Item.{Item}
 use Rattle.tangle_scan.specs.declared.items.Item.TheVariants as item
 use Rattle.tangle_lexer.specs.declared.tokens.Token.{Token}
 use Rattle.tangle_lexer.specs.declared.tokens.TextKind.{TextKind}
 use Rattle.tangle_lexer.specs.declared.tokens.TextKind.TheVariants as text_kind
 use Rattle.tangle_lexer.specs.declared.tokens.Token.TheVariants as token
-use Rattle.tangle_lexer.specs.Bytes.{left_parenthesis, is_digit}
+use Rattle.tangle_text.specs.Bytes.{left_parenthesis, is_digit}
 
 -- the source lines
 
 -- the bytes of a span
 abbrev pub span_text : List (List ℕ) → Span → List ℕ
 span_text texts s = take (s.end - s.start) (drop s.start (get_or texts s.line []))
-
--- what is behind it in its line
-abbrev pub text_behind : List (List ℕ) → Span → List ℕ
-text_behind texts s = drop s.end (get_or texts s.line [])
 
 -- its first byte
 abbrev pub first_byte : List (List ℕ) → Span → ℕ
@@ -106,27 +102,27 @@ blanks item white (token.White ∷ es) = blanks item true es
 blanks item white (token.LineEnd line ∷ es) = token.LineEnd line ∷ blanks false false es
 blanks item white (e ∷ es) = (if item && white then token.White ∷ [] else []) ++ e ∷ blanks true false es
 
--- Rules 4 and 5: the place that the compiler counts. A line end goes on by one line; it is a mark instead where the next source line has
--- another place. A mark is behind each use and each @h too, for the line on which it ends.
+-- Rules 4 and 5: the origin that the compiler counts. A line end goes on by one line; it is a mark instead where the next source line has
+-- another origin. A mark is behind each use and each @h too, for the line on which it ends.
 
 abbrev pub next_line : Origin → Origin
 next_line p = record { file = p.file; line = p.line + 1 }
 
-abbrev pub same_place : Origin → Origin → Bool
-same_place p q = p.file == q.file && p.line == q.line
+abbrev pub same_origin : Origin → Origin → Bool
+same_origin p q = p.file == q.file && p.line == q.line
 
--- behind this line, with this count, no mark is needed: it is the last one, or the next one has the place that is counted
+-- behind this line, with this count, no mark is needed: it is the last one, or the next one has the origin that is counted
 abbrev pub goes_on : List Line → Origin → ℕ → Bool
 goes_on lines count line =
-    nat_le (length lines) (line + 1) || same_place (place_at lines (line + 1)) (next_line count)
+    nat_le (length lines) (line + 1) || same_origin (origin_at lines (line + 1)) (next_line count)
 
 abbrev pub count_behind : List Line → Origin → ℕ → Origin
 count_behind lines count line =
-    if goes_on lines count line then next_line count else place_at lines (line + 1)
+    if goes_on lines count line then next_line count else origin_at lines (line + 1)
 
 abbrev pub line_item : List Line → Origin → ℕ → Item
 line_item lines count line =
-    if goes_on lines count line then item.LineEnd else item.LineMark (place_at lines (line + 1))
+    if goes_on lines count line then item.LineEnd else item.LineMark (origin_at lines (line + 1))
 
 -- the item that a text of a kind is
 abbrev pub text_item : TextKind → Span → Item
@@ -136,25 +132,25 @@ text_item text_kind.Quoted s = item.Quoted s
 text_item text_kind.Verbatim s = item.Verbatim s
 
 -- the items of a C part, with the count before them
-abbrev pub items_by_place : List Line → Origin → List Token → List Item
-items_by_place lines count [] = []
-items_by_place lines count (token.LineEnd line ∷ es) =
-    line_item lines count line ∷ items_by_place lines (count_behind lines count line) es
-items_by_place lines count (token.QuoteBreak ∷ es) = item.QuoteBreak ∷ items_by_place lines (next_line count) es
-items_by_place lines count (token.Text kind s ∷ es) = text_item kind s ∷ items_by_place lines count es
-items_by_place lines count (token.AsciiConstant value line ∷ es) = item.Code value ∷ items_by_place lines count es
-items_by_place lines count (token.White ∷ es) = item.Blank ∷ items_by_place lines count es
-items_by_place lines count (token.UseOf name line ∷ es) =
-    item.UseOf name ∷ item.LineMark (place_at lines line) ∷ items_by_place lines (place_at lines line) es
-items_by_place lines count (token.AllMacros line ∷ es) =
-    item.Defs ∷ item.LineMark (place_at lines line) ∷ items_by_place lines (place_at lines line) es
+abbrev pub items_by_origin : List Line → Origin → List Token → List Item
+items_by_origin lines count [] = []
+items_by_origin lines count (token.LineEnd line ∷ es) =
+    line_item lines count line ∷ items_by_origin lines (count_behind lines count line) es
+items_by_origin lines count (token.QuoteBreak ∷ es) = item.QuoteBreak ∷ items_by_origin lines (next_line count) es
+items_by_origin lines count (token.Text kind s ∷ es) = text_item kind s ∷ items_by_origin lines count es
+items_by_origin lines count (token.AsciiConstant value line ∷ es) = item.Code value ∷ items_by_origin lines count es
+items_by_origin lines count (token.White ∷ es) = item.Blank ∷ items_by_origin lines count es
+items_by_origin lines count (token.UseOf name line ∷ es) =
+    item.UseOf name ∷ item.LineMark (origin_at lines line) ∷ items_by_origin lines (origin_at lines line) es
+items_by_origin lines count (token.AllMacros line ∷ es) =
+    item.Defs ∷ item.LineMark (origin_at lines line) ∷ items_by_origin lines (origin_at lines line) es
 -- heads, joins and faults are no items
-items_by_place lines count (_ ∷ es) = items_by_place lines count es
+items_by_origin lines count (_ ∷ es) = items_by_origin lines count es
 
 -- the items of a C part whose head ends on this line
 abbrev pub part_items : List Line → ℕ → List Token → List Item
 part_items lines line tokens =
-    items_by_place lines (place_at lines line) (blanks false false (without_joins [] (with_spaces (without_faults tokens))))
+    items_by_origin lines (origin_at lines line) (blanks false false (without_joins [] (with_spaces (without_faults tokens))))
 
 -- Macros have no marks, and white space and line ends behind @d are skipped.
 

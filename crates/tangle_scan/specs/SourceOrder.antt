@@ -1,7 +1,7 @@
 -- Where the texts of items are: in lines of the source, and in its order.
 use Rattle.std.specs.Prelude.{◌≡◌, ◌≤◌, ◌<◌, ℕ, List, [], ◌∷◌, length, get_or, flat_map}
 use Rattle.std.specs.List.{All, AllPairs}
-use Rattle.tangle_lexer.specs.declared.spans.Span.{Span}
+use Rattle.tangle_text.specs.declared.spans.Span.{Span}
 use Rattle.tangle_scan.specs.declared.items.Item.{Item}
 use Rattle.tangle_scan.specs.declared.items.Item.TheVariants as item
 use Rattle.tangle_scan.specs.Web.{WebRead}

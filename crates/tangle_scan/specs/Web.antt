@@ -1,11 +1,11 @@
 -- The web: the tokens of the whole text, grouped by section into pieces, macros and occurrences.
 use Rattle.std.specs.Prelude.{ℕ, ◌+◌, Bool, true, false, List, [], ◌∷◌, ◌++◌, map, flat_map, if◌then◌else◌, Option, Some, None}
 use Rattle.std.specs.List.{list_any}
-use Rattle.tangle_lines.specs.declared.faults.Origin.{Origin}
-use Rattle.tangle_lines.specs.declared.faults.FaultKind.{FaultKind}
-use Rattle.tangle_lines.specs.declared.faults.FaultKind.TheVariants as fault
-use Rattle.tangle_lines.specs.Faults.{FaultRead, fault_at}
-use Rattle.tangle_lines.specs.Reading.{Line, SourceRead, named, place_at}
+use Rattle.tangle_faults.specs.declared.faults.Origin.{Origin}
+use Rattle.tangle_faults.specs.declared.faults.FaultKind.{FaultKind}
+use Rattle.tangle_faults.specs.declared.faults.FaultKind.TheVariants as fault
+use Rattle.tangle_faults.specs.Faults.{FaultRead, fault_at}
+use Rattle.tangle_lines.specs.Reading.{Line, SourceRead, named, origin_at}
 use Rattle.tangle_files.specs.Lines.{FileTable}
 use Rattle.tangle_scan.specs.declared.items.Item.{Item}
 use Rattle.tangle_scan.specs.declared.items.Item.TheVariants as item
@@ -17,17 +17,17 @@ use Rattle.tangle_lexer.specs.Occurrences.{OccurrenceRead, occurrence_of}
 use Rattle.tangle_lexer.specs.Steps.{all_tokens, all_occurrences}
 use Rattle.tangle_scan.specs.Rules.{part_items, macro_items, is_macro}
 
--- a piece: a C part, with the number of its section, the place of its opening mark, the number of its name's occurrence if it has a name,
+-- a piece: a C part, with the number of its section, the origin of its opening mark, the number of its name's occurrence if it has a name,
 -- and its items
 pub record PieceRead : Type 0 where
   pub section : ℕ
-  pub place : Origin
+  pub origin : Origin
   pub occurrence : Option ℕ
   pub items : List Item
 
 -- a line mark
 abbrev pub is_line_mark : Item → Bool
-is_line_mark (item.LineMark place) = true
+is_line_mark (item.LineMark origin) = true
 is_line_mark _ = false
 
 -- a web, with the bytes of its source lines and the names of its files
@@ -101,7 +101,7 @@ module _ (lines : List Line) where
   abbrev pub kind_piece : BlockKind → Block → List PieceRead
   kind_piece (OfMacro line) p = []
   kind_piece (OfPiece occurrence line) p =
-      record { section = p.section; place = place_at lines line; occurrence = occurrence; items = part_items lines line p.tokens } ∷ []
+      record { section = p.section; origin = origin_at lines line; occurrence = occurrence; items = part_items lines line p.tokens } ∷ []
 
   -- the piece that a block is
   abbrev pub piece_of : Block → List PieceRead
@@ -120,7 +120,7 @@ module _ (lines : List Line) where
 
 module _ (files : FileTable) (lines : List Line) where
   abbrev pub fault_on : FaultKind → ℕ → FaultRead
-  fault_on kind line = fault_at kind (named files (place_at lines line))
+  fault_on kind line = fault_at kind (named files (origin_at lines line))
 
   -- the fault of a macro that is dropped
   abbrev pub macro_fault : ℕ → List Token → List FaultRead

@@ -1,12 +1,12 @@
 //! From the tokens of C parts and macros to the pieces, macros and faults of a web.
-ghost use Rattle.std.specs.Prelude.{◌≡◌, ◌≤◌, ◌<◌, ◌+◌, ◌^◌, ◌++◌, ◌∷◌, ◌||◌, [], ℕ, List, length};
+ghost use Rattle.std.specs.Prelude.{◌≡◌, ◌≤◌, ◌<◌, ◌+◌, ◌^◌, ◌++◌, ◌∷◌, ◌||◌, []};
 ghost use Rattle.std.specs.Prelude.{flat_map, if◌then◌else◌, true, false, Option, Some, None, IfOk};
 ghost use Rattle.std.specs.Prelude.{OnOk};
 ghost use Rattle.std.specs.List.{list_any};
-ghost use Rattle.tangle_lines.specs.declared.faults.FaultKind.TheVariants as fault;
+ghost use Rattle.tangle_faults.specs.declared.faults.FaultKind.TheVariants as fault;
 ghost use Rattle.tangle_scan.specs.Passes as passes;
 ghost use Rattle.tangle_scan.specs.Rules as rules;
-ghost use Rattle.tangle_lines.specs.Reading.{place_at};
+ghost use Rattle.tangle_lines.specs.Reading.{origin_at};
 ghost use Rattle.tangle_scan.specs.Web as web;
 ghost use Rattle.tangle_lexer.specs.Heads.{is_head};
 ghost use Rattle.tangle_scan.specs.Web.{texts_of, is_line_mark};
@@ -243,7 +243,7 @@ impl Gathering {
         ensures piece { OnOk result (self.new ≡ record self.old {
           pieces = self.old.pieces ++ record {
             section = self.old.sections;
-            place = place_at source.now.lines line;
+            origin = origin_at source.now.lines line;
             occurrence = occurrence;
             items = rules.part_items source.now.lines line tokens.now;
           } ∷ [];
@@ -252,8 +252,8 @@ impl Gathering {
         ensures rare { IfOk result (λ rare. rare ≡ list_any passes.is_rare tokens.now) }
     {
         let (items, laid) = part_items(alloc, source, line, tokens)?;
-        let place = source.origin(line as usize);
-        let piece = Piece::new(self.sections, place, occurrence, items, laid.may_have_mark);
+        let origin = source.origin(line as usize);
+        let piece = Piece::new(self.sections, origin, occurrence, items, laid.may_have_mark);
         self.pieces.push(piece)?;
         self.has_defs_code = self.has_defs_code || has_all_macros(tokens, laid.has_rare);
         Ok(laid.has_rare)

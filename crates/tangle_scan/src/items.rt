@@ -2,8 +2,8 @@
 ghost use Rattle.std.specs.Prelude.{◌≡◌};
 
 use std::marker::Model;
-use tangle_lexer::Span;
 use tangle_lines::Origin;
+use tangle_text::Span;
 
 /// How many numbers the low half of an occurrence's number distinguishes.
 const LOW_NUMBERS: usize = 4_294_967_296;
@@ -73,7 +73,7 @@ pub enum Item {
     Blank,
     /// A line end.
     LineEnd,
-    /// Here the compiler gets this place.
+    /// Here the compiler gets this origin.
     LineMark(Origin),
     /// A use of a section name, by the number of its occurrence.
     UseOf(OccurrenceNumber),

@@ -1,13 +1,13 @@
 //! From tokens to items: those of a C part without rare tokens, and those that spacing leaves of a
 //! macro. White space between two items of a line is a blank, and other white space is dropped. A
 //! line mark is behind each use and each `@h`, and in place of a line end where the next source
-//! line has another place than the compiler would count.
-ghost use Rattle.std.specs.Prelude.{◌≡◌, ◌≤◌, ◌<◌, ◌-◌, ◌+◌, ◌^◌, ◌++◌, ◌∷◌, ◌&&◌, ◌||◌, [], ℕ};
-ghost use Rattle.std.specs.Prelude.{List, length, max, if◌then◌else◌, true, false, Option, None};
+//! line has another origin than the compiler would count.
+ghost use Rattle.std.specs.Prelude.{◌≡◌, ◌≤◌, ◌<◌, ◌-◌, ◌+◌, ◌^◌, ◌++◌, ◌∷◌, ◌&&◌, ◌||◌, []};
+ghost use Rattle.std.specs.Prelude.{List, max, if◌then◌else◌, true, false, Option, None};
 ghost use Rattle.std.specs.Prelude.{Some, option_to_list, IfOk, OnOk};
 ghost use Rattle.std.specs.List.{list_any};
 ghost use Rattle.tangle_scan.specs.Rules as rules;
-ghost use Rattle.tangle_lines.specs.Reading.{place_at};
+ghost use Rattle.tangle_lines.specs.Reading.{origin_at};
 ghost use Rattle.tangle_scan.specs.Passes as passes;
 ghost use Rattle.tangle_scan.specs.Web.{is_line_mark};
 ghost use Rattle.tangle_scan.specs.Passes.{counts, items_ahead, unmarked_from};
@@ -16,10 +16,11 @@ ghost use Rattle.tangle_scan.specs.declared.items.Item.TheVariants as item;
 
 use crate::items::{Item, OccurrenceNumber};
 use crate::spacing::is_rare;
-use tangle_lexer::{Span, TextKind, Token};
+use tangle_lexer::{TextKind, Token};
 use tangle_lines::{NoMemory, Origin, Source};
+use tangle_text::Span;
 
-/// What is before a place on its line: an item, and white space behind it.
+/// What is before a position on its line: an item, and white space behind it.
 #[derive(Clone, Copy)]
 struct Before {
     item: bool,
@@ -44,14 +45,14 @@ struct Laying {
 
 /// The count on a source line.
 pub fn count_on(source: &Source, line: u32) -> Count
-    ensures place { counts result ≡ place_at source.now.lines line }
+    ensures origin { counts result ≡ origin_at source.now.lines line }
     ensures room { result.line < 2 ^ 32 }
     ensures mark { result.has_mark ≡ false }
 {
-    let place = source.origin(line as usize);
+    let origin = source.origin(line as usize);
     Count {
-        file: place.file as usize,
-        line: place.line as usize,
+        file: origin.file as usize,
+        line: origin.line as usize,
         has_mark: false,
     }
 }
@@ -68,35 +69,35 @@ fn next_line(count: Count) -> Count
     }
 }
 
-/// The place of the next source line, where it is not the one that is counted: then a mark replaces
-/// the line end.
+/// The origin of the next source line, where it is not the one that is counted: then a mark
+/// replaces the line end.
 fn mark_behind(source: &Source, count: Count, line: u32) -> Option<Origin>
     requires { count.line < 2 ^ 63 }
     ensures { result ≡ (if rules.goes_on source.now.lines (counts count) line then None
-        else Some (place_at source.now.lines (line + 1))) }
+        else Some (origin_at source.now.lines (line + 1))) }
 {
     let next = line as usize + 1;
     if next >= source.count() {
         return None;
     }
-    let place = source.origin(next);
-    if place.file as usize == count.file && place.line as usize == count.line + 1 {
+    let origin = source.origin(next);
+    if origin.file as usize == count.file && origin.line as usize == count.line + 1 {
         return None;
     }
-    Some(place)
+    Some(origin)
 }
 
 /// Puts a mark, which sets the count.
-fn put_mark(items: &mut Vec<Item>, place: Origin) -> Result<Count, NoMemory>
-    ensures items { OnOk result (items.new.items ≡ items.old.items ++ item.LineMark place ∷ []) }
-    ensures count { IfOk result (λ count. counts count ≡ place) }
+fn put_mark(items: &mut Vec<Item>, origin: Origin) -> Result<Count, NoMemory>
+    ensures items { OnOk result (items.new.items ≡ items.old.items ++ item.LineMark origin ∷ []) }
+    ensures count { IfOk result (λ count. counts count ≡ origin) }
     ensures room { IfOk result (λ count. count.line < 2 ^ 32) }
     ensures mark { IfOk result (λ count. count.has_mark ≡ true) }
 {
-    items.push(Item::LineMark(place))?;
+    items.push(Item::LineMark(origin))?;
     Ok(Count {
-        file: place.file as usize,
-        line: place.line as usize,
+        file: origin.file as usize,
+        line: origin.line as usize,
         has_mark: true,
     })
 }
@@ -124,7 +125,7 @@ pub fn put_line_end(
             items.push(Item::LineEnd)?;
             Ok(next_line(count))
         }
-        Some(place) => put_mark(items, place),
+        Some(origin) => put_mark(items, origin),
     }
 }
 
@@ -213,7 +214,7 @@ pub fn put_item(
     }
 }
 
-/// Items were laid up to a place with this before it, and with this count.
+/// Items were laid up to a position with this before it, and with this count.
 #[inline(always)]
 fn laid_to(item: bool, white: bool, count: Count) -> Laying
     ensures { result ≡ record { before = record { item = item; white = white }; count = count } }

@@ -17,5 +17,6 @@ pub use kept_bytes::no_byte_is_lost;
 pub use line_truth::pieces_are_at_their_lines;
 pub use pieces::{Macro, Piece};
 pub use scanning::scan;
-pub use tangle_lexer::{Occurrence, OccurrenceRole, Span};
+pub use tangle_lexer::{Occurrence, OccurrenceRole};
+pub use tangle_text::Span;
 pub use webs::Web;

@@ -4,8 +4,8 @@ ghost use Rattle.tangle_scan.specs.LineTruth.{PiecesAreAtTheirLines};
 ghost use Rattle.tangle_scan.specs.Web.{web_of};
 
 /// In the web of each source, each word, sign, quoted text, verbatim text and ASCII constant of a
-/// piece is at the place that a compiler counts by the marks and line ends before it, but for those
-/// in stretches.
+/// piece is at the origin that a compiler counts by the marks and line ends before it, but for
+/// those in stretches.
 pub fn pieces_are_at_their_lines()
     ensures { (source : SourceRead) → PiecesAreAtTheirLines source (web_of source) }
 {}

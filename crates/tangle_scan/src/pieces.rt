@@ -1,5 +1,5 @@
 //! The pieces and the macros of a web.
-ghost use Rattle.std.specs.Prelude.{◌≡◌, ℕ, List, false};
+ghost use Rattle.std.specs.Prelude.{◌≡◌, List, false};
 ghost use Rattle.std.specs.List.{list_any};
 ghost use Rattle.tangle_scan.specs.Web.{is_line_mark};
 
@@ -11,7 +11,7 @@ use tangle_lines::Origin;
 #[derive(Drop)]
 pub struct Piece {
     section: usize,
-    place: Origin,
+    origin: Origin,
     occurrence: Option<usize>,
     items: Vec<Item>,
     /// Without it no item is a line mark.
@@ -27,7 +27,7 @@ impl Model for Piece {
 
     ghost view = { λ p. record {
       section = p.section;
-      place = p.place;
+      origin = p.origin;
       occurrence =
           p.occurrence;
       items = p.items.items;
@@ -41,7 +41,7 @@ impl Piece {
     /// A piece of these items, of which none may be a line mark but where that is said.
     pub(crate) fn new(
         section: usize,
-        place: Origin,
+        origin: Origin,
         occurrence: Option<usize>,
         items: Vec<Item>,
         may_have_mark: bool,
@@ -49,7 +49,7 @@ impl Piece {
         requires { may_have_mark ≡ false → list_any is_line_mark items.items ≡ false }
         ensures { result ≡ record {
           section = section;
-          place = place;
+          origin = origin;
           occurrence =
               occurrence;
           items = items.items;
@@ -57,7 +57,7 @@ impl Piece {
     {
         Piece {
             section,
-            place,
+            origin,
             occurrence,
             items,
             may_have_mark,
@@ -71,11 +71,11 @@ impl Piece {
         self.section
     }
 
-    /// The place of its opening mark: the line on which its head ends.
-    pub fn place(&self) -> Origin
-        ensures { result ≡ self.now.place }
+    /// The origin of its opening mark: the line on which its head ends.
+    pub fn origin(&self) -> Origin
+        ensures { result ≡ self.now.origin }
     {
-        self.place
+        self.origin
     }
 
     /// The number of its name's occurrence, or none for a piece of the unnamed program.

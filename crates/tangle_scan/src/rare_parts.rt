@@ -16,7 +16,7 @@ use crate::laying::{Count, count_on, put_item, put_line_end, text_item};
 use tangle_lexer::{TextKind, Token};
 use tangle_lines::{NoMemory, Source};
 
-/// What is last before a place, faults aside.
+/// What is last before a position, faults aside.
 #[derive(Clone, Copy)]
 enum Last {
     /// Nothing, or a line end.
@@ -113,7 +113,7 @@ fn last_of(token: Token) -> Last
     }
 }
 
-/// Items were laid up to a place with this last before it, with this count and start.
+/// Items were laid up to a position with this last before it, with this count and start.
 #[inline(always)]
 fn laid_to(last: Last, count: Count, start: Start) -> RareLaying
     ensures { result ≡ record { last = last; count = count; start = start } }

@@ -1,6 +1,6 @@
 //! The scanner's run over a source.
 ghost use Rattle.std.specs.Prelude.{◌≡◌, ◌<◌, ◌+◌, ◌^◌, length, map, IfOk};
-ghost use Rattle.tangle_lexer.specs.Text.{text_from};
+ghost use Rattle.tangle_text.specs.Text.{text_from};
 ghost use Rattle.tangle_lexer.specs.Steps.{all_tokens, all_occurrences};
 ghost use Rattle.tangle_scan.specs.Web.{web_of};
 ghost use Rattle.tangle_lexer.specs.Occurrences.{occurrence_of};
@@ -12,15 +12,16 @@ ghost use Rattle.tangle_scan.specs.Gathering.{nothing, gathering_with};
 use crate::gathering::{Gathering, Workspace};
 use crate::webs::Web;
 use std::alloc::Global;
-use tangle_lexer::{LexerOutput, Occurrence, Reader, first_state, next_block};
+use tangle_lexer::{LexerOutput, Occurrence, first_state, next_block};
 use tangle_lines::{NoMemory, Source};
+use tangle_text::Reader;
 
 /// Gathers the pieces, macros and faults of a source, and the occurrences of its names.
 fn gather(alloc: Global, source: &Source) -> Result<(Gathering, Vec<Occurrence>), NoMemory>
     requires { length (text_from 0 source.now.lines) + 1 < 2 ^ 64 }
     ensures gathering { IfOk result
         (λ r. r.0 ≡ gathering_with source.now nothing (all_tokens source.now.lines)) }
-    ensures names { IfOk result
+    ensures occurrences { IfOk result
         (λ r. r.1.items ≡ map (occurrence_of source.now.lines) (all_occurrences source.now.lines)) }
 {
     let mut gathering = Gathering::new(alloc);
@@ -31,24 +32,23 @@ fn gather(alloc: Global, source: &Source) -> Result<(Gathering, Vec<Occurrence>)
     };
     let mut ahead = Reader::new(source);
     let first = first_state(source);
-    let (mut state, mut front) = next_block(alloc, source, &mut output, &mut ahead, first)?;
+    let (mut state, mut front) = next_block(source, &mut output, &mut ahead, first)?;
     gathering.add_front(alloc, source, &output.tokens)?;
     while let Some(head) = front {
-        (state, front) = next_block(alloc, source, &mut output, &mut ahead, state)?;
+        (state, front) = next_block(source, &mut output, &mut ahead, state)?;
         gathering.add_block(alloc, source, &mut workspace, head, &output.tokens)?;
     }
     Ok((gathering, output.occurrences))
 }
 
-/// How many bytes the lines of a source have; with its line ends these are few.
-fn byte_count(source: &Source) -> usize
+/// The text of a source is short: it has at most 2,000,000 lines, each of at most 65,535 bytes and
+/// a line end. This is proved line by line, and changes nothing.
+fn text_is_short(source: &Source)
     ensures { length (text_from 0 source.now.lines) < 2 ^ 63 }
 {
-    let mut total = 0;
     for number in 0..source.count() {
-        total += source.line(number).len();
+        let _ = source.line(number);
     }
-    total
 }
 
 /// Scans the lines of a source: finds its sections, C parts, macros and section names, and what
@@ -69,7 +69,7 @@ pub fn scan<'s, 'a>(alloc: Global, source: &'s Source<'a>) -> Result<Web<'s, 'a>
     ensures line_truth { IfOk result (λ web. PiecesAreAtTheirLines source.now web) }
 {
     // No section is counted over the limit, since the text has so few bytes.
-    byte_count(source);
+    text_is_short(source);
     let (gathering, occurrences) = gather(alloc, source)?;
     Ok(Web::new(source, gathering, occurrences))
 }

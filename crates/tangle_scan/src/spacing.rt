@@ -1,8 +1,8 @@
 //! White space between the tokens of a macro. It is put between a word and an ASCII constant, or
 //! two constants, that touch, and behind the name. Each run of joins, white space and line ends
 //! that has a join is taken out.
-ghost use Rattle.std.specs.Prelude.{◌≡◌, ◌≤◌, ◌<◌, ◌-◌, ◌+◌, ◌++◌, ◌∷◌, [], ℕ, List, length, take};
-ghost use Rattle.std.specs.Prelude.{drop, get_or, if◌then◌else◌, IfOk, OnOk};
+ghost use Rattle.std.specs.Prelude.{◌≡◌, ◌<◌, ◌-◌, ◌+◌, ◌++◌, ◌∷◌, [], List, take};
+ghost use Rattle.std.specs.Prelude.{get_or, if◌then◌else◌, IfOk, OnOk};
 ghost use Rattle.std.specs.List.{list_any};
 ghost use Rattle.tangle_scan.specs.Rules as rules;
 ghost use Rattle.tangle_scan.specs.Web.{texts_of};
@@ -11,8 +11,9 @@ ghost use Rattle.tangle_scan.specs.Passes.{IsRun, without_joins_from, spacing_fr
 ghost use Rattle.tangle_lexer.specs.declared.tokens.Token.{Token};
 ghost use Rattle.tangle_lexer.specs.declared.tokens.Token.TheVariants as token;
 
-use tangle_lexer::{Span, TextKind, Token};
+use tangle_lexer::{TextKind, Token};
 use tangle_lines::{NoMemory, Source};
+use tangle_text::Span;
 
 /// A join, white space or a line end.
 fn is_gap(token: Token) -> bool
@@ -115,7 +116,7 @@ pub fn first_byte(source: &Source, span: Span) -> u8
     0
 }
 
-/// The byte at a place of a line, or 0.
+/// The byte at a position of a line, or 0.
 fn byte_at(line: &[u8], column: usize) -> u8
     ensures { result ≡ get_or line.now column 0 }
 {

@@ -1,7 +1,7 @@
 //! The scanned web.
-ghost use Rattle.std.specs.Prelude.{◌≡◌, ◌≤◌, ◌<◌, ℕ, List, [], get_or, length};
+ghost use Rattle.std.specs.Prelude.{◌≡◌, ◌≤◌, ◌<◌, [], get_or, length};
 ghost use Rattle.tangle_files.specs.Adding.{most_files};
-ghost use Rattle.tangle_scan.specs.Rules.{span_text, text_behind};
+ghost use Rattle.tangle_scan.specs.Rules.{span_text};
 ghost use Rattle.tangle_scan.specs.SourceOrder.{IsSpan};
 ghost use Rattle.tangle_scan.specs.WellFormed.{IsWellFormed};
 ghost use Rattle.tangle_scan.specs.Gathering.{web_from};
@@ -9,8 +9,9 @@ ghost use Rattle.tangle_scan.specs.Gathering.{web_from};
 use crate::gathering::Gathering;
 use crate::pieces::{Macro, Piece};
 use std::marker::Model;
-use tangle_lexer::{Occurrence, Span};
+use tangle_lexer::Occurrence;
 use tangle_lines::{Fault, Origin, Source};
+use tangle_text::Span;
 
 /// A scanned web. It borrows the source, and so has its lines and the names of its files. Every web
 /// is well formed: the texts of its items are ranges of its lines, and its uses and pieces name
@@ -122,16 +123,7 @@ impl<'s, 'a> Web<'s, 'a> {
         self.source.line(number as usize)
     }
 
-    /// What is behind a range, up to the end of its line.
-    pub fn text_behind(&self, span: Span) -> &[u8]
-        requires { IsSpan self.now.texts span }
-        ensures { result.now ≡ text_behind self.now.texts span }
-    {
-        let line = self.source.line(span.line as usize);
-        &line[span.end as usize..]
-    }
-
-    /// How many files there are, one of which each place of this web is in: at most 256.
+    /// How many files there are, one of which each origin of this web is in: at most 256.
     pub fn file_count(&self) -> usize
         ensures count { result ≡ length self.now.file_names }
         ensures limit { result ≤ most_files }
@@ -139,7 +131,7 @@ impl<'s, 'a> Web<'s, 'a> {
         self.source.file_count()
     }
 
-    /// The name of the file of a place of this web; no bytes, if the web has no such file.
+    /// The name of the file of an origin of this web; no bytes, if the web has no such file.
     pub fn file_name(&self, origin: Origin) -> &[u8]
         ensures { result.now ≡ get_or self.now.file_names origin.file [] }
     {

@@ -129,7 +129,7 @@ kept_fits xs ys short long =
     (unended_unfed [] xs refl) some) in
     omega (arith, fits, long)
 
--- what was read is a front of the script
+-- what was read is a prefix of the script
 is_front : (script read : List ℕ) (after : Option (List ℕ)) → Consumes (Some script) after read
     → (rest : List ℕ) × (script ≡ read ++ rest)
 is_front script read None given = absurd given

@@ -26,7 +26,7 @@ conversation state stream coming reader_failures = record {
   reader_failures = reader_failures;
 }
 
--- A text was written: the writer has all of it and did not fail, or has a front of it and failed.
+-- A text was written: the writer has all of it and did not fail, or has a prefix of it and failed.
 abbrev pub WritesText : {T E : Type 0} → Stream → Stream → List ℕ → Result T E → Type 0
 WritesText old new text (Ok done) = Appends old.taken new.taken text × (new.failures ≡ old.failures)
 WritesText old new text (Err fault) =
@@ -58,7 +58,7 @@ module _ {State : Type 0} (answers : State → Request → List ℕ → State �
     pub written : Appends old.stream.taken new.stream.taken text
     pub failures : new.stream.failures ≡ old.stream.failures
 
-  -- the writer failed, and has the answers to a front of the commands and a part of one more
+  -- the writer failed, and has the answers to a prefix of the commands and a part of one more
   pub record IsCut (old new : Exchange State) (commands : List Command) : Type 0 where
     pub front : List Command
     pub last : Command

@@ -1,5 +1,5 @@
 //! The commands in some bytes are answered.
-ghost use Rattle.std.specs.Prelude.{◌≡◌, ◌≤◌, List, drop, length, false, IfErr, IfOk};
+ghost use Rattle.std.specs.Prelude.{◌≡◌, ◌≤◌, drop, length, false, IfErr, IfOk};
 ghost use Rattle.std.specs.Option.{option_copied};
 ghost use Rattle.tangle_script.specs.Commands.{OnlyWaits, all_commands, ended_commands};
 ghost use Rattle.tangle_script.specs.Commands.{found_commands, is_nothing, kept};

@@ -3,7 +3,7 @@ ghost use Rattle.std.specs.Prelude.{◌≡◌, ◌<◌, ◌≤◌, ◌+◌, ℕ,
 ghost use Rattle.std.specs.Prelude.{IfSome, IfNone, OnOk, OnErr};
 ghost use Rattle.std.specs.Io.KnownBytes.{Consumes, IsAtEnd, Keeps};
 ghost use Rattle.tangle_streams.specs.Feeds.{counted_read};
-ghost use Rattle.tangle_script.specs.Rooms.{in_use};
+ghost use Rattle.tangle_script.specs.Rooms.{in_use, chunk, stack_room};
 
 use std::alloc::{AllocError, Global};
 use tangle_streams::Feed;
@@ -22,7 +22,7 @@ pub struct Buffer {
     long: Vec<u8>,
     len: usize,
     ghost within: { len ≤ length (in_use room long.items) },
-    ghost large: { 8192 ≤ length (in_use room long.items) },
+    ghost large: { stack_room ≤ length (in_use room long.items) },
 }
 
 // Reads so many bytes at most, behind the first ones of the room.
@@ -82,8 +82,8 @@ impl Buffer {
     /// The allocation failed. It is tried for more than 4,096 bytes alone.
     pub fn make_room(&mut self) -> Result<(), AllocError>
         ensures bytes { OnOk result (bytes self.new ≡ bytes self.old) }
-        ensures room { OnOk result (length (bytes self.new) + 4096 ≤ size self.new) }
-        ensures err { OnErr result (4096 < length (bytes self.old)) }
+        ensures room { OnOk result (length (bytes self.new) + chunk ≤ size self.new) }
+        ensures err { OnErr result (chunk < length (bytes self.old)) }
     {
         if self.long.is_empty() {
             if self.len <= CHUNK {

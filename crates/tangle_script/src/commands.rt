@@ -2,8 +2,7 @@
 ghost use Rattle.std.specs.Prelude.{◌≡◌, ◌<◌, ℕ, List, [], ◌∷◌, ◌++◌, length, nat_lt, IfSome};
 ghost use Rattle.std.specs.Prelude.{IfNone, Option, None, Some};
 ghost use Rattle.std.specs.Option.{option_copied};
-ghost use Rattle.tangle_script.specs.Requests.{takes_text};
-ghost use Rattle.tangle_script.specs.Commands.{OnlyWaits, all_commands, alone, ended};
+ghost use Rattle.tangle_script.specs.Commands.{OnlyWaits, all_commands, ended};
 ghost use Rattle.tangle_script.specs.Commands.{ended_commands, found_commands, kept, unended};
 
 use crate::request::needs_text;

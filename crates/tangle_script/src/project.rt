@@ -1,5 +1,5 @@
 //! What answers a script.
-ghost use Rattle.std.specs.Prelude.{◌≡◌, ℕ, List, Bool};
+ghost use Rattle.std.specs.Prelude.{ℕ, List, Bool};
 ghost use Rattle.tangle_script.specs.Requests.{Request, asked};
 ghost use Rattle.tangle_script.specs.Script.{Replies, WritesText};
 

@@ -1,5 +1,5 @@
 //! What a script line asks for.
-ghost use Rattle.std.specs.Prelude.{◌≡◌, ℕ, List, Option, codes};
+ghost use Rattle.std.specs.Prelude.{◌≡◌, Option};
 ghost use Rattle.std.specs.Option.{option_copied, option_map};
 ghost use Rattle.tangle_script.specs.Requests.{Command, after_word, asked, bare_request};
 ghost use Rattle.tangle_script.specs.Requests.{file_request, is_quit, number_and_file, request_of};

@@ -1,10 +1,11 @@
 //! A run: each command is answered before more of the script is read.
-ghost use Rattle.std.specs.Prelude.{◌≡◌, ◌<◌, ◌≤◌, ◌+◌, ℕ, List, ◌++◌, length, take, Bool, false};
+ghost use Rattle.std.specs.Prelude.{◌≡◌, ◌<◌, ◌≤◌, ◌+◌, ℕ, length, take, false};
 ghost use Rattle.std.specs.Prelude.{IfErr, IfOk, MatchResult, OnOk};
 ghost use Rattle.std.specs.Io.KnownBytes.{IsAtEnd};
 ghost use Rattle.tangle_script.specs.Buffer.{bytes};
 ghost use Rattle.tangle_script.specs.Commands.{OnlyWaits, ended_commands, kept};
 ghost use Rattle.tangle_script.specs.Script.{IsAnswered, Conversation, has_quit, conversation};
+ghost use Rattle.tangle_script.specs.Rooms.{chunk};
 ghost use Rattle.tangle_script.specs.Script.{exchange};
 ghost use Rattle.tangle_script.specs.Endings.{IsStatus, ConversationEnds, script_limit};
 ghost use Rattle.tangle_script.specs.Quiet.{ThreeNeedsReason};
@@ -65,7 +66,7 @@ fn turn<P: Project, R: Feed, S: Sink>(
     sink: &mut S,
 ) -> Result<usize, End>
     requires some { 0 < most }
-    requires few { most ≤ 4096 }
+    requires few { most ≤ chunk }
     requires waits { OnlyWaits (bytes buffer.old) }
     ensures ends { (old : Conversation P.State) (count : ℕ) → count + most ≤ script_limit
         → IsMidway P.answers old

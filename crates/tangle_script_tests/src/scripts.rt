@@ -77,7 +77,7 @@ fn failing_readers(rt: HostRuntime) -> Result<(), Fail> {
     Ok(())
 }
 
-// A run over the script, with a writer that takes so many bytes, writes a front of the answers.
+// A run over the script, with a writer that takes so many bytes, writes a prefix of the answers.
 fn check_full_writer(rt: &impl Abort, alloc: Global, room: &mut [u8]) {
     let mut project = Letters::new();
     let mut draft = 0;
@@ -106,7 +106,7 @@ fn full_writers(rt: HostRuntime) -> Result<(), Fail> {
     Ok(())
 }
 
-// What a project keeps besides is handed through a run, and is there at its end.
+// What a project keeps besides is passed through a run, and is there at its end.
 #[test]
 fn drafts(rt: HostRuntime) -> Result<(), Fail> {
     let mut project = Letters::new();

@@ -1,7 +1,6 @@
 //! A project that answers each request by its letter, and readers that give a script in pieces or
 //! fail.
 ghost use Rattle.std.specs.Prelude.{◌≡◌, ◌≤◌, ⊤, ℕ, ◌==◌, length, Some};
-ghost use Rattle.tangle_streams.specs.Feeds.{counted_read};
 
 use std::alloc::Global;
 use tangle_script::{Project, Request, SinkFailed};
@@ -136,7 +135,7 @@ impl<'a> Feed for Pieces<'a> {
     }
 }
 
-/// A front of a script, so many equal bytes, and a back, in pieces of this size.
+/// A prefix of a script, so many equal bytes, and a back, in pieces of this size.
 #[derive(Drop)]
 pub struct Long<'a> {
     pub front: &'a [u8],

@@ -1,6 +1,6 @@
 -- The analysis of a web is what the files make.
 use Rattle.std.proofs.Common.{◌≡◌, ◌∙◌, ◌++◌, ℕ, List, [], ap, sym, subst, append_assoc}
-use Rattle.tangle_lines.specs.Faults.{FaultRead}
+use Rattle.tangle_faults.specs.Faults.{FaultRead}
 use Rattle.tangle_files.specs.Lines.{FileTable}
 use Rattle.tangle_lines.specs.Reading.{SourceRead, source_of}
 use Rattle.tangle_files.specs.Roles.{RolesRead}
@@ -9,7 +9,7 @@ use Rattle.tangle_scan.specs.LineTruth.{PiecesAreAtTheirLines}
 use Rattle.tangle_scan.specs.Web.{WebRead, web_of}
 use Rattle.tangle_names.specs.NameTable.{TableRead, table_of, table_over}
 use Rattle.tangle_expansion.specs.Numbers.{numbers_of}
-use Rattle.tangle_expansion.specs.Shapes.{Shapes}
+use Rattle.tangle_plans.specs.Shapes.{Shapes}
 use Rattle.tangle_graph.specs.Faults.{AreGraphFaults}
 use Rattle.tangle_graph.specs.Outputs.{outputs}
 use Rattle.tangle_graph.specs.Stores.{StoreRead, IsStoreOf}

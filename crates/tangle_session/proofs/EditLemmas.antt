@@ -9,7 +9,8 @@ use Rattle.std.proofs.lemmas.Slice.Eq.{bytes_eq-Decides}
 use Rattle.tangle_files.specs.Edited.{edited, edited_all, with_lines_changed}
 use Rattle.tangle_files.specs.Edits.{edit_refusal, or_else, refusal_if}
 use Rattle.tangle_files.specs.Lines.{FileTable, lines_of}
-use Rattle.tangle_files.specs.Roles.{RolesRead, fits, is_there, is_there_if_any}
+use Rattle.tangle_files.specs.Adding.{has_file}
+use Rattle.tangle_files.specs.Roles.{RolesRead, fits, has_file_if_any}
 use Rattle.tangle_files.specs.declared.edits.Edit.{Edit}
 use Rattle.tangle_files.specs.declared.edits.Edit.TheVariants.{Insert, Remove, Replace, Create, Discard, Marks}
 use Rattle.tangle_files.specs.declared.marks.MarkMode.{MarkMode}
@@ -17,7 +18,6 @@ use Rattle.tangle_files.specs.declared.refusal.Refusal.{Refusal}
 use Rattle.tangle_files.specs.declared.refusal.Refusal.TheVariants.{RoleFile}
 use Rattle.tangle_session.specs.Edits.{first_refused, has_role, list_refusal, of_first, one_later, role_refusal, session_refusal}
 use Rattle.tangle_session.specs.declared.refusing.ListRefusal.{ListRefusal}
-use Rattle.tangle_session.proofs.TangleLemmas.{there_is}
 
 -- where neither of two refusals applies
 both_none : (a b : Option Refusal) → None ≡ or_else a b → (None ≡ a) × (None ≡ b)
@@ -106,8 +106,8 @@ lines_stay files (Create file) other h s = kept_behind files file.items other h
 lines_stay files (Discard file) other h s = kept_apart files file.items other s ∙ h
 lines_stay files (Marks mode) other h s = h
 
-stays_there : (files : FileTable) (edit : Edit) (other : List ℕ) → is_there files other ≡ true → Spares edit other → is_there (edited files edit) other ≡ true
-stays_there files edit other h s = sym (there_is (edited files edit) other) ∙ lines_stay files edit other (there_is files other ∙ h) s
+stays_there : (files : FileTable) (edit : Edit) (other : List ℕ) → has_file files other ≡ true → Spares edit other → has_file (edited files edit) other ≡ true
+stays_there files edit other h s = lines_stay files edit other h s
 
 abbrev SparesRoles : Edit → RolesRead → Type 0
 SparesRoles edit roles = Spares edit roles.web × ((name : List ℕ) → roles.change ≡ Some name → Spares edit name)
@@ -122,16 +122,16 @@ spares_roles roles (Discard file) h =
     let parts = neither (bytes_eq file.items roles.web) (option_map_or (bytes_eq file.items) roles.change false) (not_refused (has_role roles file.items) RoleFile h) in
     (parts.0, λ name e. sym (ap (λ o. option_map_or (bytes_eq file.items) o false) e) ∙ parts.1)
 
-any_stays : (files : FileTable) (edit : Edit) (o : Option (List ℕ)) → is_there_if_any files o ≡ true → ((name : List ℕ) → o ≡ Some name → Spares edit name)
-    → is_there_if_any (edited files edit) o ≡ true
+any_stays : (files : FileTable) (edit : Edit) (o : Option (List ℕ)) → has_file_if_any files o ≡ true → ((name : List ℕ) → o ≡ Some name → Spares edit name)
+    → has_file_if_any (edited files edit) o ≡ true
 any_stays files edit None h s = refl
 any_stays files edit (Some name) h s = stays_there files edit name h (s name refl)
 
 pub fits_edited : (files : FileTable) (roles : RolesRead) (edit : Edit) → fits files roles ≡ true → None ≡ session_refusal files roles edit → fits (edited files edit) roles ≡ true
 fits_edited files roles edit h none =
-    let parts = and_parts (is_there files roles.web) (is_there_if_any files roles.change) h in
+    let parts = and_parts (has_file files roles.web) (has_file_if_any files roles.change) h in
     let spared = spares_roles roles edit (both_none (edit_refusal files edit) (role_refusal roles edit) none).1 in
-    and_from (is_there (edited files edit) roles.web) (is_there_if_any (edited files edit) roles.change)
+    and_from (has_file (edited files edit) roles.web) (has_file_if_any (edited files edit) roles.change)
     (stays_there files edit roles.web parts.0 spared.0) (any_stays files edit roles.change parts.1 spared.1)
 
 -- where no edit of a list is refused, neither the first is, nor one of those behind it

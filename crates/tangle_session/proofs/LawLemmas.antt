@@ -6,11 +6,11 @@ use Rattle.std.proofs.lemmas.List.{get_or-map, get_or_default}
 use Rattle.std.proofs.lemmas.List.Elements.{Contains-append_left, Contains-append_right}
 use Rattle.std.proofs.lemmas.List.Folds.{find_at}
 use Rattle.std.proofs.lemmas.List.FromFn.{length-range_with_len, get_or-range_with_len}
-use Rattle.tangle_lines.specs.Faults.{FaultRead, fault_about}
+use Rattle.tangle_faults.specs.Faults.{FaultRead, fault_about}
 use Rattle.tangle_files.specs.Lines.{FileTable}
 use Rattle.tangle_lines.specs.Reading.{SourceRead}
 use Rattle.tangle_files.specs.Roles.{RolesRead}
-use Rattle.tangle_lines.specs.declared.faults.FaultKind.TheVariants as kind
+use Rattle.tangle_faults.specs.declared.faults.FaultKind.TheVariants as kind
 use Rattle.tangle_lexer.specs.Occurrences.{OccurrenceRead}
 use Rattle.tangle_scan.specs.Web.{WebRead, PieceRead}
 use Rattle.tangle_names.specs.Faults.{named_place_of}
@@ -19,12 +19,12 @@ use Rattle.tangle_names.specs.Resolving.{first_number, first_occurrence, names_i
 use Rattle.tangle_expansion.specs.Limits.{levels, heaviest}
 use Rattle.tangle_expansion.specs.Affected.{IsExpandable}
 use Rattle.tangle_expansion.specs.Outputs.{OutputRead}
-use Rattle.tangle_expansion.specs.WebShapes.{shapes, shape_item, ResolvesInside}
-use Rattle.tangle_expansion.specs.Shapes.{Title, Named, Shape, Shapes, UsesInShape, Reaches, here, on, ContainsItself}
-use Rattle.tangle_graph.specs.Faults.{AreGraphFaults, fault_of, fault_at_number, fault_place, faults_of_names, graph_faults, large_program, no_program}
+use Rattle.tangle_plans.specs.WebShapes.{shapes, shape_item, ResolvesInside}
+use Rattle.tangle_plans.specs.Shapes.{Title, Named, Shape, Shapes, UsesInShape, Reaches, here, on, ContainsItself}
+use Rattle.tangle_graph.specs.Faults.{AreGraphFaults, fault_of, fault_at_number, fault_occurrence, faults_of_names, graph_faults, large_program, no_program}
 use Rattle.tangle_graph.specs.Faults as of_graph
 use Rattle.tangle_graph.specs.Nodes.{title_of_node}
-use Rattle.tangle_graph.specs.Outputs.{name_text}
+use Rattle.tangle_graph.specs.Outputs.{name_with_number}
 use Rattle.tangle_graph.proofs.NodeLemmas.{title_inside}
 use Rattle.tangle_graph.proofs.StoreLemmas.{there}
 use Rattle.tangle_session.specs.Faults.{AreFaults}
@@ -90,24 +90,24 @@ module _ (web : WebRead) (out : List ℕ) (faults : List FaultRead) (are : AreGr
   reached : slice_get web.occurrences (get_or (table_of web).first_occurrences id 0) ≡ Some o
   reached = ap (slice_get web.occurrences) number ∙ sym (find_at (resolves_to web.occurrences name) web.occurrences) ∙ first
 
-  one_fault : fault_of web (table_of web) kind.SelfContaining id (fault_place web (table_of web) out are.contains_itself are.reaches_cycle kind.SelfContaining id)
-      ≡ fault_about kind.SelfContaining (named_place_of web.file_names o.place) name ∷ []
+  one_fault : fault_of web (table_of web) kind.SelfContaining id (fault_occurrence web (table_of web) out are.contains_itself are.reaches_cycle kind.SelfContaining id)
+      ≡ fault_about kind.SelfContaining (named_place_of web.file_names o.origin) name ∷ []
   one_fault =
-      ap (λ b. fault_of web (table_of web) kind.SelfContaining id (if b then of_graph.first_occurrence web (table_of web) id else None)) flagged
-      ∙ ap (λ x. map (λ p. fault_about kind.SelfContaining (named_place_of web.file_names p.place) (name_text (table_of web) id)) (option_to_list x)) reached
-      ∙ ap (λ t. fault_about kind.SelfContaining (named_place_of web.file_names o.place) t ∷ []) text
+      ap (λ b. fault_of web (table_of web) kind.SelfContaining id (if b then of_graph.first_occurrence_number web (table_of web) id else None)) flagged
+      ∙ ap (λ x. map (λ p. fault_about kind.SelfContaining (named_place_of web.file_names p.origin) (name_with_number (table_of web) id)) (option_to_list x)) reached
+      ∙ ap (λ t. fault_about kind.SelfContaining (named_place_of web.file_names o.origin) t ∷ []) text
 
-  among : Contains (faults_of_names web (table_of web) out are.contains_itself are.reaches_cycle kind.SelfContaining) (fault_about kind.SelfContaining (named_place_of web.file_names o.place) name)
+  among : Contains (faults_of_names web (table_of web) out are.contains_itself are.reaches_cycle kind.SelfContaining) (fault_about kind.SelfContaining (named_place_of web.file_names o.origin) name)
   among =
-      in_mapped (λ k. fault_of web (table_of web) kind.SelfContaining k (fault_place web (table_of web) out are.contains_itself are.reaches_cycle kind.SelfContaining k))
-      (range_with_len 0 (length (table_of web).names)) id (fault_about kind.SelfContaining (named_place_of web.file_names o.place) name)
+      in_mapped (λ k. fault_of web (table_of web) kind.SelfContaining k (fault_occurrence web (table_of web) out are.contains_itself are.reaches_cycle kind.SelfContaining k))
+      (range_with_len 0 (length (table_of web).names)) id (fault_about kind.SelfContaining (named_place_of web.file_names o.origin) name)
       (in_range (length (table_of web).names) id low)
-      (subst (λ l. Contains l (fault_about kind.SelfContaining (named_place_of web.file_names o.place) name)) (sym one_fault) (0, omega arith, refl))
+      (subst (λ l. Contains l (fault_about kind.SelfContaining (named_place_of web.file_names o.origin) name)) (sym one_fault) (0, omega arith, refl))
 
-  pub reported : Contains faults (fault_about kind.SelfContaining (named_place_of web.file_names o.place) name)
+  pub reported : Contains faults (fault_about kind.SelfContaining (named_place_of web.file_names o.origin) name)
   reported =
-      let x = fault_about kind.SelfContaining (named_place_of web.file_names o.place) name in
-      subst (λ l. Contains l (fault_about kind.SelfContaining (named_place_of web.file_names o.place) name)) (sym are.list)
+      let x = fault_about kind.SelfContaining (named_place_of web.file_names o.origin) name in
+      subst (λ l. Contains l (fault_about kind.SelfContaining (named_place_of web.file_names o.origin) name)) (sym are.list)
       (Contains-append_right (faults_of_names web (table_of web) out are.contains_itself are.reaches_cycle kind.Undefined) _ x
       (Contains-append_right (faults_of_names web (table_of web) out are.contains_itself are.reaches_cycle kind.Unused) _ x
       (Contains-append_left (faults_of_names web (table_of web) out are.contains_itself are.reaches_cycle kind.SelfContaining) _ x among)))
@@ -126,7 +126,7 @@ reported_in source web out faults name inside occur are c =
     record {
       occurrence = o.0;
       is_first = o.1;
-      reported = subst (λ l. Contains l (fault_about kind.SelfContaining (named_place_of web.file_names o.0.place) name)) (sym are.list)
+      reported = subst (λ l. Contains l (fault_about kind.SelfContaining (named_place_of web.file_names o.0.origin) name)) (sym are.list)
           (Contains-append_right source.faults _ _ (Contains-append_right web.faults _ _ (Contains-append_right (table_of web).faults _ _
           (reported web out are.of_graph are.is_graph found.0 name o.0 found.1 found.2 c o.1))));
     }

@@ -1,4 +1,4 @@
--- What says the same in other places has the same shapes, and expands nothing.
+-- What says the same at other origins has the same shapes, and expands nothing.
 use Rattle.std.proofs.Common.{◌≡◌, ◌∙◌, ℕ, Bool, true, false, not, cond, List, [], ◌∷◌, map, filter, refl, ap, sym, arith}
 use Rattle.std.specs.Prelude.{Option, None, Some, if◌then◌else◌}
 use Rattle.tangle_lexer.specs.Occurrences.{OccurrenceRead}
@@ -9,9 +9,9 @@ use Rattle.tangle_names.specs.declared.Resolved.{Resolved}
 use Rattle.tangle_names.specs.Names.{Text, Meaning, One, full_names, meaning, only_with, prefix}
 use Rattle.tangle_names.specs.NameTable.{TableRead, table_of}
 use Rattle.tangle_names.specs.Resolving.{names_in_order, names_of, resolution, resolve}
-use Rattle.tangle_expansion.specs.WebShapes.{is_node, is_piece_of, node_of_name, resolved_at, shape_item, use_of}
-use Rattle.tangle_expansion.specs.Shapes.{Shape, ShapeItem, Title}
-use Rattle.tangle_expansion.specs.declared.nodes.Node.{Node}
+use Rattle.tangle_plans.specs.WebShapes.{is_node, is_piece_of, node_of_name, resolved_at, shape_item, use_of}
+use Rattle.tangle_plans.specs.Shapes.{Shape, ShapeItem, Title}
+use Rattle.tangle_plans.specs.declared.nodes.Node.{Node}
 use Rattle.tangle_session.specs.Files.{shapes_of}
 use Rattle.tangle_session.specs.Moves.{HaveSameShapes, IsMoved, said_item, said_name, said_piece}
 use Rattle.tangle_session.specs.Sessions.{ListsAffectedOfWebs}
@@ -88,7 +88,7 @@ module _ (table : TableRead) where
   item_same texts (item.Code value) = refl
   item_same texts item.Blank = refl
   item_same texts item.LineEnd = refl
-  item_same texts (item.LineMark place) = refl
+  item_same texts (item.LineMark origin) = refl
   item_same texts (item.UseOf occurrence) = refl
   item_same texts item.Defs = refl
 

@@ -17,10 +17,10 @@ use Rattle.tangle_files.specs.declared.marks.MarkMode.{MarkMode}
 use Rattle.tangle_scan.specs.Web.{WebRead}
 use Rattle.tangle_names.specs.NameTable.{TableRead, table_of}
 use Rattle.tangle_expansion.specs.Outputs.{OutputRead}
-use Rattle.tangle_expansion.specs.WebShapes.{shapes, ResolvesInside}
-use Rattle.tangle_expansion.specs.Shapes.{Named, Program}
-use Rattle.tangle_expansion.specs.declared.nodes.Node.TheVariants as node
-use Rattle.tangle_graph.specs.Outputs.{firsts, file_names, has_pieces, is_expandable, is_written, name_text, named_file, outputs}
+use Rattle.tangle_plans.specs.WebShapes.{shapes, ResolvesInside}
+use Rattle.tangle_plans.specs.Shapes.{Named, Program}
+use Rattle.tangle_plans.specs.declared.nodes.Node.TheVariants as node
+use Rattle.tangle_graph.specs.Outputs.{firsts, file_names, has_pieces, is_expandable, is_written, name_with_number, named_file, outputs}
 use Rattle.tangle_graph.proofs.NodeLemmas.{once_named}
 use Rattle.tangle_session.specs.Files.{written_outputs}
 use Rattle.tangle_session.specs.Tangle.{output_at, outputs_of}
@@ -59,7 +59,7 @@ module _ (web : WebRead) (table : TableRead) (resolves : ResolvesInside table) (
   unfolding ids
   ids_written = filter_passes (is_written web table out) (file_names web table)
 
-  body_at : (i : ℕ) (d : List ℕ) → i < length ids → get_or (map name_of (map (named_file table) ids)) i d ≡ name_text table (get_or ids i 0)
+  body_at : (i : ℕ) (d : List ℕ) → i < length ids → get_or (map name_of (map (named_file table) ids)) i d ≡ name_with_number table (get_or ids i 0)
   body_at i d h =
       get_or-map name_of (map (named_file table) ids) i (named_file table 0) d (omega (arith, h, length-map ids (named_file table)))
       ∙ ap name_of (get_or-map (named_file table) ids i 0 (named_file table 0) h)
@@ -71,8 +71,8 @@ module _ (web : WebRead) (table : TableRead) (resolves : ResolvesInside table) (
       ids_once i j 0 less high
       (once_named table.names (get_or ids i 0) (get_or ids j 0) distinct (ids_below i 0 low) (ids_below j 0 high) (sym (body_at i d low) ∙ same ∙ body_at j d high))
 
-  not_main : (a : Bool) (id : ℕ) → (a && not (bytes_eq (name_text table id) out)) ≡ true → out ≢ name_text table id
-  not_main a id e same = by a (bytes_eq (name_text table id) out) ((bytes_eq-Decides (name_text table id) out).1 (sym same)) e
+  not_main : (a : Bool) (id : ℕ) → (a && not (bytes_eq (name_with_number table id) out)) ≡ true → out ≢ name_with_number table id
+  not_main a id e same = by a (bytes_eq (name_with_number table id) out) ((bytes_eq-Decides (name_with_number table id) out).1 (sym same)) e
     where
       by : (a b : Bool) → b ≡ true → (a && not b) ≡ true → ⊥
       by true true t d = absurd (let no : false ≡ true = d in cc)
@@ -82,7 +82,7 @@ module _ (web : WebRead) (table : TableRead) (resolves : ResolvesInside table) (
   main_apart : All (λ x. out ≢ x) (map name_of (map (named_file table) ids))
   main_apart =
       All-map (λ x. out ≢ x) name_of (map (named_file table) ids) (All-map (λ o. out ≢ name_of o) (named_file table) ids
-      (λ i d h. not_main (is_expandable (shapes web table) (Named (name_text table (get_or ids i d)))) (get_or ids i d) (ids_written i d h)))
+      (λ i d h. not_main (is_expandable (shapes web table) (Named (name_with_number table (get_or ids i d)))) (get_or ids i d) (ids_written i d h)))
 
   main : OutputRead
   main = record { name = out; node = node.Program; has_macros = not web.has_defs_code; has_piece = has_pieces (shapes web table Program) }

@@ -18,14 +18,14 @@ use Rattle.tangle_expansion.specs.Kept.{kept_at}
 use Rattle.tangle_expansion.specs.Limits.{heaviest, flat_of, IsExpandableNode}
 use Rattle.tangle_expansion.specs.Numbers.{numbers_of}
 use Rattle.tangle_expansion.specs.Outputs.{OutputRead, IsReady, file_text, node_symbols, output_text}
-use Rattle.tangle_expansion.specs.WebShapes.{shapes, resolved_at, IsNameBelow, ResolvesInside}
-use Rattle.tangle_expansion.specs.Shapes.{Title, Named, Shape, Shapes}
-use Rattle.tangle_expansion.specs.Shapes as title
+use Rattle.tangle_plans.specs.WebShapes.{shapes, resolved_at, IsNameBelow, ResolvesInside}
+use Rattle.tangle_plans.specs.Shapes.{Title, Named, Shape, Shapes}
+use Rattle.tangle_plans.specs.Shapes as title
 use Rattle.tangle_expansion.specs.declared.kept.Kept.{Kept}
-use Rattle.tangle_expansion.specs.declared.nodes.Node.TheVariants as node
+use Rattle.tangle_plans.specs.declared.nodes.Node.TheVariants as node
 use Rattle.tangle_graph.specs.Grouping.{number_of_name}
 use Rattle.tangle_graph.specs.Nodes.{IsNodeOf, title_of_node}
-use Rattle.tangle_graph.specs.Outputs.{has_pieces, is_expandable, firsts, file_occurrences, file_names, name_text, named_file, main_file, is_written, outputs}
+use Rattle.tangle_graph.specs.Outputs.{has_pieces, is_expandable, firsts, file_occurrences, file_names, name_with_number, named_file, main_file, is_written, outputs}
 use Rattle.tangle_graph.specs.Stores.{StoreRead, IsStoreOf, is_expandable_at, title_in_store}
 use Rattle.tangle_graph.proofs.NodeLemmas.{title_inside}
 use Rattle.tangle_graph.proofs.StoreLemmas.{expandable_is, mapped_contains}
@@ -85,8 +85,8 @@ module _ (web : WebRead) (table : TableRead) (resolves : ResolvesInside table) (
   named_fits : (id : ℕ) → id < length table.names → is_written web table out id ≡ true → IsFit (shapes web table) table.names (named_file table id)
   named_fits id h is = record {
     inside = h;
-    there = λ t. subst (IsExpandableNode (shapes web table)) (sym (title_inside table.names id h)) ((expandable_is (shapes web table) (Named (name_text table id))).0
-        (first (is_expandable (shapes web table) (Named (name_text table id))) (not (bytes_eq (name_text table id) out)) is));
+    there = λ t. subst (IsExpandableNode (shapes web table)) (sym (title_inside table.names id h)) ((expandable_is (shapes web table) (Named (name_with_number table id))).0
+        (first (is_expandable (shapes web table) (Named (name_with_number table id))) (not (bytes_eq (name_with_number table id) out)) is));
     none = λ f. absurd (let no : true ≡ false = f in cc);
   }
     where

@@ -8,7 +8,8 @@ use Rattle.std.specs.Prelude.{if◌then◌else◌, nat_lt, Option, Some, None, i
 use Rattle.tangle_streams.specs.Streams.{Stream, IsWritten}
 use Rattle.tangle_files.specs.Lines.{FileTable, lines_of}
 use Rattle.tangle_lines.specs.Reading.{SourceRead}
-use Rattle.tangle_files.specs.Roles.{RolesRead, is_there, is_there_if_any, fits}
+use Rattle.tangle_files.specs.Adding.{has_file}
+use Rattle.tangle_files.specs.Roles.{RolesRead, has_file_if_any, fits}
 use Rattle.tangle_files.specs.declared.refusal.Refusal.TheVariants.{NoWeb, NoChange}
 use Rattle.tangle_files.specs.declared.refusal.Refusal.TheVariants as refusal
 use Rattle.tangle_files.specs.declared.marks.MarkMode.{MarkMode}
@@ -20,23 +21,23 @@ use Rattle.tangle_expansion.specs.Affected.{IsAffected}
 use Rattle.tangle_expansion.specs.Limits.{levels, heaviest, flat_of, IsExpandableNode}
 use Rattle.tangle_expansion.specs.Numbers.{numbers_of, text}
 use Rattle.tangle_expansion.specs.Outputs.{OutputRead, IsReady, IsTrueToLines, output_text}
-use Rattle.tangle_expansion.specs.WebShapes.{ResolvesInside}
-use Rattle.tangle_expansion.specs.Shapes.{Title, Shapes}
-use Rattle.tangle_expansion.specs.declared.nodes.Node.{Node}
+use Rattle.tangle_plans.specs.WebShapes.{ResolvesInside}
+use Rattle.tangle_plans.specs.Shapes.{Title, Shapes}
+use Rattle.tangle_plans.specs.declared.nodes.Node.{Node}
 use Rattle.tangle_graph.specs.Nodes.{IsNodeOf, title_of_node}
 use Rattle.tangle_graph.specs.Outputs.{outputs}
 use Rattle.tangle_graph.specs.Stores.{StoreRead, IsStoreOf}
 use Rattle.tangle_session.specs.Files.{shapes_of, output_bytes, source_at, web_at}
 use Rattle.tangle_affected.specs.Affected as affected
 use Rattle.tangle_affected.specs.Keeping as keeping
-use Rattle.tangle_session.specs.Sessions.{AgreesWithFiles, ListsAffectedOfWebs, ListsExpandable, start_refusal}
+use Rattle.tangle_session.specs.Sessions.{AgreesWithFiles, ListsAffectedOfWebs, ListsExpandableOfWeb, start_refusal}
 use Rattle.tangle_session.specs.Tangle.{output_at, outputs_of}
 use Rattle.tangle_session.specs.Writes.{IsTrueFile, WritesOutput}
 use Rattle.tangle_session.specs.declared.tangling.SessionState.{SessionState}
 use Rattle.tangle_session.proofs.OutputLemmas.{IsFit, found_in, look_up, names_written, outputs_fit, ready, same_text}
 
 -- the list of the store's nodes, as one of the web's
-pub lists_nodes : (web : WebRead) (store : StoreRead) (nodes : List Node) → IsStoreOf (shapes_of web) store → store.names ≡ (table_of web).names → keeping.ListsExpandable store nodes → ListsExpandable web nodes
+pub lists_nodes : (web : WebRead) (store : StoreRead) (nodes : List Node) → IsStoreOf (shapes_of web) store → store.names ≡ (table_of web).names → keeping.ListsExpandable store nodes → ListsExpandableOfWeb web nodes
 lists_nodes web store nodes is names_are lists = record {
   once = lists.once;
   just = λ node. (
@@ -77,27 +78,8 @@ expands_nothing web (node ∷ nodes) lists = absurd (((lists.just node).0 (0, om
 
 -- why a session is not to be started
 
-some_where : {X : Type 0} (b : Bool) (x : X) → is_some (cond b (Some x) None) ≡ b
-some_where true x = refl
-some_where false x = refl
-
--- a file that has lines has a number
-pub there_is : (files : FileTable) (name : List ℕ) → is_some (lines_of files name) ≡ is_there files name
-there_is [] name = refl
-there_is (f ∷ files) name = by (bytes_eq name f.0) (there_is files name)
-  where
-    n : ℕ
-    n = position_or_len (λ e. bytes_eq name e.0) files
-
-    by : (b : Bool) → is_some (lines_of files name) ≡ is_there files name
-        → is_some (cond b (Some f.1) (lines_of files name)) ≡ is_some (cond (nat_lt (cond (not b) (1 + n) 0) (suc (length files))) (Some (cond (not b) (1 + n) 0)) None)
-    by true e = sym (some_where (nat_lt 0 (suc (length files))) 0 ∙ (let t : nat_lt 0 (suc (length files)) ≡ true = grind (arith, nat_tests) in t))
-    by false e =
-        e ∙ some_where (nat_lt n (length files)) n ∙ (let t : nat_lt n (length files) ≡ nat_lt (1 + n) (suc (length files)) = grind (arith, nat_tests) in t)
-        ∙ sym (some_where (nat_lt (1 + n) (suc (length files))) (1 + n))
-
 pub no_refusal : (files : FileTable) (roles : RolesRead) → fits files roles ≡ true → None ≡ start_refusal files roles
-no_refusal files roles e = by (is_there files roles.web) (is_there_if_any files roles.change) e
+no_refusal files roles e = by (has_file files roles.web) (has_file_if_any files roles.change) e
   where
     by : (a b : Bool) → (a && b) ≡ true → None ≡ (if a then (if b then None else Some NoChange) else Some NoWeb)
     by true true e = refl
@@ -105,7 +87,7 @@ no_refusal files roles e = by (is_there files roles.web) (is_there_if_any files 
     by false b e = absurd (let no : false ≡ true = e in cc)
 
 pub no_change : (files : FileTable) (roles : RolesRead) → fits files roles ≡ false → is_some (lines_of files roles.web) ≡ true → Some NoChange ≡ start_refusal files roles
-no_change files roles e there = by (is_there files roles.web) (is_there_if_any files roles.change) e (sym (there_is files roles.web) ∙ there)
+no_change files roles e there = by (has_file files roles.web) (has_file_if_any files roles.change) e there
   where
     by : (a b : Bool) → (a && b) ≡ false → a ≡ true → Some NoChange ≡ (if a then (if b then None else Some NoChange) else Some NoWeb)
     by true true e t = absurd (let no : true ≡ false = e in cc)
@@ -113,15 +95,15 @@ no_change files roles e there = by (is_there files roles.web) (is_there_if_any f
     by false b e t = absurd (let no : false ≡ true = t in cc)
 
 pub no_web : (files : FileTable) (roles : RolesRead) → is_some (lines_of files roles.web) ≡ false → Some NoWeb ≡ start_refusal files roles
-no_web files roles missing = by (is_there files roles.web) (sym (there_is files roles.web) ∙ missing)
+no_web files roles missing = by (has_file files roles.web) missing
   where
-    by : (a : Bool) → a ≡ false → Some NoWeb ≡ (if a then (if is_there_if_any files roles.change then None else Some NoChange) else Some NoWeb)
+    by : (a : Bool) → a ≡ false → Some NoWeb ≡ (if a then (if has_file_if_any files roles.change then None else Some NoChange) else Some NoWeb)
     by true t = absurd (let no : true ≡ false = t in cc)
     by false t = refl
 
 -- where there is none, the files fit the roles
 pub fit_to_start : (files : FileTable) (roles : RolesRead) → None ≡ start_refusal files roles → fits files roles ≡ true
-fit_to_start files roles e = by (is_there files roles.web) (is_there_if_any files roles.change) e
+fit_to_start files roles e = by (has_file files roles.web) (has_file_if_any files roles.change) e
   where
     by : (a b : Bool) → None ≡ (if a then (if b then None else Some NoChange) else Some NoWeb) → (a && b) ≡ true
     by true true e = refl

@@ -9,8 +9,8 @@ use Rattle.tangle_names.specs.NameTable.{table_of}
 use Rattle.tangle_expansion.specs.Limits.{flat_of}
 use Rattle.tangle_expansion.specs.Numbers.{numbers_of}
 use Rattle.tangle_expansion.specs.Outputs.{OutputRead, file_text}
-use Rattle.tangle_expansion.specs.WebShapes.{shapes}
-use Rattle.tangle_expansion.specs.Shapes.{Shapes}
+use Rattle.tangle_plans.specs.WebShapes.{shapes}
+use Rattle.tangle_plans.specs.Shapes.{Shapes}
 use Rattle.tangle_graph.specs.Nodes.{title_of_node}
 use Rattle.tangle_graph.specs.Outputs.{outputs}
 

@@ -1,7 +1,7 @@
 -- The headline on one page: a session that was edited shows what plain tangling gives.
 --
 -- A project is started, edits of its web, include and change files and of its setting for line marks
--- are handed to it, one by one or several as one list, and it is asked. It shows the output files
+-- are passed to it, one by one or several as one list, and it is asked. It shows the output files
 -- and the faults that plain tangling gives for the files and the setting with just the accepted
 -- edits made, whatever was accepted and refused on the way; a refused edit changes nothing. No
 -- output file reaches a name that contains itself, and each such name has its fault.
@@ -28,23 +28,23 @@ use Rattle.tangle_files.specs.declared.edits.Edit.{Edit}
 use Rattle.tangle_files.specs.declared.marks.MarkMode.{MarkMode}
 use Rattle.tangle_files.specs.declared.marks.MarkMode.TheVariants.{Full}
 use Rattle.tangle_files.specs.declared.refusal.Refusal.TheVariants.{NoMemory}
-use Rattle.tangle_lines.specs.Faults.{FaultRead}
+use Rattle.tangle_faults.specs.Faults.{FaultRead}
 use Rattle.tangle_lines.specs.Reading.{SourceRead, source_of}
 use Rattle.tangle_scan.specs.Web.{WebRead, web_of}
 use Rattle.tangle_names.specs.NameTable.{TableRead, table_of}
 use Rattle.tangle_expansion.specs.Limits.{flat_of}
 use Rattle.tangle_expansion.specs.Numbers.{numbers_of}
 use Rattle.tangle_expansion.specs.Outputs.{OutputRead, file_text}
-use Rattle.tangle_expansion.specs.WebShapes.{shapes}
-use Rattle.tangle_expansion.specs.Shapes.{Title, Named, Reaches, ContainsItself}
-use Rattle.tangle_expansion.specs.declared.nodes.Node.{Node}
+use Rattle.tangle_plans.specs.WebShapes.{shapes}
+use Rattle.tangle_plans.specs.Shapes.{Title, Named, Reaches, ContainsItself}
+use Rattle.tangle_plans.specs.declared.nodes.Node.{Node}
 use Rattle.tangle_graph.specs.Faults.{AreGraphFaults}
 use Rattle.tangle_graph.specs.Nodes.{title_of_node}
 use Rattle.tangle_graph.specs.Outputs.{outputs}
 use Rattle.tangle_session.specs.Edits.{list_memory, list_refusal, of_first, session_refusal}
 use Rattle.tangle_session.specs.Files.{web_at}
 use Rattle.tangle_session.specs.Laws.{IsReportedSelfContaining}
-use Rattle.tangle_session.specs.Sessions.{AreMade, ListsAffectedOfWebs, ListsExpandable}
+use Rattle.tangle_session.specs.Sessions.{AreMade, ListsAffectedOfWebs, ListsExpandableOfWeb}
 use Rattle.tangle_session.specs.Sessions.{SessionRead, start_refusal}
 use Rattle.tangle_session.specs.Writes.{IsTrueFile, WritesOutput}
 use Rattle.tangle_session.specs.declared.headline.Edits.{Edits}
@@ -57,8 +57,8 @@ use Rattle.tangle_session.specs.declared.refusing.ListRefusal.{ListRefusal}
 
 -- the bytes of an output file: all macros, if they begin it, and then what its node expands to,
 -- with section numbers and line marks
-abbrev pub output_text : WebRead → TableRead → MarkMode → OutputRead → List ℕ
-output_text web names marks output =
+abbrev pub output_of_web : WebRead → TableRead → MarkMode → OutputRead → List ℕ
+output_of_web web names marks output =
     file_text (numbers_of web names marks) output.has_macros output.has_piece
     (flat_of (shapes web names) (title_of_node names.names output.node))
 
@@ -77,7 +77,7 @@ pub record IsPlainTangling (files : FileTable) (roles : RolesRead)
   pub naming : names ≡ table_of web
   -- names to outputs: the main file, and then the files of `@(`, each with its name and its bytes
   pub writing : output_files ≡
-      map (λ output. (output.name, output_text web names roles.marks output))
+      map (λ output. (output.name, output_of_web web names roles.marks output))
       (outputs web names roles.out)
   -- and to faults: those of reading, of scanning, of names, and of what uses what, in this order
   pub of_uses : List FaultRead
@@ -86,7 +86,7 @@ pub record IsPlainTangling (files : FileTable) (roles : RolesRead)
 
 -- 2. A history: edits from a start on, each with its answer.
 
--- what is handed over at once: one edit, or a list of edits that are made all or none
+-- what is passed at once: one edit, or a list of edits that are made all or none
 pub data EditsRead : Type 0 where
   OneEdit : (edit : Edit) → EditsRead
   ListOf : (edits : List Edit) → EditsRead
@@ -138,7 +138,7 @@ IsAnswered before (ListOf edits) (Err refused) after =
 pub data History (files : FileTable) (roles : RolesRead) : List Call → SessionRead → Type 0 where
   Started : {session : SessionRead} → start_refusal files roles ≡ None
       → session.files ≡ files → session.roles ≡ roles
-      → ListsExpandable (web_at files roles) session.work
+      → ListsExpandableOfWeb (web_at files roles) session.work
       → History files roles [] session
   Edited : {calls : List Call} {after : SessionRead}
       (before : SessionRead) (edits : EditsRead) (answer : Result (Unit {0}) ListRefusal)
@@ -191,7 +191,7 @@ web_after files roles lists = web_at (files_after files lists) (roles_with roles
 -- the nodes that the last call affected; before the first call, those that can be expanded
 pub data ListsLastExpanded (files : FileTable) (roles : RolesRead) (nodes : List Node) :
     List (List Edit) → Type 0 where
-  ByStart : ListsExpandable (web_at files roles) nodes → ListsLastExpanded files roles nodes []
+  ByStart : ListsExpandableOfWeb (web_at files roles) nodes → ListsLastExpanded files roles nodes []
   ByLast : (earlier : List (List Edit)) (last : List Edit)
       → ListsAffectedOfWebs (web_after files roles earlier)
       (web_after files roles (earlier ++ last ∷ [])) nodes

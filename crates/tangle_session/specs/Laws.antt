@@ -1,7 +1,7 @@
 -- What the laws of the headline say.
 use Rattle.std.specs.Prelude.{◌≡◌, ℕ, List, Some, Contains}
-use Rattle.tangle_lines.specs.Faults.{FaultRead, fault_about}
-use Rattle.tangle_lines.specs.declared.faults.FaultKind.TheVariants.{SelfContaining}
+use Rattle.tangle_faults.specs.Faults.{FaultRead, fault_about}
+use Rattle.tangle_faults.specs.declared.faults.FaultKind.TheVariants.{SelfContaining}
 use Rattle.tangle_lexer.specs.Occurrences.{OccurrenceRead}
 use Rattle.tangle_scan.specs.Web.{WebRead}
 use Rattle.tangle_names.specs.Faults.{named_place_of}
@@ -11,4 +11,4 @@ use Rattle.tangle_names.specs.Resolving.{first_occurrence}
 pub record IsReportedSelfContaining (web : WebRead) (name : List ℕ) (faults : List FaultRead) : Type 0 where
   pub occurrence : OccurrenceRead
   pub is_first : first_occurrence web.occurrences name ≡ Some occurrence
-  pub reported : Contains faults (fault_about SelfContaining (named_place_of web.file_names occurrence.place) name)
+  pub reported : Contains faults (fault_about SelfContaining (named_place_of web.file_names occurrence.origin) name)

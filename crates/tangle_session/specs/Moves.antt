@@ -1,12 +1,12 @@
--- Webs that say the same in other places.
+-- Webs that say the same at other origins.
 use Rattle.std.specs.Prelude.{◌≡◌, ℕ, Bool, List, [], map, Option, None, Some}
 use Rattle.tangle_lexer.specs.Occurrences.{OccurrenceRead}
 use Rattle.tangle_scan.specs.Web.{WebRead, PieceRead}
 use Rattle.tangle_scan.specs.declared.items.Item.{Item}
 use Rattle.tangle_scan.specs.declared.items.Item.TheVariants.{UseOf}
 use Rattle.tangle_names.specs.NameTable.{TableRead}
-use Rattle.tangle_expansion.specs.WebShapes.{shape_item}
-use Rattle.tangle_expansion.specs.Shapes.{ShapeItem, Title}
+use Rattle.tangle_plans.specs.WebShapes.{shape_item}
+use Rattle.tangle_plans.specs.Shapes.{ShapeItem, Title}
 use Rattle.tangle_session.specs.Files.{shapes_of}
 
 -- each node has the shape that it had
@@ -28,7 +28,7 @@ abbrev pub used_occurrence : Item → Option ℕ
 used_occurrence (UseOf occurrence) = Some occurrence
 used_occurrence _ = None
 
--- what an item says: its bytes without their place, or the number of the occurrence that it uses
+-- what an item says: its bytes without their origin, or the number of the occurrence that it uses
 abbrev pub said_item : List (List ℕ) → Item → ShapeItem × Option ℕ
 said_item texts item = (shape_item texts no_names item, used_occurrence item)
 
@@ -40,7 +40,7 @@ said_piece texts piece = (piece.occurrence, map (said_item texts) piece.items)
 abbrev pub said_name : OccurrenceRead → List ℕ × Bool
 said_name occurrence = (occurrence.text, occurrence.is_abbreviation)
 
--- The same names occur and the same pieces follow one another. Lines, places, files, section
+-- The same names occur and the same pieces follow one another. Lines, origins, files, section
 -- numbers, macros and faults may differ.
 pub record IsMoved (old new : WebRead) : Type 0 where
   pub names : map said_name new.occurrences ≡ map said_name old.occurrences

@@ -2,7 +2,8 @@
 use Rattle.std.specs.Prelude.{◌≡◌, ◌≢◌, ◌↔◌, ℕ, true, List, [], None, Some, Option, AllPairs, Contains, if◌then◌else◌}
 use Rattle.tangle_files.specs.Edited.{edited_all, roles_after}
 use Rattle.tangle_files.specs.Lines.{FileTable}
-use Rattle.tangle_files.specs.Roles.{RolesRead, fits, is_there, is_there_if_any}
+use Rattle.tangle_files.specs.Adding.{has_file}
+use Rattle.tangle_files.specs.Roles.{RolesRead, fits, has_file_if_any}
 use Rattle.tangle_files.specs.declared.edits.Edit.{Edit}
 use Rattle.tangle_files.specs.declared.marks.MarkMode.{MarkMode}
 use Rattle.tangle_lines.specs.Reading.{SourceRead}
@@ -14,7 +15,7 @@ use Rattle.tangle_names.specs.NameTable.{table_of, table_over}
 use Rattle.tangle_expansion.specs.Affected.{IsAffected}
 use Rattle.tangle_expansion.specs.Limits.{levels, heaviest, IsExpandableNode}
 use Rattle.tangle_expansion.specs.Numbers.{numbers_of}
-use Rattle.tangle_expansion.specs.declared.nodes.Node.{Node}
+use Rattle.tangle_plans.specs.declared.nodes.Node.{Node}
 use Rattle.tangle_graph.specs.Nodes.{IsNodeOf, title_of_node}
 use Rattle.tangle_graph.specs.Outputs.{outputs}
 use Rattle.tangle_graph.specs.Stores.{IsStoreOf}
@@ -33,10 +34,10 @@ pub record SessionRead : Type 0 where
 -- the first refusal that applies to a start, but for lack of memory
 abbrev pub start_refusal : FileTable → RolesRead → Option Refusal
 start_refusal files roles =
-    if is_there files roles.web then (if is_there_if_any files roles.change then None else Some NoChange) else Some NoWeb
+    if has_file files roles.web then (if has_file_if_any files roles.change then None else Some NoChange) else Some NoWeb
 
 -- the list has each expandable node of the web once, and no other
-pub record ListsExpandable (web : WebRead) (nodes : List Node) : Type 0 where
+pub record ListsExpandableOfWeb (web : WebRead) (nodes : List Node) : Type 0 where
   pub once : AllPairs (λ a b. a ≢ b) nodes
   pub just : (node : Node) → Contains nodes node
       ↔ (IsNodeOf (table_of web).names node × IsExpandableNode (shapes_of web) (title_of_node (table_of web).names node))

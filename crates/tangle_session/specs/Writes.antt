@@ -32,8 +32,8 @@ WritesOutput (Some bytes) old new result = WritesOut old new bytes result
 
 -- Where line marks are written in full, the bytes of an output are the macros, if they begin it, and
 -- the text of its node and a line feed, if the node has a piece; and each byte of a word, sign,
--- quoted text, verbatim text or ASCII constant in that text that is in no stretch is at the compiler's
--- place that is its own.
+-- quoted text, verbatim text or ASCII constant in that text that is in no stretch is at the counted
+-- origin that is its own.
 pub record IsTrueOutput (source : SourceRead) (web : WebRead) (output : OutputRead) (bytes : List ℕ) : Type 0 where
   pub text : List ℕ
   pub made : bytes ≡ front_text (numbers_of web (table_of web) Full) output.has_macros

@@ -2,12 +2,11 @@
 ghost use Rattle.std.specs.Prelude.{◌≡◌, ◌++◌, [], true, IfOk, IfSome, OnOk};
 ghost use Rattle.tangle_files.specs.Roles.{fits};
 ghost use Rattle.tangle_names.specs.NameTable.{table_of, table_over};
-ghost use Rattle.tangle_expansion.specs.Nodes.{IsGroupedBy};
 ghost use Rattle.tangle_expansion.specs.Numbers.{numbers_of};
-ghost use Rattle.tangle_expansion.specs.WebShapes.{shapes};
 ghost use Rattle.tangle_graph.specs.Faults.{AreGraphFaults};
 ghost use Rattle.tangle_graph.specs.Outputs.{outputs};
-ghost use Rattle.tangle_graph.specs.Stores.{IsStoreOf, pieces_of_node};
+ghost use Rattle.tangle_graph.specs.Stores.{IsStoreOf};
+ghost use Rattle.tangle_graph.specs.WebStores.{IsStoreOfWeb};
 ghost use Rattle.tangle_session.specs.Files.{shapes_of};
 ghost use Rattle.tangle_session.specs.Sessions.{IsGround, IsAnalysisAt};
 
@@ -51,13 +50,7 @@ fn store(
     old: Option<&Analysis>,
 ) -> Result<Store, NoMemory>
     requires { table.now ≡ record (table_of web.now) { faults = table.now.faults } }
-    ensures store { IfOk result (λ store. IsStoreOf (shapes web.now table.now) store) }
-    ensures names { IfOk result (λ store. store.names ≡ table.now.names) }
-    ensures outputs { IfOk result (λ store. store.outputs ≡ outputs web.now table.now out.now) }
-    ensures faults { IfOk result (λ store.
-        AreGraphFaults web.now table.now out.now store.faults) }
-    ensures grouped { IfOk result (λ store.
-        IsGroupedBy web.now table.now store.names (pieces_of_node store)) }
+    ensures { IfOk result (IsStoreOfWeb web.now table.now out.now) }
 {
     match old {
         Some(old) => Store::rebuild(alloc, web, table, out, &old.store),

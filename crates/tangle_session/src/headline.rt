@@ -31,12 +31,12 @@ pub struct Shown<'a> {
     pub work: u64,
 }
 
-/// What is handed to a session at once.
+/// What is passed to a session at once.
 #[derive(Drop)]
 pub enum Edits {
     /// One edit.
     Single(Edit),
-    /// A list of edits, as an editor hands over all edits of a save: all are made, or none is.
+    /// A list of edits, as an editor passes all edits of a save: all are made, or none is.
     Several(Vec<Edit>),
 }
 
@@ -77,7 +77,7 @@ fn edit_each(
 /// # Errors
 ///
 /// Those of [`Session::start`], with the files and the roles as they were. An edit that is refused
-/// is no error: it is answered so, and the next one is handed over.
+/// is no error: it is answered so, and the next one is passed.
 pub fn start_and_edit(
     alloc: Global,
     files: Files,

@@ -3,7 +3,7 @@ ghost use Rattle.std.specs.Prelude.{◌≡◌, ℕ, List, [], ◌∷◌, Contain
 ghost use Rattle.std.specs.List.{IsDistinct};
 ghost use Rattle.std.specs.Option.{option_map};
 ghost use Rattle.std.specs.Str.{bytes_eq};
-ghost use Rattle.tangle_lines.specs.Faults.{FaultRead};
+ghost use Rattle.tangle_faults.specs.Faults.{FaultRead};
 ghost use Rattle.tangle_files.specs.Edited.{edited, edited_all, edited_roles, roles_after};
 ghost use Rattle.tangle_files.specs.Lines.{FileTable};
 ghost use Rattle.tangle_files.specs.Roles.{RolesRead};
@@ -11,9 +11,9 @@ ghost use Rattle.tangle_files.specs.declared.edits.Edit.{Edit};
 ghost use Rattle.tangle_files.specs.declared.marks.MarkMode.{MarkMode};
 ghost use Rattle.tangle_scan.specs.Web.{WebRead};
 ghost use Rattle.tangle_names.specs.NameTable.{table_of};
-ghost use Rattle.tangle_expansion.specs.declared.nodes.Node.{Node};
+ghost use Rattle.tangle_plans.specs.declared.nodes.Node.{Node};
 ghost use Rattle.tangle_expansion.specs.Outputs.{OutputRead};
-ghost use Rattle.tangle_expansion.specs.Shapes.{Title, Named, Reaches, ContainsItself};
+ghost use Rattle.tangle_plans.specs.Shapes.{Title, Named, Reaches, ContainsItself};
 ghost use Rattle.tangle_graph.specs.Nodes.{title_of_node};
 ghost use Rattle.tangle_graph.specs.Outputs.{outputs};
 ghost use Rattle.tangle_session.specs.Tangle.{Tangling, AreFaultsOf, IsTanglingOf, output_at};
@@ -24,9 +24,10 @@ ghost use Rattle.tangle_session.specs.Laws.{IsReportedSelfContaining};
 ghost use Rattle.tangle_session.specs.Moves.{HaveSameShapes, IsMoved};
 ghost use Rattle.tangle_session.specs.Sessions.{ListsAffectedOfWebs};
 
-use tangle_expansion::{expandable_nodes_reach_no_cycle, names_resolve_inside};
+use tangle_expansion::expandable_nodes_reach_no_cycle;
 use tangle_graph::graph_faults_are_one_list;
 use tangle_names::names_are_the_full_names;
+use tangle_plans::names_resolve_inside;
 
 /// Tangling gives one thing: which faults and which outputs is determined by the files and the
 /// roles.

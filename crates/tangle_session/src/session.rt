@@ -7,7 +7,7 @@ ghost use Rattle.tangle_files.specs.declared.marks.MarkMode.TheVariants.{Full};
 ghost use Rattle.tangle_session.specs.Files.{web_at};
 ghost use Rattle.tangle_files.specs.Edited.{edited, edited_all, edited_roles, roles_after};
 ghost use Rattle.tangle_session.specs.Edits.{list_memory, list_refusal, session_refusal};
-ghost use Rattle.tangle_session.specs.Sessions.{ListsAffectedOfWebs, ListsExpandable};
+ghost use Rattle.tangle_session.specs.Sessions.{ListsAffectedOfWebs, ListsExpandableOfWeb};
 ghost use Rattle.tangle_session.specs.Sessions.{start_refusal};
 ghost use Rattle.tangle_session.specs.Tangle.{AreFaultsOf, output_at, outputs_of};
 ghost use Rattle.tangle_session.specs.Writes.{IsTrueFile, WritesOutput};
@@ -21,10 +21,10 @@ use std::alloc::Global;
 use std::marker::Model;
 use tangle_affected::expand_all;
 use tangle_expansion::{
-    Work, expandable_nodes_are_light, file_size, names_resolve_inside, texts_are_true_to_lines,
-    write_file,
+    Work, expandable_nodes_are_light, file_size, texts_are_true_to_lines, write_file,
 };
 use tangle_lines::{Edit, Fault, Files, Refusal, Roles, Sink, WriteFault};
+use tangle_plans::names_resolve_inside;
 
 /// A project that is tangled: its files and roles, its output files and its faults. It holds no
 /// bytes of outputs; these are made as they are written.
@@ -66,8 +66,8 @@ impl Session {
     /// # Errors
     ///
     /// `NoWeb` where the web isn't among the files, else `NoChange` where the change file that is
-    /// named isn't, else `NoMemory` where an allocation was refused. The files and the roles are
-    /// handed back as they were.
+    /// named isn't, else `NoMemory` where an allocation failed. The files and the roles are
+    /// returned as they were.
     pub fn start(
         alloc: Global,
         files: Files,
@@ -75,7 +75,8 @@ impl Session {
     ) -> Result<Session, (Files, Roles, Refusal)>
         ensures files { IfOk result (λ session. session.files ≡ files) }
         ensures roles { IfOk result (λ session. session.roles ≡ roles) }
-        ensures work { IfOk result (λ session. ListsExpandable (web_at files roles) session.work) }
+        ensures work { IfOk result
+            (λ session. ListsExpandableOfWeb (web_at files roles) session.work) }
         ensures refused { IfSome (start_refusal files roles)
             (λ refusal. result ≡ Err (files, roles, refusal)) }
         ensures only { IfNone (start_refusal files roles)
@@ -204,7 +205,7 @@ impl Session {
 
     /// Writes the output file of this name: how many bytes it has. At Ok, and where line marks are
     /// written in full, each byte of a word, a sign, a quoted or verbatim text or an ASCII constant
-    /// is at the compiler's place that is its own, but for those behind a line end that a quoted
+    /// is at the counted origin that is its own, but for those behind a line end that a quoted
     /// text or a join took, up to the next line end or mark.
     ///
     /// # Errors

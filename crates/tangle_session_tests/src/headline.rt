@@ -14,7 +14,8 @@ const MOST: u32 = 10_000;
 
 // The main file where the cycle is broken.
 const BROKEN_CYCLE: &[u8] =
-    b"/*1:*/\n#line 2 \"a.w\"\n\n /*2:*/\n#line 4 \"a.w\"\n\n /*3:*/\n#line 6 \"a.w\"\n\nb;\n/*:3*/\n#line 5 \"a.w\"\n\n/*:2*/\n#line 3 \"a.w\"\n\n/*:1*/\n";
+    b"/*1:*/\n#line 2 \"a.w\"\n\n /*2:*/\n#line 4 \"a.w\"\n\n /*3:*/\n#line 6 \"a.w\"\n\nb;\n\
+      /*:3*/\n#line 5 \"a.w\"\n\n/*:2*/\n#line 3 \"a.w\"\n\n/*:1*/\n";
 
 // The main file of a web with one piece.
 const ONE_PIECE: &[u8] = b"/*1:*/\n#line 2 \"a.w\"\n\nint x;\n/*:1*/\n";
@@ -164,7 +165,7 @@ fn edits_are_spared(
     let before = reported_project(alloc, &files, &roles)?;
     let (edited, was_spared) = edited_without(alloc, files, roles, calls, nth);
     let checked = check_edited(rt, alloc, &before, &edited, was_spared);
-    // what owns a session is let go once, in front of the ways out
+    // what owns a session is dropped once, in front of the ways out
     drop(edited);
     checked?;
     Ok(was_spared)

@@ -6,7 +6,7 @@ use std::test::Fail;
 use tangle_lines::{Refusal, Roles};
 use tangle_test_support::files_with;
 
-// A start over `b.w` and `a.ch` is refused so, and hands back files and roles as they were.
+// A start over `b.w` and `a.ch` is refused so, and returns files and roles as they were.
 fn check_refused(
     rt: &impl Abort,
     alloc: Global,

@@ -8,7 +8,7 @@ use tangle_lines::{Files, Line, MarkMode, Refusal, Roles, put, write_fault};
 use tangle_session::Session;
 use tangle_test_support::files_with;
 
-/// Room for all that a test writes.
+/// Capacity for all that a test writes.
 pub(crate) const AMPLE: usize = 10_000_000;
 
 // It is separate, so that what a start promises is looked at once.
@@ -16,7 +16,7 @@ fn started(alloc: Global, files: Files, roles: Roles) -> Option<Session> {
     Session::start(alloc, files, roles).ok()
 }
 
-/// What a start that is refused hands back.
+/// What a start that is refused returns.
 pub(crate) fn handed_back(
     alloc: Global,
     files: Files,
@@ -130,7 +130,7 @@ pub(crate) fn reported_project(
     Ok(sink)
 }
 
-/// A start that was refused so handed back files and roles as they were reported before.
+/// A start that was refused so returned files and roles as they were reported before.
 pub(crate) fn check_handed_back(
     rt: &impl Abort,
     alloc: Global,

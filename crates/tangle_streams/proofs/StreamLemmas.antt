@@ -31,7 +31,7 @@ Failed-one_more n = by (nat_lt n (2 ^ 64 - 1)) refl
     by true e = let h : n < 2 ^ 64 - 1 = omega (arith, ltb-true n (2 ^ 64 - 1) e) in inl (omega arith)
     by false e = let h : 2 ^ 64 - 1 ≤ n = omega (arith, ltb-false n (2 ^ 64 - 1) e) in inr (omega arith)
 
--- the text and a front of the bytes were written, and the rest is still to come
+-- the text and a prefix of the bytes were written, and the rest is still to come
 pub record IsHalfway (old new : Stream) (count : ℕ) (text bytes rest : List ℕ) : Type 0 where
   pub front : List ℕ
   pub whole : bytes ≡ front ++ rest

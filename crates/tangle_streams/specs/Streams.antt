@@ -31,7 +31,7 @@ Takes old new bytes None = Keeps old new
 Takes old new bytes (Some n) = Appends old new (take n bytes)
 
 -- A text was written. At Ok the writer has all of it and did not fail, and the number is its length. At a fault
--- the writer has exactly a front of it, which the number says, and it failed.
+-- the writer has exactly a prefix of it, which the number says, and it failed.
 abbrev pub IsWritten : Stream → Stream → List ℕ → Result ℕ WriteFault → Type 0
 IsWritten old new text (Ok n) = (n ≡ length text) × Appends old.taken new.taken text × (new.failures ≡ old.failures)
 IsWritten old new text (Err e) = (e.0 < length text) × Appends old.taken new.taken (take e.0 text) × Failed old.failures new.failures

@@ -22,7 +22,7 @@ impl<W: Write> IoSink<W> {
         IoSink { inner, failures: 0 }
     }
 
-    /// Hands on what the writer has kept back. To fail in it is one more failure. No contract of a
+    /// Passes on what the writer has kept back. To fail in it is one more failure. No contract of a
     /// writer reports when that fails, so that none here can report it: tests do.
     pub fn flush(&mut self)
         ensures kept { Keeps (W.contents self.old.inner) (W.contents self.new.inner) }

@@ -2,8 +2,8 @@
 use Rattle.std.proofs.Common.{◌≡◌, ℕ, zero, suc, ◌+◌, Bool, true, false, List, [], ◌∷◌, drop, Option, Some, None, refl, sym, arith, subst, if◌then◌else◌, cond, ◌==◌, not, ◌*◌}
 use Rattle.std.specs.Prelude.{nat_le}
 use Rattle.tangle_lexer.specs.declared.modes.ScanState.{ScanState}
-use Rattle.tangle_lexer.specs.Bytes.{at_sign, backslash, apostrophe, holds, is_octal}
-use Rattle.tangle_lexer.specs.Text.{Cell, byte_at}
+use Rattle.tangle_text.specs.Bytes.{at_sign, backslash, apostrophe, holds, is_octal}
+use Rattle.tangle_text.specs.Text.{Cell, byte_at}
 use Rattle.tangle_lexer.specs.declared.constants.AsciiConstant.{AsciiConstant}
 use Rattle.tangle_lexer.specs.Constants.{escape_value, if_closed, digit_at, if_byte, octal_constant, escaped_constant, constant_by, constant_at, constant_lexeme, ascii_constant}
 use Rattle.tangle_lexer.proofs.laws.Points.{Point, IsByte, walked, HoldsBytes, IsTextAt}

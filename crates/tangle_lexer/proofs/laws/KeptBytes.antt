@@ -2,8 +2,8 @@
 use Rattle.std.proofs.Common.{◌≡◌, ℕ, zero, suc, ◌+◌, ◌-◌, Bool, true, false, not, ◌||◌, List, [], ◌∷◌, ◌++◌, take, drop, flat_map, Option, Some, None, refl, ap, sym, ◌∙◌, arith, append_assoc, append-nil, cond, ◌==◌, if◌then◌else◌}
 use Rattle.std.proofs.lemmas.Grind.{flat_map-append}
 use Rattle.std.specs.List.{list_any}
-use Rattle.tangle_lines.specs.declared.faults.FaultKind.{FaultKind}
-use Rattle.tangle_lines.specs.declared.faults.FaultKind.TheVariants as fault
+use Rattle.tangle_faults.specs.declared.faults.FaultKind.{FaultKind}
+use Rattle.tangle_faults.specs.declared.faults.FaultKind.TheVariants as fault
 use Rattle.tangle_lexer.specs.declared.tokens.Token.{Token}
 use Rattle.tangle_lexer.specs.declared.tokens.Token.TheVariants as token
 use Rattle.tangle_lexer.specs.declared.modes.Mode.{Mode}
@@ -14,14 +14,14 @@ use Rattle.tangle_lexer.specs.declared.token_kinds.ControlCode.{ControlCode}
 use Rattle.tangle_lexer.specs.declared.token_kinds.ControlCode.TheVariants as code
 use Rattle.tangle_lexer.specs.declared.token_kinds.TokenKind.{TokenKind}
 use Rattle.tangle_lexer.specs.declared.token_kinds.TokenKind.TheVariants as token_kind
-use Rattle.tangle_lexer.specs.declared.regions.Region.{Region}
-use Rattle.tangle_lexer.specs.declared.regions.Region.TheVariants as region
-use Rattle.tangle_lexer.specs.declared.regions.Unit.{Unit as Unit-of}
-use Rattle.tangle_lexer.specs.declared.regions.Unit.TheVariants as unit
+use Rattle.tangle_text.specs.declared.regions.Region.{Region}
+use Rattle.tangle_text.specs.declared.regions.Region.TheVariants as region
+use Rattle.tangle_text.specs.declared.regions.Unit.{Unit as Unit-of}
+use Rattle.tangle_text.specs.declared.regions.Unit.TheVariants as unit
 use Rattle.tangle_lexer.specs.declared.constants.AsciiConstant.{AsciiConstant}
-use Rattle.tangle_lexer.specs.Bytes.{at_sign, double_quote, apostrophe, greater_sign, holds, is_line_end}
-use Rattle.tangle_lexer.specs.Text.{Cell, byte_at, column_at, line_at, span_at}
-use Rattle.tangle_lexer.specs.Regions.{count_before, from_units, unless_stop, unit_at, more_by}
+use Rattle.tangle_text.specs.Bytes.{at_sign, double_quote, apostrophe, greater_sign, holds, is_line_end}
+use Rattle.tangle_text.specs.Text.{Cell, byte_at, column_at, line_at, span_at}
+use Rattle.tangle_text.specs.Regions.{count_before, from_units, unless_stop, unit_at, more_by}
 use Rattle.tangle_lexer.specs.Lexemes.{Lexeme, lexeme_of, fault_if, in_mode}
 use Rattle.tangle_lexer.specs.Comments.{unit_line_end, line_ends, ends_comment, starts_section, has_end_code}
 use Rattle.tangle_lexer.specs.Quoted.{quote_end}

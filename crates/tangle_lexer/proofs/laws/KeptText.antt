@@ -2,18 +2,18 @@
 use Rattle.std.proofs.Common.{◌≡◌, ℕ, zero, suc, ◌+◌, ◌-◌, ◌≤◌, Bool, true, false, not, List, [], ◌∷◌, ◌++◌, take, drop, Option, Some, None, inl, inr, refl, ap, sym, ◌∙◌, arith, subst, cond, nat_eq, ◌&&◌, ◌||◌, ◌⊎◌, append_assoc, append-nil, flat_map}
 use Rattle.std.proofs.Math.Seq.{take-add}
 use Rattle.std.proofs.lemmas.Bool.Decides.{eqb_tells}
-use Rattle.tangle_lines.specs.declared.faults.FaultKind.TheVariants as fault
+use Rattle.tangle_faults.specs.declared.faults.FaultKind.TheVariants as fault
 use Rattle.tangle_lexer.specs.declared.tokens.Token.{Token}
 use Rattle.tangle_lexer.specs.declared.tokens.TextKind.TheVariants as text_kind
 use Rattle.tangle_lexer.specs.declared.tokens.Token.TheVariants as token
 use Rattle.tangle_lexer.specs.declared.modes.ScanState.{ScanState}
-use Rattle.tangle_lexer.specs.declared.regions.Region.{Region}
-use Rattle.tangle_lexer.specs.declared.regions.Region.TheVariants as region
-use Rattle.tangle_lexer.specs.declared.regions.Unit.{Unit as Unit-of}
-use Rattle.tangle_lexer.specs.declared.regions.Unit.TheVariants as unit
-use Rattle.tangle_lexer.specs.Bytes.{at_sign, backslash, greater_sign, double_quote, apostrophe, holds, is_line_end}
-use Rattle.tangle_lexer.specs.Text.{Cell, byte_at, span_at}
-use Rattle.tangle_lexer.specs.Regions.{unit_by, quoted_unit, unit_of, unit_at, count_before}
+use Rattle.tangle_text.specs.declared.regions.Region.{Region}
+use Rattle.tangle_text.specs.declared.regions.Region.TheVariants as region
+use Rattle.tangle_text.specs.declared.regions.Unit.{Unit as Unit-of}
+use Rattle.tangle_text.specs.declared.regions.Unit.TheVariants as unit
+use Rattle.tangle_text.specs.Bytes.{at_sign, backslash, greater_sign, double_quote, apostrophe, holds, is_line_end}
+use Rattle.tangle_text.specs.Text.{Cell, byte_at, span_at}
+use Rattle.tangle_text.specs.Regions.{unit_by, quoted_unit, unit_of, unit_at, count_before}
 use Rattle.tangle_lexer.specs.Lexemes.{fault_if}
 use Rattle.tangle_lexer.specs.Quoted.{cut_range, unit_tokens, next_start, cut_tokens, quote_end, one_if, quoted_text, verbatim_end, empty_end, verbatim_tokens}
 use Rattle.tangle_lexer.specs.Segments.{points_by, kept_points, byte_points, text_fate, text_segments}

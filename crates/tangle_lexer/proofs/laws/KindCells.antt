@@ -1,4 +1,4 @@
--- What begins at a place says which of its first two cells are bytes.
+-- What begins at a position says which of its first two cells are bytes.
 use Rattle.std.proofs.Common.{◌≡◌, ℕ, Bool, true, false, ◌&&◌, ◌||◌, Option, Some, None, refl, if◌then◌else◌, ◌==◌}
 use Rattle.tangle_lines.specs.Bytes.{is_white}
 use Rattle.tangle_lexer.specs.declared.modes.IncludeState.{IncludeState}
@@ -7,7 +7,7 @@ use Rattle.tangle_lexer.specs.declared.token_kinds.ControlCode.{ControlCode}
 use Rattle.tangle_lexer.specs.declared.token_kinds.ControlCode.TheVariants as code
 use Rattle.tangle_lexer.specs.declared.token_kinds.TokenKind.{TokenKind}
 use Rattle.tangle_lexer.specs.declared.token_kinds.TokenKind.TheVariants as token_kind
-use Rattle.tangle_lexer.specs.Bytes.{at_sign, asterisk, slash, less_sign, left_parenthesis, equals_sign, double_quote, apostrophe, holds, is_word_byte, lower}
+use Rattle.tangle_text.specs.Bytes.{at_sign, asterisk, slash, less_sign, left_parenthesis, equals_sign, double_quote, apostrophe, holds, is_word_byte, lower}
 use Rattle.tangle_lexer.specs.Steps.{code_of, code_at, less_kind, byte_kind, kind_by}
 use Rattle.tangle_lexer.proofs.laws.Points.{IsByte}
 use Rattle.tangle_lexer.proofs.laws.RegionOrder.{holds-byte, both}

@@ -1,7 +1,7 @@
 -- The tokens of a source lie in its text.
 use Rattle.std.proofs.Common.{◌≡◌, ℕ, zero, suc, ◌+◌, ◌-◌, ◌≤◌, Bool, true, false, List, [], ◌∷◌, drop, flat_map, Option, Some, None, inl, inr, refl, ap, sym, ◌∙◌, arith, subst, append-nil, cond, ◌||◌}
 use Rattle.std.specs.Prelude.{is_some}
-use Rattle.tangle_lines.specs.declared.faults.FaultKind.TheVariants as fault
+use Rattle.tangle_faults.specs.declared.faults.FaultKind.TheVariants as fault
 use Rattle.tangle_lexer.specs.declared.tokens.Token.{Token}
 use Rattle.tangle_lexer.specs.declared.modes.Mode.{Mode}
 use Rattle.tangle_lexer.specs.declared.modes.Mode.TheVariants as mode
@@ -10,10 +10,10 @@ use Rattle.tangle_lexer.specs.declared.token_kinds.ControlCode.{ControlCode}
 use Rattle.tangle_lexer.specs.declared.token_kinds.ControlCode.TheVariants as code
 use Rattle.tangle_lexer.specs.declared.token_kinds.TokenKind.{TokenKind}
 use Rattle.tangle_lexer.specs.declared.token_kinds.TokenKind.TheVariants as token_kind
-use Rattle.tangle_lexer.specs.declared.regions.Region.TheVariants as region
-use Rattle.tangle_lexer.specs.Bytes.{at_sign, double_quote, apostrophe, greater_sign, holds}
-use Rattle.tangle_lexer.specs.Text.{Cell, byte_at}
-use Rattle.tangle_lexer.specs.Regions.{count_before}
+use Rattle.tangle_text.specs.declared.regions.Region.TheVariants as region
+use Rattle.tangle_text.specs.Bytes.{at_sign, double_quote, apostrophe, greater_sign, holds}
+use Rattle.tangle_text.specs.Text.{Cell, byte_at}
+use Rattle.tangle_text.specs.Regions.{count_before}
 use Rattle.tangle_lexer.specs.Lexemes.{Lexeme, lexeme_of, in_mode}
 use Rattle.tangle_lexer.specs.Comments.{block_comment, line_comment, control_text, starts_section}
 use Rattle.tangle_lexer.specs.Quoted.{quoted_text, verbatim_text}
@@ -211,7 +211,7 @@ module _ (width : ℕ → ℕ) (count : ℕ) where
   lexemes-drop (suc k) s [] = refl
   lexemes-drop (suc k) s (c ∷ cs) = lexemes-drop k s cs
 
-  -- tokens lie from a place on, up to some other
+  -- tokens lie from a position on, up to some other
   pub record AreSomewhere (from : Bool) (at : Point) (es : List Token) : Type 0 where
     pub stays : Bool
     pub to : Point

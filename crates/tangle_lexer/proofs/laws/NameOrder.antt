@@ -3,14 +3,14 @@ use Rattle.std.proofs.Common.{◌≡◌, ℕ, ◌+◌, ◌-◌, ◌<◌, ◌≤�
 use Rattle.std.specs.Prelude.{is_some}
 use Rattle.std.proofs.lemmas.Bool.Decides.{eqb_tells}
 use Rattle.std.proofs.Math.Seq.{drop-nil}
-use Rattle.tangle_lines.specs.declared.faults.FaultKind.{FaultKind}
-use Rattle.tangle_lines.specs.declared.faults.FaultKind.TheVariants as fault
+use Rattle.tangle_faults.specs.declared.faults.FaultKind.{FaultKind}
+use Rattle.tangle_faults.specs.declared.faults.FaultKind.TheVariants as fault
 use Rattle.tangle_lexer.specs.declared.tokens.Token.{Token}
 use Rattle.tangle_lexer.specs.declared.tokens.Token.TheVariants as token
 use Rattle.tangle_lexer.specs.declared.modes.ScanState.{ScanState}
 use Rattle.tangle_lexer.specs.declared.names.Equals.TheVariants as equals
-use Rattle.tangle_lexer.specs.Bytes.{at_sign, greater_sign, equals_sign, holds}
-use Rattle.tangle_lexer.specs.Text.{Cell, byte_at, line_at}
+use Rattle.tangle_text.specs.Bytes.{at_sign, greater_sign, equals_sign, holds}
+use Rattle.tangle_text.specs.Text.{Cell, byte_at, line_at}
 use Rattle.tangle_lexer.specs.Lexemes.{Lexeme, fault_if}
 use Rattle.tangle_lexer.specs.Comments.{two_if}
 use Rattle.tangle_lexer.specs.Names.{name_count, name_end, is_ended, name_more, behind_name, count_before_equals, count_through, equals_count, has_single_equals, head_count, use_of_name, head_or_mention, name_in_documentation}
@@ -19,7 +19,7 @@ use Rattle.tangle_lexer.proofs.laws.TokenOrder.{AreInOrder, jumped}
 use Rattle.tangle_lexer.proofs.laws.RegionOrder.{walked-nothing, walked-add, drop-add, holds-byte, are-bytes, faults-in_order, end-precedes}
 use Rattle.tangle_lexer.proofs.laws.ConstantOrder.{byte_at-drop}
 
--- a jump to the line of a later place stays before it
+-- a jump to the line of a later position stays before it
 pub jumped-precedes : (at p : Point) → Precedes at p → PrecedesOnLine (jumped at p.line) p
 jumped-precedes at p h = (
   refl,

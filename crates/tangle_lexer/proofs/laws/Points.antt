@@ -1,8 +1,8 @@
--- Places of the text, and where it goes on behind cells.
+-- Positions of the text, and where it goes on behind cells.
 use Rattle.std.proofs.Common.{◌≡◌, ℕ, zero, suc, ◌+◌, ◌<◌, ◌≤◌, List, [], ◌∷◌, ◌++◌, length, get_or, drop, Option, Some, None, refl, ap, sym, ◌∙◌, arith, add-zero}
 use Rattle.tangle_lines.specs.Reading.{Line}
 use Rattle.tangle_lines.specs.Reading.{no_line}
-use Rattle.tangle_lexer.specs.Text.{Cell, line_text, text_from}
+use Rattle.tangle_text.specs.Text.{Cell, line_text, text_from}
 
 -- a line and a column of it, both from 0
 pub record Point : Type 0 where
@@ -44,7 +44,7 @@ HoldsBytes zero text = Unit {0}
 HoldsBytes (suc k) [] = ⊥
 HoldsBytes (suc k) (c ∷ cs) = IsByte c.byte × HoldsBytes k cs
 
--- a cell is at a place inside a line of the source
+-- a cell is at a position inside a line of the source
 pub record IsCellAt (width : ℕ → ℕ) (count : ℕ) (at : Point) (c : Cell) : Type 0 where
   pub line : c.line ≡ at.line
   pub column : c.column ≡ at.column
@@ -65,7 +65,7 @@ behind-byte c h = by c.byte h
     by (Some b) h = refl
 
 module _ (width : ℕ → ℕ) (count : ℕ) where
-  -- the cells follow one another from a place on, up to the end of the source
+  -- the cells follow one another from a position on, up to the end of the source
   abbrev pub IsTextAt : Point → List Cell → Type 0
   IsTextAt at [] = (at.column ≡ 0) × (at.line ≡ count)
   IsTextAt at (c ∷ cs) = IsCellAt width count at c × IsTextAt (behind c) cs

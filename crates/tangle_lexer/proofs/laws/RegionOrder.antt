@@ -1,15 +1,15 @@
 -- Where the text goes on behind a region, and that the line ends in a region lie in it.
 use Rattle.std.proofs.Common.{◌≡◌, ℕ, zero, suc, ◌+◌, Bool, true, false, ◌&&◌, List, [], ◌∷◌, ◌++◌, drop, Option, Some, None, refl, ap, sym, ◌∙◌, arith, subst, zero-add, cond}
 use Rattle.std.proofs.Math.Seq.{drop-nil}
-use Rattle.tangle_lines.specs.declared.faults.FaultKind.{FaultKind}
+use Rattle.tangle_faults.specs.declared.faults.FaultKind.{FaultKind}
 use Rattle.tangle_lexer.specs.declared.tokens.Token.{Token}
 use Rattle.tangle_lexer.specs.declared.tokens.Token.TheVariants as token
-use Rattle.tangle_lexer.specs.declared.regions.Region.{Region}
-use Rattle.tangle_lexer.specs.declared.regions.Unit.{Unit as Unit-of}
-use Rattle.tangle_lexer.specs.declared.regions.Unit.TheVariants as unit
-use Rattle.tangle_lexer.specs.Bytes.{holds, are, is_line_end}
-use Rattle.tangle_lexer.specs.Text.{Cell, byte_at}
-use Rattle.tangle_lexer.specs.Regions.{unit_of, unit_at, count_by, more_by, count_before, from_units, unless_stop}
+use Rattle.tangle_text.specs.declared.regions.Region.{Region}
+use Rattle.tangle_text.specs.declared.regions.Unit.{Unit as Unit-of}
+use Rattle.tangle_text.specs.declared.regions.Unit.TheVariants as unit
+use Rattle.tangle_text.specs.Bytes.{holds, are, is_line_end}
+use Rattle.tangle_text.specs.Text.{Cell, byte_at}
+use Rattle.tangle_text.specs.Regions.{unit_of, unit_at, count_by, more_by, count_before, from_units, unless_stop}
 use Rattle.tangle_lexer.specs.Lexemes.{fault_if, line_end_by}
 use Rattle.tangle_lexer.specs.Comments.{unit_line_end, line_ends, two_if}
 use Rattle.tangle_lexer.proofs.laws.Points.{Point, point_at, PrecedesOnLine, IsByte, behind_by, behind, walked, HoldsBytes, IsCellAt, IsTextAt, behind-byte, walked-bytes}
@@ -95,7 +95,7 @@ region-bytes r stops stays (c ∷ d ∷ cs) = by (unit_at r (c ∷ d ∷ cs)) re
         (more-bytes 1 (count_before r 0 cs) (d ∷ cs) (stays c.byte d.byte e, tt) two)
 
 module _ (width : ℕ → ℕ) (count : ℕ) where
-  -- faults take no place
+  -- faults have no range
   pub faults-in_order : (b : Bool) (kind : FaultKind) (line : ℕ) (at to : Point) → PrecedesOnLine at to → AreInOrder width count true at (fault_if b kind line) true to
   faults-in_order true kind line at to h = h
   faults-in_order false kind line at to h = h

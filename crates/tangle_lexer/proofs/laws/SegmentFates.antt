@@ -15,12 +15,12 @@ use Rattle.tangle_lexer.specs.declared.token_kinds.ControlCode.{ControlCode}
 use Rattle.tangle_lexer.specs.declared.token_kinds.ControlCode.TheVariants as code
 use Rattle.tangle_lexer.specs.declared.token_kinds.TokenKind.{TokenKind}
 use Rattle.tangle_lexer.specs.declared.token_kinds.TokenKind.TheVariants as token_kind
-use Rattle.tangle_lexer.specs.declared.regions.Region.TheVariants as region
+use Rattle.tangle_text.specs.declared.regions.Region.TheVariants as region
 use Rattle.tangle_lexer.specs.declared.constants.AsciiConstant.{AsciiConstant}
-use Rattle.tangle_lexer.specs.declared.regions.Unit.TheVariants as unit
-use Rattle.tangle_lexer.specs.Bytes.{at_sign, asterisk, slash, less_sign, left_parenthesis, equals_sign, double_quote, apostrophe, greater_sign, holds, is_line_end, is_space, is_word_byte, are, is_between, lower, is_blank, is_section_start}
-use Rattle.tangle_lexer.specs.Text.{Cell, byte_at}
-use Rattle.tangle_lexer.specs.Regions.{count_before, count_by, unit_by, unit_of, unit_at, more_by}
+use Rattle.tangle_text.specs.declared.regions.Unit.TheVariants as unit
+use Rattle.tangle_text.specs.Bytes.{at_sign, asterisk, slash, less_sign, left_parenthesis, equals_sign, double_quote, apostrophe, greater_sign, holds, is_line_end, is_space, is_word_byte, are, is_between, lower, is_blank, is_section_start}
+use Rattle.tangle_text.specs.Text.{Cell, byte_at}
+use Rattle.tangle_text.specs.Regions.{count_before, count_by, unit_by, unit_of, unit_at, more_by}
 use Rattle.tangle_lexer.specs.Lexemes.{Lexeme}
 use Rattle.tangle_lexer.specs.Comments.{has_end_code, two_if, ends_comment, block_comment, line_comment}
 use Rattle.tangle_lexer.specs.Constants.{constant_at, constant_lexeme}
@@ -28,7 +28,7 @@ use Rattle.tangle_lexer.specs.Steps.{code_at, less_kind, byte_kind, kind_by, kin
 use Rattle.tangle_lexer.specs.Segments.{Segment, segment, ShowsFate, OpensWith, text_segments, verbatim_segments, code_segments, c_segments, segments_in, segments, IsBlockComment, IsLineComment}
 use Rattle.tangle_lexer.specs.Segments.Fate.{Kept, SecondSign, LineEnd, WhiteSpace, ControlBytes}
 use Rattle.tangle_lexer.proofs.laws.ConstantOrder.{byte_at-drop}
-use Rattle.tangle_lexer.specs.declared.regions.Unit.{Unit as Unit-of}
+use Rattle.tangle_text.specs.declared.regions.Unit.{Unit as Unit-of}
 use Rattle.tangle_lexer.proofs.laws.Points.{IsByte, HoldsBytes}
 use Rattle.tangle_lexer.proofs.laws.RegionOrder.{both, holds-byte, more-bytes, drop-add, two-bytes}
 use Rattle.tangle_lexer.proofs.laws.WhiteOrder.{word-bytes, line_comment-bytes}

@@ -4,8 +4,8 @@ use Rattle.std.specs.Prelude.{nat_lt}
 use Rattle.std.proofs.lemmas.Bool.{ltb-false}
 use Rattle.tangle_lexer.specs.declared.tokens.Token.{Token}
 use Rattle.tangle_lexer.specs.declared.tokens.Token.TheVariants as token
-use Rattle.tangle_lexer.specs.declared.regions.Region.{Region}
-use Rattle.tangle_lexer.specs.Text.{Cell}
+use Rattle.tangle_text.specs.declared.regions.Region.{Region}
+use Rattle.tangle_text.specs.Text.{Cell}
 use Rattle.tangle_lexer.specs.Quoted.{range_token, cut_range}
 use Rattle.tangle_lexer.specs.Segments.{columns_from, span_points, cell_point, byte_points}
 use Rattle.tangle_lexer.proofs.laws.Points.{Point, IsByte, behind, HoldsBytes, IsTextAt, behind-byte}

@@ -1,7 +1,7 @@
 -- The tokens of a text lie in it: each between what is before and behind it.
 use Rattle.std.proofs.Common.{◌≡◌, ℕ, ◌+◌, ◌<◌, ◌≤◌, Bool, true, false, List, [], ◌∷◌, ◌++◌, inl, inr, refl, sym, ◌∙◌, arith, subst, if◌then◌else◌, ◌==◌}
 use Rattle.std.proofs.lemmas.Bool.Decides.{eqb_tells}
-use Rattle.tangle_lexer.specs.declared.spans.Span.{Span}
+use Rattle.tangle_text.specs.declared.spans.Span.{Span}
 use Rattle.tangle_lexer.specs.declared.tokens.Token.{Token}
 use Rattle.tangle_lexer.specs.declared.tokens.Token.TheVariants as token
 use Rattle.tangle_lexer.proofs.laws.Points.{Point, point_at, Precedes, PrecedesOnLine, precedes-trans}
@@ -13,7 +13,7 @@ abbrev pub Inside : Bool → Type 0 → Type 0
 Inside true A = A
 Inside false A = ⊥
 
--- From a place, inside or not, the text goes on at another place, inside or not, with no token between them.
+-- From a position, inside or not, the text goes on at another position, inside or not, with no token between them.
 abbrev pub GoesOn : Bool → Bool → Point → Point → Type 0
 GoesOn true true at to = PrecedesOnLine at to
 GoesOn false true at to = ⊥
@@ -26,7 +26,7 @@ span_end s = point_at s.line s.end
 abbrev pub jumped : Point → ℕ → Point
 jumped at line = point_at line (if line == at.line then at.column else 0)
 
--- a range of a line of the source, on the line of a place and not before it
+-- a range of a line of the source, on the line of a position and not before it
 pub record IsFrom (width : ℕ → ℕ) (count : ℕ) (at : Point) (s : Span) : Type 0 where
   pub line : s.line ≡ at.line
   pub real : at.line < count
@@ -35,7 +35,7 @@ pub record IsFrom (width : ℕ → ℕ) (count : ℕ) (at : Point) (s : Span) : 
   pub end : s.end ≤ width at.line
 
 module _ (width : ℕ → ℕ) (count : ℕ) where
-  -- The tokens lie between two places, in this order; the flags say whether the text at these places is read inside. Inside, line ends
+  -- The tokens lie between two positions, in this order; the flags say whether the text at these positions is read inside. Inside, line ends
   -- alone go on to another line, and names, which may be over lines.
   abbrev pub AreInOrder : Bool → Point → List Token → Bool → Point → Type 0
   AreInOrder from at [] stays to = GoesOn from stays at to

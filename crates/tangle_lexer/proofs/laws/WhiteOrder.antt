@@ -1,15 +1,15 @@
 -- Comments, control texts and other white space, words and signs: their tokens lie in them.
 use Rattle.std.proofs.Common.{◌≡◌, ℕ, ◌+◌, ◌≤◌, Bool, true, false, not, ◌&&◌, ◌||◌, List, [], ◌∷◌, ◌++◌, drop, Option, Some, None, refl, ap, sym, ◌∙◌, arith, subst, if◌then◌else◌, cond, nat_eq}
-use Rattle.tangle_lines.specs.declared.faults.FaultKind.{FaultKind}
-use Rattle.tangle_lines.specs.declared.faults.FaultKind.TheVariants as fault
+use Rattle.tangle_faults.specs.declared.faults.FaultKind.{FaultKind}
+use Rattle.tangle_faults.specs.declared.faults.FaultKind.TheVariants as fault
 use Rattle.tangle_lexer.specs.declared.tokens.Token.TheVariants as token
 use Rattle.tangle_lexer.specs.declared.modes.ScanState.{ScanState}
-use Rattle.tangle_lexer.specs.declared.regions.Region.{Region}
-use Rattle.tangle_lexer.specs.declared.regions.Region.TheVariants as region
-use Rattle.tangle_lexer.specs.declared.regions.Unit.TheVariants as unit
-use Rattle.tangle_lexer.specs.Bytes.{asterisk, slash, at_sign, apostrophe, greater_sign, holds}
-use Rattle.tangle_lexer.specs.Text.{Cell, byte_at, line_at, span_at}
-use Rattle.tangle_lexer.specs.Regions.{unit_by, unit_of, count_before}
+use Rattle.tangle_text.specs.declared.regions.Region.{Region}
+use Rattle.tangle_text.specs.declared.regions.Region.TheVariants as region
+use Rattle.tangle_text.specs.declared.regions.Unit.TheVariants as unit
+use Rattle.tangle_text.specs.Bytes.{asterisk, slash, at_sign, apostrophe, greater_sign, holds}
+use Rattle.tangle_text.specs.Text.{Cell, byte_at, line_at, span_at}
+use Rattle.tangle_text.specs.Regions.{unit_by, unit_of, count_before}
 use Rattle.tangle_lexer.specs.Lexemes.{fault_if}
 use Rattle.tangle_lexer.specs.Comments.{line_ends, ends_comment, has_end_code, two_if, block_comment, line_comment, control_text}
 use Rattle.tangle_lexer.specs.Constants.{bad_constant}

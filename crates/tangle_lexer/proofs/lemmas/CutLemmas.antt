@@ -1,14 +1,14 @@
 -- Texts that are cut, unit by unit.
 use Rattle.std.proofs.Common.{◌≡◌, ◌<◌, ◌+◌, ℕ, Bool, true, false, nat_eq, inl, inr, List, [], ◌∷◌, ◌++◌, length, drop, drop-drop, refl, ap, sym, ◌∙◌, arith}
 use Rattle.std.proofs.lemmas.Bool.Decides.{eqb_tells}
-use Rattle.tangle_lexer.specs.declared.regions.Region.{Region}
-use Rattle.tangle_lexer.specs.declared.regions.Unit.{Unit as Unit-of}
-use Rattle.tangle_lexer.specs.declared.regions.Unit.TheVariants as unit
+use Rattle.tangle_text.specs.declared.regions.Region.{Region}
+use Rattle.tangle_text.specs.declared.regions.Unit.{Unit as Unit-of}
+use Rattle.tangle_text.specs.declared.regions.Unit.TheVariants as unit
 use Rattle.tangle_lexer.specs.declared.tokens.Token.{Token}
-use Rattle.tangle_lexer.specs.Text.{Cell, byte_at, front_cell}
-use Rattle.tangle_lexer.specs.Regions.{unit_at, more_by, region_end, count_before, count_by}
+use Rattle.tangle_text.specs.Text.{Cell, byte_at, front_cell}
+use Rattle.tangle_text.specs.Regions.{unit_at, more_by, region_end, count_before, count_by}
 use Rattle.tangle_lexer.specs.Quoted.{cut_tokens, unit_tokens, next_start, ends_at_once, one_if}
-use Rattle.tangle_lexer.proofs.lemmas.RegionLemmas.{region_end-is}
+use Rattle.tangle_text.proofs.RegionLemmas.{region_end-is}
 
 -- a unit that isn't the end gives its part
 pub cut-go : (ends : ℕ → List Cell → List Token) (r : Region) (start last : ℕ) (text : List Cell) (u : Unit-of) →

@@ -1,11 +1,11 @@
 -- A head is the only token of its lexeme.
 use Rattle.std.proofs.Common.{◌≡◌, ℕ, zero, suc, Bool, true, false, not, ◌||◌, ◌&&◌, List, [], ◌∷◌, ◌++◌, drop, Option, Some, None, if◌then◌else◌, inl, inr, refl}
 use Rattle.std.specs.List.{list_any}
-use Rattle.tangle_lines.specs.declared.faults.FaultKind.{FaultKind}
-use Rattle.tangle_lexer.specs.declared.regions.Region.{Region}
-use Rattle.tangle_lexer.specs.declared.regions.Region.TheVariants as region
-use Rattle.tangle_lexer.specs.declared.regions.Unit.{Unit as Unit-of}
-use Rattle.tangle_lexer.specs.declared.regions.Unit.TheVariants as unit
+use Rattle.tangle_faults.specs.declared.faults.FaultKind.{FaultKind}
+use Rattle.tangle_text.specs.declared.regions.Region.{Region}
+use Rattle.tangle_text.specs.declared.regions.Region.TheVariants as region
+use Rattle.tangle_text.specs.declared.regions.Unit.{Unit as Unit-of}
+use Rattle.tangle_text.specs.declared.regions.Unit.TheVariants as unit
 use Rattle.tangle_lexer.specs.declared.modes.Mode.{Mode}
 use Rattle.tangle_lexer.specs.declared.modes.Mode.TheVariants as mode
 use Rattle.tangle_lexer.specs.declared.modes.ScanState.{ScanState}
@@ -16,9 +16,9 @@ use Rattle.tangle_lexer.specs.declared.token_kinds.TokenKind.TheVariants as toke
 use Rattle.tangle_lexer.specs.declared.tokens.Token.{Token}
 use Rattle.tangle_lexer.specs.declared.tokens.Token.TheVariants as token
 use Rattle.tangle_lexer.specs.declared.constants.AsciiConstant.{AsciiConstant}
-use Rattle.tangle_lexer.specs.Bytes.{holds, at_sign, backslash, is_line_end}
-use Rattle.tangle_lexer.specs.Text.{Cell, byte_at}
-use Rattle.tangle_lexer.specs.Regions.{unit_at, more_by, unless_stop, from_units}
+use Rattle.tangle_text.specs.Bytes.{holds, at_sign, backslash, is_line_end}
+use Rattle.tangle_text.specs.Text.{Cell, byte_at}
+use Rattle.tangle_text.specs.Regions.{unit_at, more_by, unless_stop, from_units}
 use Rattle.tangle_lexer.specs.Lexemes.{fault_if, line_end_by, in_mode}
 use Rattle.tangle_lexer.specs.Comments.{line_ends, unit_line_end, starts_section}
 use Rattle.tangle_lexer.specs.Quoted.{range_token, cut_range, unit_tokens, next_start, at_stop, cut_tokens, quote_end, verbatim_end, verbatim_tokens, empty_end, ends_at_once, quoted_text}

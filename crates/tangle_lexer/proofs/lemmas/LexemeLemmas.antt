@@ -1,16 +1,16 @@
 -- What the units of a region give.
 use Rattle.std.proofs.Common.{◌≡◌, ◌<◌, ℕ, List, [], ◌∷◌, ◌++◌, Bool, true, false, not, append_assoc, append-nil, length, drop, Option, refl, ap, sym, ◌∙◌, arith}
-use Rattle.tangle_lines.specs.declared.faults.FaultKind.{FaultKind}
+use Rattle.tangle_faults.specs.declared.faults.FaultKind.{FaultKind}
 use Rattle.tangle_lexer.specs.declared.tokens.Token.TheVariants as token
-use Rattle.tangle_lexer.proofs.lemmas.RegionLemmas.{drop-two, mid-is}
-use Rattle.tangle_lexer.specs.declared.regions.Region.{Region}
-use Rattle.tangle_lexer.specs.declared.regions.Unit.{Unit as Unit-of}
-use Rattle.tangle_lexer.specs.declared.regions.Unit.TheVariants as unit
+use Rattle.tangle_lexer.proofs.lemmas.OpenedRegions.{drop-two, mid-is}
+use Rattle.tangle_text.specs.declared.regions.Region.{Region}
+use Rattle.tangle_text.specs.declared.regions.Unit.{Unit as Unit-of}
+use Rattle.tangle_text.specs.declared.regions.Unit.TheVariants as unit
 use Rattle.tangle_lexer.specs.declared.modes.IncludeState.{IncludeState}
 use Rattle.tangle_lexer.specs.declared.modes.IncludeState.TheVariants as include
 use Rattle.tangle_lexer.specs.declared.tokens.Token.{Token}
-use Rattle.tangle_lexer.specs.Text.{Cell, byte_at, line_at, front_cell}
-use Rattle.tangle_lexer.specs.Regions.{unit_at, more_by, from_units, region_end, count_before}
+use Rattle.tangle_text.specs.Text.{Cell, byte_at, line_at, front_cell}
+use Rattle.tangle_text.specs.Regions.{unit_at, more_by, from_units, region_end, count_before}
 use Rattle.tangle_lexer.specs.Lexemes.{include_over, fault_if}
 use Rattle.tangle_lexer.specs.Comments.{line_ends}
 

@@ -1,21 +1,17 @@
 -- Names: where they end, and what is behind them.
-use Rattle.std.proofs.Common.{◌≡◌, ℕ, ◌+◌, zero, suc, Bool, true, false, not, List, [], ◌∷◌, drop, Option, Some, None, refl, ap, sym, ◌∙◌, arith, drop-drop, subst, if◌then◌else◌}
+use Rattle.std.proofs.Common.{◌≡◌, ℕ, ◌+◌, Bool, true, false, not, List, drop, Option, Some, None, refl, ap, sym, ◌∙◌, arith, drop-drop, subst, if◌then◌else◌}
 use Rattle.tangle_lexer.specs.declared.names.Equals.{Equals}
 use Rattle.tangle_lexer.specs.declared.names.Equals.TheVariants as equals
-use Rattle.tangle_lexer.specs.Ahead.{PassesHead}
-use Rattle.tangle_lexer.specs.declared.regions.Region.TheVariants as region
-use Rattle.tangle_lexer.specs.Bytes.{holds, plus_sign}
-use Rattle.tangle_lexer.specs.Text.{Cell, byte_at, line_at}
-use Rattle.tangle_lexer.specs.Regions.{count_before, region_end}
+use Rattle.tangle_lexer.specs.Reads.{PassesHead}
+use Rattle.tangle_text.specs.declared.regions.Region.TheVariants as region
+use Rattle.tangle_text.specs.Bytes.{holds, plus_sign}
+use Rattle.tangle_text.specs.Text.{Cell, byte_at, line_at}
+use Rattle.tangle_text.specs.Regions.{count_before, region_end}
 use Rattle.tangle_lexer.specs.Comments.{two_if, has_end_code}
 use Rattle.tangle_lexer.specs.Names.{name_end, is_ended, behind_name, name_count, count_before_equals, equals_by, equals_in, head_count, name_more, equals_count, count_through}
-use Rattle.tangle_lexer.proofs.lemmas.RegionLemmas.{behind-two, mid-is, region_end-is}
-
--- the cell at a distance is the first one further on
-pub byte_at-drop : (n : ℕ) (text : List Cell) → byte_at n text ≡ byte_at 0 (drop n text)
-byte_at-drop zero text = refl
-byte_at-drop (suc n) [] = refl
-byte_at-drop (suc n) (c ∷ cs) = byte_at-drop n cs
+use Rattle.tangle_text.proofs.RegionLemmas.{region_end-is}
+use Rattle.tangle_lexer.proofs.lemmas.OpenedRegions.{behind-two, mid-is}
+use Rattle.tangle_text.proofs.AheadLemmas.{byte_at-drop}
 
 pub byte_at-next : (n : ℕ) (text : List Cell) → byte_at (n + 1) text ≡ byte_at 1 (drop n text)
 byte_at-next n text =

@@ -1,7 +1,7 @@
 -- Names are numbered one after another, so those of tokens stay below their count.
 use Rattle.std.proofs.Common.{◌≡◌, ◌≤◌, ◌<◌, ℕ, zero, suc, ◌+◌, Bool, true, false, ◌||◌, List, [], ◌∷◌, ◌++◌, length, drop, flat_map, refl, ap, arith, if◌then◌else◌, Option, None, Some, option_to_list, length-append}
 use Rattle.std.specs.List.{list_any, AllByRecursion}
-use Rattle.tangle_lines.specs.declared.faults.FaultKind.TheVariants as fault
+use Rattle.tangle_faults.specs.declared.faults.FaultKind.TheVariants as fault
 use Rattle.tangle_lexer.specs.declared.tokens.Token.{Token}
 use Rattle.tangle_lexer.specs.declared.tokens.Token.TheVariants as token
 use Rattle.tangle_lexer.specs.declared.modes.Mode.{Mode}
@@ -11,9 +11,9 @@ use Rattle.tangle_lexer.specs.declared.token_kinds.ControlCode.{ControlCode}
 use Rattle.tangle_lexer.specs.declared.token_kinds.ControlCode.TheVariants as code
 use Rattle.tangle_lexer.specs.declared.token_kinds.TokenKind.{TokenKind}
 use Rattle.tangle_lexer.specs.declared.token_kinds.TokenKind.TheVariants as token_kind
-use Rattle.tangle_lexer.specs.declared.regions.Region.TheVariants as region
-use Rattle.tangle_lexer.specs.Bytes.{holds, at_sign, double_quote, apostrophe, greater_sign}
-use Rattle.tangle_lexer.specs.Text.{Cell, byte_at, column_at, line_at}
+use Rattle.tangle_text.specs.declared.regions.Region.TheVariants as region
+use Rattle.tangle_text.specs.Bytes.{holds, at_sign, double_quote, apostrophe, greater_sign}
+use Rattle.tangle_text.specs.Text.{Cell, byte_at, column_at, line_at}
 use Rattle.tangle_lexer.specs.Lexemes.{Lexeme, lexeme_of, in_mode}
 use Rattle.tangle_lexer.specs.Comments.{starts_section}
 use Rattle.tangle_lexer.specs.Quoted.{quote_end}

@@ -1,57 +1,14 @@
 -- Bytes without a meaning are passed over one by one, and give nothing.
-use Rattle.std.proofs.Common.{◌≡◌, ℕ, ◌+◌, zero, suc, Bool, true, false, not, ◌||◌, List, [], ◌∷◌, ◌++◌, Option, Some, None, drop, refl, sym, ◌∙◌, arith}
-use Rattle.tangle_lexer.specs.declared.regions.Region.{Region}
-use Rattle.tangle_lexer.specs.declared.regions.Region.TheVariants as region
-use Rattle.tangle_lexer.specs.declared.regions.Unit.TheVariants as unit
+use Rattle.std.proofs.Common.{◌≡◌, ℕ, zero, suc, true, false, List, [], ◌∷◌, Option, Some, None, drop, refl, sym, ◌∙◌}
+use Rattle.tangle_text.specs.declared.regions.Region.{Region}
 use Rattle.tangle_lexer.specs.declared.tokens.Token.{Token}
-use Rattle.tangle_lexer.specs.Bytes.{holds, at_sign}
-use Rattle.tangle_lexer.specs.Text.{Cell, line_text, byte_at}
-use Rattle.tangle_lexer.specs.Regions.{unit_of, region_end, is_ordinary, holds_ordinary, AreOrdinary, is_text}
+use Rattle.tangle_text.specs.Bytes.{holds, at_sign}
+use Rattle.tangle_text.specs.Text.{Cell, byte_at}
+use Rattle.tangle_text.specs.Regions.{holds_ordinary, AreOrdinary, is_text}
 use Rattle.tangle_lexer.specs.Lexemes.{line_end_by}
 use Rattle.tangle_lexer.specs.Comments.{line_ends}
 use Rattle.tangle_lexer.specs.Quoted.{cut_tokens}
-use Rattle.tangle_lexer.specs.Ahead.{run_length}
-use Rattle.tangle_lexer.proofs.lemmas.RegionLemmas.{region_end-one}
-
-not-false : (b : Bool) → not b ≡ true → b ≡ false
-not-false true h = sym h
-not-false false h = refl
-
-not-true : false ≡ true → ⊥
-not-true h = cc
-
-or-false : (a b : Bool) → not (a || b) ≡ true → (not a ≡ true) × (b ≡ false)
-or-false true b h = absurd (not-true h)
-or-false false b h = (refl, not-false b h)
-
--- in each of these texts such a byte is a unit of its own
-byte-one : (r : Region) (b : ℕ) (next : Option ℕ) → is_text r ≡ true → is_ordinary b ≡ true → unit_of r (Some b) next ≡ unit.One
-byte-one r b next text h =
-    let greater = or-false _ _ h in
-    let apostrophe = or-false _ _ greater.0 in
-    let quote = or-false _ _ apostrophe.0 in
-    let backslash = or-false _ _ quote.0 in
-    let asterisk = or-false _ _ backslash.0 in
-    go r text (not-false _ asterisk.0) asterisk.1 backslash.1 quote.1 apostrophe.1 greater.1
-  where
-    go : (r : Region) → is_text r ≡ true → holds 64 (Some b) ≡ false → holds 42 (Some b) ≡ false → holds 92 (Some b) ≡ false → holds 34 (Some b) ≡ false →
-        holds 39 (Some b) ≡ false → holds 62 (Some b) ≡ false → unit_of r (Some b) next ≡ unit.One
-    go region.Comment text at asterisk backslash quote apostrophe greater = rw (at, asterisk) refl
-    go region.ControlText text at asterisk backslash quote apostrophe greater = rw at refl
-    go region.Verbatim text at asterisk backslash quote apostrophe greater = rw at refl
-    go region.DoubleQuote text at asterisk backslash quote apostrophe greater = rw (at, backslash, quote) refl
-    go region.Apostrophe text at asterisk backslash quote apostrophe greater = rw (at, backslash, apostrophe) refl
-    go region.IncludeName text at asterisk backslash quote apostrophe greater = rw (at, greater) refl
-    go region.LineComment text at asterisk backslash quote apostrophe greater = rw at refl
-    go region.Name text at asterisk backslash quote apostrophe greater = absurd (not-true text)
-    go region.Word text at asterisk backslash quote apostrophe greater = absurd (not-true text)
-    go region.White text at asterisk backslash quote apostrophe greater = absurd (not-true text)
-    go region.Prose text at asterisk backslash quote apostrophe greater = absurd (not-true text)
-    go region.BadConstant text at asterisk backslash quote apostrophe greater = absurd (not-true text)
-
-cell-one : (r : Region) (b next : Option ℕ) → is_text r ≡ true → holds_ordinary b ≡ true → unit_of r b next ≡ unit.One
-cell-one r None next text h = absurd (not-true h)
-cell-one r (Some b) next text h = byte-one r b next text h
+use Rattle.tangle_text.proofs.OrdinaryBytes.{not-false, not-true, or-false, cell-one}
 
 no_line_end : (b : Option ℕ) (line : ℕ) → holds_ordinary b ≡ true → line_end_by b line ≡ []
 no_line_end None line h = absurd (not-true h)
@@ -60,12 +17,6 @@ no_line_end (Some b) line h = refl
 no_at : (b : Option ℕ) → holds_ordinary b ≡ true → holds at_sign b ≡ false
 no_at None h = refl
 no_at (Some b) h = not-false _ (or-false _ _ (or-false _ _ (or-false _ _ (or-false _ _ (or-false _ _ h).0).0).0).0).0
-
-pub region_end-ordinary : (r : Region) → is_text r ≡ true → (n : ℕ) (text : List Cell) → AreOrdinary n text → region_end r (drop n text) ≡ region_end r text
-region_end-ordinary r is zero text h = refl
-region_end-ordinary r is (suc n) [] h = refl
-region_end-ordinary r is (suc n) (c ∷ cs) h =
-    region_end-ordinary r is n cs h.1 ∙ sym (region_end-one r (c ∷ cs) (cell-one r c.byte (byte_at 0 cs) is h.0))
 
 pub line_ends-ordinary : (r : Region) → is_text r ≡ true → (n : ℕ) (text : List Cell) → AreOrdinary n text → line_ends r (drop n text) ≡ line_ends r text
 line_ends-ordinary r is zero text h = refl
@@ -79,13 +30,3 @@ cut-ordinary ends r is zero start text h = refl
 cut-ordinary ends r is (suc n) start [] h = refl
 cut-ordinary ends r is (suc n) start (c ∷ cs) h =
     cut-ordinary ends r is n start cs h.1 ∙ sym (rw (cell-one r c.byte (byte_at 0 cs) is h.0, no_at c.byte h.0) refl)
-
--- the run of such bytes in a line
-pub run-ordinary : (line column : ℕ) (bytes : List ℕ) (rest : List Cell) → AreOrdinary (run_length is_ordinary bytes) (line_text line column bytes ++ rest)
-run-ordinary line column [] rest = tt
-run-ordinary line column (b ∷ bs) rest = go (is_ordinary b) refl (run-ordinary line (column + 1) bs rest)
-  where
-    go : (t : Bool) → is_ordinary b ≡ t → AreOrdinary (run_length is_ordinary bs) (line_text line (column + 1) bs ++ rest) →
-        AreOrdinary (run_length is_ordinary (b ∷ bs)) (line_text line column (b ∷ bs) ++ rest)
-    go true h more = let n : run_length is_ordinary (b ∷ bs) ≡ suc (run_length is_ordinary bs) = rw h (omega arith) in rw n (h, more)
-    go false h more = let n : run_length is_ordinary (b ∷ bs) ≡ 0 = rw h refl in rw n tt

@@ -1,19 +1,19 @@
 -- Tokens of a lexeme that name no occurrence and are no heads.
 use Rattle.std.proofs.Common.{◌≡◌, ℕ, zero, suc, ◌+◌, Bool, true, false, ◌&&◌, ◌||◌, nat_lt, List, [], ◌∷◌, ◌++◌, refl, if◌then◌else◌, Option, None, Some}
 use Rattle.std.specs.List.{list_any}
-use Rattle.tangle_lines.specs.declared.faults.FaultKind.{FaultKind}
+use Rattle.tangle_faults.specs.declared.faults.FaultKind.{FaultKind}
 use Rattle.tangle_lexer.specs.declared.tokens.Token.{Token}
 use Rattle.tangle_lexer.specs.declared.tokens.Token.TheVariants as token
-use Rattle.tangle_lexer.specs.declared.spans.Span.{Span}
-use Rattle.tangle_lexer.specs.declared.regions.Region.{Region}
-use Rattle.tangle_lexer.specs.declared.regions.Region.TheVariants as region
-use Rattle.tangle_lexer.specs.declared.regions.Unit.{Unit as Unit-of}
-use Rattle.tangle_lexer.specs.declared.regions.Unit.TheVariants as unit
+use Rattle.tangle_text.specs.declared.spans.Span.{Span}
+use Rattle.tangle_text.specs.declared.regions.Region.{Region}
+use Rattle.tangle_text.specs.declared.regions.Region.TheVariants as region
+use Rattle.tangle_text.specs.declared.regions.Unit.{Unit as Unit-of}
+use Rattle.tangle_text.specs.declared.regions.Unit.TheVariants as unit
 use Rattle.tangle_lexer.specs.declared.modes.ScanState.{ScanState}
-use Rattle.tangle_lexer.specs.Bytes.{holds, at_sign, backslash, is_line_end}
-use Rattle.tangle_lines.specs.declared.faults.FaultKind.TheVariants as fault
-use Rattle.tangle_lexer.specs.Text.{Cell, byte_at, column_at}
-use Rattle.tangle_lexer.specs.Regions.{unit_at, more_by, from_units, unless_stop}
+use Rattle.tangle_text.specs.Bytes.{holds, at_sign, backslash, is_line_end}
+use Rattle.tangle_faults.specs.declared.faults.FaultKind.TheVariants as fault
+use Rattle.tangle_text.specs.Text.{Cell, byte_at, column_at}
+use Rattle.tangle_text.specs.Regions.{unit_at, more_by, from_units, unless_stop}
 use Rattle.tangle_lexer.specs.Lexemes.{fault_if}
 use Rattle.tangle_lexer.specs.Comments.{unit_line_end}
 use Rattle.tangle_lexer.specs.Quoted.{range_token, cut_range, unit_tokens, next_start, at_stop, cut_tokens, quote_end, verbatim_end, verbatim_tokens, empty_end, ends_at_once}

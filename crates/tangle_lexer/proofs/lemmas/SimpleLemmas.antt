@@ -4,18 +4,18 @@ use Rattle.std.specs.Option.{IfSome}
 use Rattle.tangle_lines.specs.Bytes.{is_white}
 use Rattle.tangle_lexer.specs.declared.modes.IncludeState.{IncludeState}
 use Rattle.tangle_lexer.specs.declared.token_kinds.TokenKind.TheVariants as token_kind
-use Rattle.tangle_lexer.specs.Bytes.{at_sign, slash, double_quote, apostrophe, less_sign, is_word_byte}
+use Rattle.tangle_text.specs.Bytes.{at_sign, slash, double_quote, apostrophe, less_sign, is_word_byte}
 use Rattle.tangle_lexer.specs.declared.modes.Mode.{Mode}
 use Rattle.tangle_lexer.specs.declared.modes.Mode.TheVariants as mode
 use Rattle.tangle_lexer.specs.declared.modes.ScanState.{ScanState}
 use Rattle.tangle_lexer.specs.declared.simple.Simple.{Simple}
 use Rattle.tangle_lexer.specs.declared.simple.Simple.TheVariants as simple
-use Rattle.tangle_lexer.specs.Text.{Cell, byte_at}
+use Rattle.tangle_text.specs.Text.{Cell, byte_at}
 use Rattle.tangle_lexer.specs.Lexemes.{with_include}
 use Rattle.tangle_lexer.specs.Steps.{kind_by, occurrences_from, lexeme, lexeme_in, c_lexeme, macro_lexeme}
 use Rattle.tangle_lexer.specs.Simple.{IsSimple, is_opener, simple_of, simple_kind, is_c_text}
 use Rattle.tangle_lexer.specs.declared.tokens.Token.{Token}
-use Rattle.tangle_lexer.specs.Ahead.{IsRead}
+use Rattle.tangle_lexer.specs.Reads.{IsRead}
 use Rattle.tangle_lexer.specs.Heads.{HasNoHead}
 use Rattle.tangle_lexer.proofs.lemmas.StepLemmas.{occurrences_from-step}
 

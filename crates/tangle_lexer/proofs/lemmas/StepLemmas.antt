@@ -1,4 +1,4 @@
--- One step of the scanner, in the text, the tokens and the names.
+-- One step of the lexer, in the text, the tokens and the names.
 use Rattle.std.proofs.Common.{◌≡◌, ◌<◌, ◌+◌, ℕ, zero, suc, Bool, true, false, ◌||◌, List, [], ◌∷◌, ◌++◌, length, drop, map, flat_map, Option, Some, None, option_to_list, inl, inr, refl, ap, sym, ◌∙◌, arith, append_assoc, length-drop}
 use Rattle.std.specs.List.{list_any}
 use Rattle.tangle_lines.specs.Reading.{Line}
@@ -11,8 +11,8 @@ use Rattle.tangle_lexer.specs.declared.token_kinds.TokenKind.{TokenKind}
 use Rattle.tangle_lexer.specs.declared.token_kinds.TokenKind.TheVariants as token_kind
 use Rattle.tangle_lexer.specs.declared.tokens.Token.{Token}
 use Rattle.tangle_lexer.specs.declared.constants.AsciiConstant.{AsciiConstant}
-use Rattle.tangle_lexer.specs.Bytes.{holds, at_sign}
-use Rattle.tangle_lexer.specs.Text.{Cell, byte_at}
+use Rattle.tangle_text.specs.Bytes.{holds, at_sign}
+use Rattle.tangle_text.specs.Text.{Cell, byte_at}
 use Rattle.tangle_lexer.specs.Lexemes.{Lexeme, ReadOccurrence, in_mode}
 use Rattle.tangle_lexer.specs.Comments.{starts_section}
 use Rattle.tangle_lexer.specs.Constants.{constant_at, constant_lexeme}
@@ -20,7 +20,7 @@ use Rattle.tangle_lexer.specs.Names.{head_or_mention, head_count}
 use Rattle.tangle_lexer.specs.Steps.{lexeme, lexemes, lexeme_in, limbo_lexeme, documentation_lexeme, documentation_code, c_code, c_lexeme, macro_code, macro_lexeme, kind_of, code_at, tokens_from, occurrences_from}
 use Rattle.tangle_lexer.specs.Occurrences.{OccurrenceRead, occurrence_of}
 use Rattle.tangle_lexer.specs.Heads.{is_head}
-use Rattle.tangle_lexer.specs.Ahead.{IsRead, AddsOccurrence}
+use Rattle.tangle_lexer.specs.Reads.{IsRead, AddsOccurrence}
 use Rattle.tangle_lexer.specs.Heads.{HasNoHead, IsHeadAlone}
 use Rattle.tangle_lexer.proofs.lemmas.HeadLemmas.{no_head-append}
 

@@ -1,14 +1,14 @@
 -- The rules for items keep the spans of a part, in their order.
 use Rattle.std.proofs.Common.{◌≡◌, ℕ, ◌+◌, Bool, true, false, List, [], ◌∷◌, ◌++◌, cond, refl, ap, sym, ◌∙◌, if◌then◌else◌, ◌&&◌}
-use Rattle.tangle_lines.specs.declared.faults.Origin.{Origin}
-use Rattle.tangle_lexer.specs.declared.spans.Span.{Span}
+use Rattle.tangle_faults.specs.declared.faults.Origin.{Origin}
+use Rattle.tangle_text.specs.declared.spans.Span.{Span}
 use Rattle.tangle_lexer.specs.declared.tokens.Token.{Token}
 use Rattle.tangle_lexer.specs.declared.tokens.TextKind.TheVariants as text_kind
 use Rattle.tangle_lexer.specs.declared.tokens.Token.TheVariants as token
 use Rattle.tangle_scan.specs.declared.items.Item.{Item}
 use Rattle.tangle_scan.specs.declared.items.Item.TheVariants as item
-use Rattle.tangle_lines.specs.Reading.{Line, place_at}
-use Rattle.tangle_scan.specs.Rules.{without_faults, would_merge, with_spaces, may_follow_name, with_space_behind, with_name_space, has_join, left_of_run, without_joins, blanks, goes_on, line_item, count_behind, items_by_place, unmarked_items, part_items, without_front_gaps, macro_items}
+use Rattle.tangle_lines.specs.Reading.{Line, origin_at}
+use Rattle.tangle_scan.specs.Rules.{without_faults, would_merge, with_spaces, may_follow_name, with_space_behind, with_name_space, has_join, left_of_run, without_joins, blanks, goes_on, line_item, count_behind, items_by_origin, unmarked_items, part_items, without_front_gaps, macro_items}
 use Rattle.tangle_scan.specs.SourceOrder.{item_spans}
 use Rattle.tangle_scan.proofs.lemmas.Gaps.{AreGaps, gaps-append}
 
@@ -92,22 +92,22 @@ blanks-spans before white (e ∷ es) =
 line_item-spans : (lines : List Line) (count : Origin) (line : ℕ) (ss : List Span) (items : List Item) → item_spans items ≡ ss → item_spans (line_item lines count line ∷ items) ≡ ss
 line_item-spans lines count line ss items h = by (goes_on lines count line)
   where
-    by : (b : Bool) → item_spans (cond b item.LineEnd (item.LineMark (place_at lines (line + 1))) ∷ items) ≡ ss
+    by : (b : Bool) → item_spans (cond b item.LineEnd (item.LineMark (origin_at lines (line + 1))) ∷ items) ≡ ss
     by true = h
     by false = h
 
-items_by_place-spans : (lines : List Line) (count : Origin) (es : List Token) → item_spans (items_by_place lines count es) ≡ token_spans es
-items_by_place-spans lines count [] = refl
-items_by_place-spans lines count (token.LineEnd line ∷ es) =
-    line_item-spans lines count line _ _ (items_by_place-spans lines (count_behind lines count line) es)
-items_by_place-spans lines count (token.UseOf name line ∷ es) = items_by_place-spans lines _ es
-items_by_place-spans lines count (token.AllMacros line ∷ es) = items_by_place-spans lines _ es
-items_by_place-spans lines count (token.QuoteBreak ∷ es) = items_by_place-spans lines _ es
-items_by_place-spans lines count (token.Text text_kind.Word s ∷ es) = ap (λ ss. s ∷ ss) (items_by_place-spans lines count es)
-items_by_place-spans lines count (token.Text text_kind.Sign s ∷ es) = ap (λ ss. s ∷ ss) (items_by_place-spans lines count es)
-items_by_place-spans lines count (token.Text text_kind.Quoted s ∷ es) = ap (λ ss. s ∷ ss) (items_by_place-spans lines count es)
-items_by_place-spans lines count (token.Text text_kind.Verbatim s ∷ es) = ap (λ ss. s ∷ ss) (items_by_place-spans lines count es)
-items_by_place-spans lines count (_ ∷ es) = items_by_place-spans lines count es
+items_by_origin-spans : (lines : List Line) (count : Origin) (es : List Token) → item_spans (items_by_origin lines count es) ≡ token_spans es
+items_by_origin-spans lines count [] = refl
+items_by_origin-spans lines count (token.LineEnd line ∷ es) =
+    line_item-spans lines count line _ _ (items_by_origin-spans lines (count_behind lines count line) es)
+items_by_origin-spans lines count (token.UseOf name line ∷ es) = items_by_origin-spans lines _ es
+items_by_origin-spans lines count (token.AllMacros line ∷ es) = items_by_origin-spans lines _ es
+items_by_origin-spans lines count (token.QuoteBreak ∷ es) = items_by_origin-spans lines _ es
+items_by_origin-spans lines count (token.Text text_kind.Word s ∷ es) = ap (λ ss. s ∷ ss) (items_by_origin-spans lines count es)
+items_by_origin-spans lines count (token.Text text_kind.Sign s ∷ es) = ap (λ ss. s ∷ ss) (items_by_origin-spans lines count es)
+items_by_origin-spans lines count (token.Text text_kind.Quoted s ∷ es) = ap (λ ss. s ∷ ss) (items_by_origin-spans lines count es)
+items_by_origin-spans lines count (token.Text text_kind.Verbatim s ∷ es) = ap (λ ss. s ∷ ss) (items_by_origin-spans lines count es)
+items_by_origin-spans lines count (_ ∷ es) = items_by_origin-spans lines count es
 
 unmarked_items-spans : (es : List Token) → item_spans (unmarked_items es) ≡ token_spans es
 unmarked_items-spans [] = refl
@@ -127,7 +127,7 @@ without_front-spans (_ ∷ es) = refl
 pub part-spans : (lines : List Line) (line : ℕ) (es : List Token) → item_spans (part_items lines line es) ≡ token_spans es
 part-spans lines line es =
     let with_white_space : List Token = with_spaces (without_faults es) in
-    items_by_place-spans lines (place_at lines line) (blanks false false (without_joins [] with_white_space))
+    items_by_origin-spans lines (origin_at lines line) (blanks false false (without_joins [] with_white_space))
     ∙ blanks-spans false false (without_joins [] with_white_space)
     ∙ without_joins-spans [] with_white_space tt
     ∙ with_spaces-spans (without_faults es)

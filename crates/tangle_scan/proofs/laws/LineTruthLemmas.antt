@@ -3,15 +3,15 @@ use Rattle.std.proofs.Common.{◌≡◌, ℕ, ◌+◌, ◌<◌, Bool, true, fals
 use Rattle.std.proofs.Common.{inl, inr}
 use Rattle.std.specs.List.{AllZip}
 use Rattle.std.proofs.lemmas.Bool.Decides.{eqb_tells, leb_tells}
-use Rattle.tangle_lines.specs.declared.faults.Origin.{Origin}
+use Rattle.tangle_faults.specs.declared.faults.Origin.{Origin}
 use Rattle.tangle_lexer.specs.declared.tokens.Token.{Token}
 use Rattle.tangle_lexer.specs.declared.tokens.TextKind.TheVariants as text_kind
 use Rattle.tangle_lexer.specs.declared.tokens.Token.TheVariants as token
 use Rattle.tangle_scan.specs.declared.items.Item.{Item}
 use Rattle.tangle_scan.specs.declared.items.Item.TheVariants as item
-use Rattle.tangle_lines.specs.Reading.{Line, place_at}
-use Rattle.tangle_scan.specs.Rules.{next_line, count_behind, goes_on, same_place, items_by_place, text_item, blanks, without_joins, left_of_run, has_join, is_gap, with_spaces, would_merge, without_faults, part_items}
-use Rattle.tangle_scan.specs.LineTruth.{Placed, placed_items, Location, locations, is_on, IsOwn, IsAtItsLine, part_locations}
+use Rattle.tangle_lines.specs.Reading.{Line, origin_at}
+use Rattle.tangle_scan.specs.Rules.{next_line, count_behind, goes_on, same_origin, items_by_origin, text_item, blanks, without_joins, left_of_run, has_join, is_gap, with_spaces, would_merge, without_faults, part_items}
+use Rattle.tangle_scan.specs.LineTruth.{CountedItem, counted_items, Location, locations, is_on, IsOwn, IsAtItsLine, part_locations}
 use Rattle.tangle_scan.proofs.lemmas.Gaps.{AreGaps, gaps-append}
 
 -- The texts among the tokens are on the lines that are reached, from a line on; all are lines of the source.
@@ -128,9 +128,9 @@ locations-closed token.White es s j b h = cc
 locations-closed (token.LineEnd line) es s j b h = cc
 locations-closed _ es s j b h = refl
 
--- of two places that are the same either may be taken
-same_place-either : (p q : Origin) → (if same_place p q then q else p) ≡ p
-same_place-either p q =
+-- of two origins that are the same either may be taken
+same_origin-either : (p q : Origin) → (if same_origin p q then q else p) ≡ p
+same_origin-either p q =
     elim (eqb_tells p.file q.file) [
       | inl f ↦ elim (eqb_tells p.line q.line) [
         | inl l ↦ rw (f.0, l.0) (ap (λ x. record { file = x; line = q.line }) (sym f.1) ∙ ap (λ y. record { file = p.file; line = y }) (sym l.1))
@@ -139,38 +139,38 @@ same_place-either p q =
       | inr f ↦ rw f.0 refl
     ]
 
--- behind a line end the count is the place of the next line, if there is one
-count_behind-next : (lines : List Line) (count : Origin) (line : ℕ) → line + 1 < length lines → place_at lines (line + 1) ≡ count_behind lines count line
+-- behind a line end the count is the origin of the next line, if there is one
+count_behind-next : (lines : List Line) (count : Origin) (line : ℕ) → line + 1 < length lines → origin_at lines (line + 1) ≡ count_behind lines count line
 count_behind-next lines count line h =
     elim (leb_tells (length lines) (line + 1)) [
       | inl over ↦ absurd (omega (arith, over.1))
-      | inr under ↦ rw under.0 (sym (same_place-either (place_at lines (line + 1)) (next_line count)))
+      | inr under ↦ rw under.0 (sym (same_origin-either (origin_at lines (line + 1)) (next_line count)))
     ]
 
 module _ (lines : List Line) where
-  -- the places of what rules 4 and 5 make of tokens
-  abbrev seen : Origin → List Token → List Placed
-  seen count es = placed_items (Some count) (items_by_place lines count es)
+  -- the origins of what rules 4 and 5 make of tokens
+  abbrev seen : Origin → List Token → List CountedItem
+  seen count es = counted_items (Some count) (items_by_origin lines count es)
 
   seen-break : (count : Origin) (line : ℕ) (es : List Token) → seen count (token.LineEnd line ∷ es) ≡ seen (count_behind lines count line) es
   seen-break count line es = by (goes_on lines count line)
     where
       by : (b : Bool)
-          → placed_items (Some count) (cond b item.LineEnd (item.LineMark (place_at lines (line + 1))) ∷ items_by_place lines (cond b (next_line count) (place_at lines (line + 1))) es)
-          ≡ seen (cond b (next_line count) (place_at lines (line + 1))) es
+          → counted_items (Some count) (cond b item.LineEnd (item.LineMark (origin_at lines (line + 1))) ∷ items_by_origin lines (cond b (next_line count) (origin_at lines (line + 1))) es)
+          ≡ seen (cond b (next_line count) (origin_at lines (line + 1))) es
       by true = refl
       by false = refl
 
   seen-first : (e : Token) (es fs : List Token) → ((count : Origin) → seen count es ≡ seen count fs) → (count : Origin) → seen count (e ∷ es) ≡ seen count (e ∷ fs)
   seen-first (token.LineEnd line) es fs h count = seen-break count line es ∙ h (count_behind lines count line) ∙ sym (seen-break count line fs)
-  seen-first (token.UseOf name line) es fs h count = h (place_at lines line)
-  seen-first (token.AllMacros line) es fs h count = h (place_at lines line)
+  seen-first (token.UseOf name line) es fs h count = h (origin_at lines line)
+  seen-first (token.AllMacros line) es fs h count = h (origin_at lines line)
   seen-first token.QuoteBreak es fs h count = h (next_line count)
-  seen-first (token.Text text_kind.Word s) es fs h count = ap (λ ps. record { item = item.Word s; place = Some count } ∷ ps) (h count)
-  seen-first (token.Text text_kind.Sign s) es fs h count = ap (λ ps. record { item = item.Sign s; place = Some count } ∷ ps) (h count)
-  seen-first (token.Text text_kind.Quoted s) es fs h count = ap (λ ps. record { item = item.Quoted s; place = Some count } ∷ ps) (h count)
-  seen-first (token.Text text_kind.Verbatim s) es fs h count = ap (λ ps. record { item = item.Verbatim s; place = Some count } ∷ ps) (h count)
-  seen-first (token.AsciiConstant b line) es fs h count = ap (λ ps. record { item = item.Code b; place = Some count } ∷ ps) (h count)
+  seen-first (token.Text text_kind.Word s) es fs h count = ap (λ ps. record { item = item.Word s; origin = Some count } ∷ ps) (h count)
+  seen-first (token.Text text_kind.Sign s) es fs h count = ap (λ ps. record { item = item.Sign s; origin = Some count } ∷ ps) (h count)
+  seen-first (token.Text text_kind.Quoted s) es fs h count = ap (λ ps. record { item = item.Quoted s; origin = Some count } ∷ ps) (h count)
+  seen-first (token.Text text_kind.Verbatim s) es fs h count = ap (λ ps. record { item = item.Verbatim s; origin = Some count } ∷ ps) (h count)
+  seen-first (token.AsciiConstant b line) es fs h count = ap (λ ps. record { item = item.Code b; origin = Some count } ∷ ps) (h count)
   seen-first _ es fs h count = h count
 
   -- rule 3 moves no text
@@ -185,17 +185,17 @@ module _ (lines : List Line) where
       blank true = refl
       blank false = refl
 
-  -- outside a stretch the count is the place of the line that is reached
+  -- outside a stretch the count is the origin of the line that is reached
   abbrev IsCounted : Origin → Bool → ℕ → Type 0
-  IsCounted count stretch line = stretch ≡ false → line < length lines → count ≡ place_at lines line
+  IsCounted count stretch line = stretch ≡ false → line < length lines → count ≡ origin_at lines line
 
   -- the texts among tokens are where they should, after rules 4 and 5
   abbrev True : Origin → List Token → List Location → Type 0
   True count es ts = AllZip (IsOwn lines) (seen count es) ts
 
   own : (count : Origin) (stretch : Bool) (line at : ℕ) (i : Item) → at ≡ line → IsCounted count stretch line → line < length lines
-      → IsOwn lines (record { item = i; place = Some count }) (record { item = i; line = at; in_stretch = stretch })
-  own count stretch line at i e here inside = record { item = refl; line = omega (arith, e, inside); place = λ out. ap Some (here out inside ∙ ap (place_at lines) (sym e)) }
+      → IsOwn lines (record { item = i; origin = Some count }) (record { item = i; line = at; in_stretch = stretch })
+  own count stretch line at i e here inside = record { item = refl; line = omega (arith, e, inside); origin = λ out. ap Some (here out inside ∙ ap (origin_at lines) (sym e)) }
 
   -- one token that is no gap, and what follows it
   true-first : (e : Token) (es fs : List Token) (count : Origin) (stretch : Bool) (line : ℕ) → is_gap e ≡ false → IsCounted count stretch line → Flows (length lines) line (e ∷ es)
@@ -205,8 +205,8 @@ module _ (lines : List Line) where
   true-first token.White es fs count stretch line gap here flows next = cc
   true-first (token.LineEnd at) es fs count stretch line gap here flows next = cc
   true-first token.QuoteBreak es fs count stretch line gap here flows next = next (next_line count) true (line + 1) (λ e. absurd cc) flows
-  true-first (token.UseOf name at) es fs count stretch line gap here flows next = next (place_at lines at) false at (λ e i. refl) flows
-  true-first (token.AllMacros at) es fs count stretch line gap here flows next = next (place_at lines at) false line (λ e i. ap (place_at lines) flows.0) flows.1
+  true-first (token.UseOf name at) es fs count stretch line gap here flows next = next (origin_at lines at) false at (λ e i. refl) flows
+  true-first (token.AllMacros at) es fs count stretch line gap here flows next = next (origin_at lines at) false line (λ e i. ap (origin_at lines) flows.0) flows.1
   true-first (token.Text text_kind.Word s) es fs count stretch line gap here flows next =
       (own count stretch line s.line (item.Word s) flows.0 here flows.1.0, next count stretch line here flows.1.1)
   true-first (token.Text text_kind.Sign s) es fs count stretch line gap here flows next =
@@ -228,7 +228,7 @@ module _ (lines : List Line) where
   kept-true (token.White ∷ run) es fs ts count stretch line gaps here flows next = kept-true run es fs ts count stretch line gaps here flows next
   kept-true (token.LineEnd at ∷ run) es fs ts count stretch line gaps here flows next =
       let behind : IsCounted (count_behind lines count at) false (line + 1) =
-      λ out inside. sym (ap (λ l. place_at lines (l + 1)) (sym flows.0) ∙ count_behind-next lines count at (omega (arith, flows.0, inside))) in
+      λ out inside. sym (ap (λ l. origin_at lines (l + 1)) (sym flows.0) ∙ count_behind-next lines count at (omega (arith, flows.0, inside))) in
       let rest : True (count_behind lines count at) (run ++ fs) (ts (is_on false false (has_break run))) =
       kept-true run es fs ts (count_behind lines count at) false (line + 1) gaps behind flows.1 next in
       rw (seen-break count at (run ++ fs)) (subst (λ b. True (count_behind lines count at) (run ++ fs) (ts b)) (off (has_break run)) rest)
@@ -276,10 +276,10 @@ module _ (lines : List Line) where
       (λ c s l h f. true-first e es (without_joins [] es) c s l refl h f (λ d t k g i. without_joins-true [] es d t k tt g i)))
 
   -- the items of a part whose tokens follow one another from its opening mark on
-  pub part-true : (line : ℕ) (es : List Token) → Flows (length lines) line es → IsAtItsLine lines (place_at lines line) (part_items lines line es) (part_locations es)
+  pub part-true : (line : ℕ) (es : List Token) → Flows (length lines) line es → IsAtItsLine lines (origin_at lines line) (part_items lines line es) (part_locations es)
   part-true line es flows =
       let clean : List Token = without_faults es in
       let with_white_space : List Token = with_spaces clean in
       let f = with_spaces-flows (length lines) clean line (without_faults-flows (length lines) es line flows) in
-      let joins = without_joins-true [] with_white_space (place_at lines line) false line tt (λ out inside. refl) f in
-      rw (blanks-seen false false (without_joins [] with_white_space) (place_at lines line), ← with_spaces-same clean false false false) joins
+      let joins = without_joins-true [] with_white_space (origin_at lines line) false line tt (λ out inside. refl) f in
+      rw (blanks-seen false false (without_joins [] with_white_space) (origin_at lines line), ← with_spaces-same clean false false false) joins

@@ -4,18 +4,18 @@ use Rattle.std.specs.List.{AllByRecursion, All}
 use Rattle.std.specs.Option.{IfSome}
 use Rattle.std.proofs.lemmas.List.Elements.{All-from_recursion, All-weaker}
 use Rattle.std.proofs.lemmas.Grind.{flat_map-append}
-use Rattle.tangle_lines.specs.declared.faults.Origin.{Origin}
-use Rattle.tangle_lines.specs.Reading.{Line, SourceRead, place_at}
+use Rattle.tangle_faults.specs.declared.faults.Origin.{Origin}
+use Rattle.tangle_lines.specs.Reading.{Line, SourceRead, origin_at}
 use Rattle.tangle_lexer.specs.declared.tokens.Token.{Token}
 use Rattle.tangle_lexer.specs.declared.tokens.TextKind.TheVariants as text_kind
 use Rattle.tangle_lexer.specs.declared.tokens.Token.TheVariants as token
 use Rattle.tangle_scan.specs.declared.items.Item.{Item}
 use Rattle.tangle_scan.specs.declared.items.Item.TheVariants as item
-use Rattle.tangle_scan.specs.Rules.{without_faults, would_merge, with_spaces, with_name_space, without_front_gaps, has_join, left_of_run, without_joins, blanks, goes_on, line_item, count_behind, items_by_place, unmarked_items, part_items, macro_items, next_line, is_macro}
+use Rattle.tangle_scan.specs.Rules.{without_faults, would_merge, with_spaces, with_name_space, without_front_gaps, has_join, left_of_run, without_joins, blanks, goes_on, line_item, count_behind, items_by_origin, unmarked_items, part_items, macro_items, next_line, is_macro}
 use Rattle.tangle_scan.specs.Web.{PieceRead, body, block_at, blocks, section_behind, piece_of, macro_of, texts_of, web_of}
 use Rattle.tangle_lexer.specs.Heads.{is_head}
 use Rattle.tangle_scan.specs.WellFormed.{IsUseBelow, NamesAreInRange}
-use Rattle.tangle_lexer.specs.Text.{text_from}
+use Rattle.tangle_text.specs.Text.{text_from}
 use Rattle.tangle_lexer.specs.Steps.{all_tokens, all_occurrences, at_first}
 use Rattle.tangle_lexer.specs.Occurrences.{occurrence_of}
 use Rattle.tangle_lexer.proofs.lemmas.NamesKept.{IsBelow, AreBelow, below-append, tokens-below}
@@ -61,31 +61,31 @@ blanks-below count before white (e ∷ es) h =
 abbrev AreUsesBelow : ℕ → List Item → Type 0
 AreUsesBelow count items = AllByRecursion (IsUseBelow count) items
 
-line_item-below : (count : ℕ) (lines : List Line) (place : Origin) (line : ℕ) → IsUseBelow count (line_item lines place line)
-line_item-below count lines place line = by (goes_on lines place line)
+line_item-below : (count : ℕ) (lines : List Line) (origin : Origin) (line : ℕ) → IsUseBelow count (line_item lines origin line)
+line_item-below count lines origin line = by (goes_on lines origin line)
   where
-    by : (b : Bool) → IsUseBelow count (if b then item.LineEnd else item.LineMark (place_at lines (line + 1)))
+    by : (b : Bool) → IsUseBelow count (if b then item.LineEnd else item.LineMark (origin_at lines (line + 1)))
     by true = tt
     by false = tt
 
-items_by_place-below : (count : ℕ) (lines : List Line) (place : Origin) (es : List Token) → AreBelow count es → AreUsesBelow count (items_by_place lines place es)
-items_by_place-below count lines place [] h = tt
-items_by_place-below count lines place (token.LineEnd line ∷ es) h =
-    (line_item-below count lines place line, items_by_place-below count lines (count_behind lines place line) es h.1)
-items_by_place-below count lines place (token.QuoteBreak ∷ es) h = (tt, items_by_place-below count lines (next_line place) es h.1)
-items_by_place-below count lines place (token.Text text_kind.Word s ∷ es) h = (tt, items_by_place-below count lines place es h.1)
-items_by_place-below count lines place (token.Text text_kind.Sign s ∷ es) h = (tt, items_by_place-below count lines place es h.1)
-items_by_place-below count lines place (token.Text text_kind.Quoted s ∷ es) h = (tt, items_by_place-below count lines place es h.1)
-items_by_place-below count lines place (token.Text text_kind.Verbatim s ∷ es) h = (tt, items_by_place-below count lines place es h.1)
-items_by_place-below count lines place (token.AsciiConstant value line ∷ es) h = (tt, items_by_place-below count lines place es h.1)
-items_by_place-below count lines place (token.White ∷ es) h = (tt, items_by_place-below count lines place es h.1)
-items_by_place-below count lines place (token.UseOf name line ∷ es) h = (h.0, (tt, items_by_place-below count lines (place_at lines line) es h.1))
-items_by_place-below count lines place (token.AllMacros line ∷ es) h = (tt, (tt, items_by_place-below count lines (place_at lines line) es h.1))
-items_by_place-below count lines place (_ ∷ es) h = items_by_place-below count lines place es h.1
+items_by_origin-below : (count : ℕ) (lines : List Line) (origin : Origin) (es : List Token) → AreBelow count es → AreUsesBelow count (items_by_origin lines origin es)
+items_by_origin-below count lines origin [] h = tt
+items_by_origin-below count lines origin (token.LineEnd line ∷ es) h =
+    (line_item-below count lines origin line, items_by_origin-below count lines (count_behind lines origin line) es h.1)
+items_by_origin-below count lines origin (token.QuoteBreak ∷ es) h = (tt, items_by_origin-below count lines (next_line origin) es h.1)
+items_by_origin-below count lines origin (token.Text text_kind.Word s ∷ es) h = (tt, items_by_origin-below count lines origin es h.1)
+items_by_origin-below count lines origin (token.Text text_kind.Sign s ∷ es) h = (tt, items_by_origin-below count lines origin es h.1)
+items_by_origin-below count lines origin (token.Text text_kind.Quoted s ∷ es) h = (tt, items_by_origin-below count lines origin es h.1)
+items_by_origin-below count lines origin (token.Text text_kind.Verbatim s ∷ es) h = (tt, items_by_origin-below count lines origin es h.1)
+items_by_origin-below count lines origin (token.AsciiConstant value line ∷ es) h = (tt, items_by_origin-below count lines origin es h.1)
+items_by_origin-below count lines origin (token.White ∷ es) h = (tt, items_by_origin-below count lines origin es h.1)
+items_by_origin-below count lines origin (token.UseOf name line ∷ es) h = (h.0, (tt, items_by_origin-below count lines (origin_at lines line) es h.1))
+items_by_origin-below count lines origin (token.AllMacros line ∷ es) h = (tt, (tt, items_by_origin-below count lines (origin_at lines line) es h.1))
+items_by_origin-below count lines origin (_ ∷ es) h = items_by_origin-below count lines origin es h.1
 
 part_items-below : (count : ℕ) (lines : List Line) (line : ℕ) (es : List Token) → AreBelow count es → AreUsesBelow count (part_items lines line es)
 part_items-below count lines line es h =
-    items_by_place-below count lines (place_at lines line) _
+    items_by_origin-below count lines (origin_at lines line) _
     (blanks-below count false false _ (without_joins-below count [] _ tt (with_spaces-below count _ (without_faults-below count es h))))
 
 -- a macro has no uses

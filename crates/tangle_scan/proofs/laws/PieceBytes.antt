@@ -6,8 +6,8 @@ use Rattle.std.proofs.lemmas.List.Kept.{AllPairs-cons}
 use Rattle.tangle_lines.specs.Reading.{Line, SourceRead}
 use Rattle.tangle_lexer.specs.declared.tokens.Token.{Token}
 use Rattle.tangle_lexer.specs.declared.tokens.Token.TheVariants as token
-use Rattle.tangle_lexer.specs.declared.spans.Span.{Span}
-use Rattle.tangle_lexer.specs.Text.{text_from}
+use Rattle.tangle_text.specs.declared.spans.Span.{Span}
+use Rattle.tangle_text.specs.Text.{text_from}
 use Rattle.tangle_lexer.specs.Steps.{at_first, tokens_from, all_tokens}
 use Rattle.tangle_lexer.specs.Segments.{columns_from, span_points, kept_points, all_segments}
 use Rattle.tangle_scan.specs.Web.{web_of, Block, blocks, body, piece_of}

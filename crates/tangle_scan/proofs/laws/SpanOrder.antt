@@ -4,7 +4,7 @@ use Rattle.std.proofs.lemmas.Bool.Decides.{eqb_tells}
 use Rattle.std.specs.List.{All, AllPairs}
 use Rattle.std.proofs.lemmas.List.Elements.{All-nil, All-cons}
 use Rattle.std.proofs.lemmas.List.Kept.{AllPairs-cons}
-use Rattle.tangle_lexer.specs.declared.spans.Span.{Span}
+use Rattle.tangle_text.specs.declared.spans.Span.{Span}
 use Rattle.tangle_lexer.specs.declared.tokens.Token.{Token}
 use Rattle.tangle_lexer.specs.declared.tokens.Token.TheVariants as token
 use Rattle.tangle_scan.specs.SourceOrder.{IsBefore}
@@ -14,7 +14,7 @@ use Rattle.tangle_lexer.proofs.laws.Points.{Point, point_at, Precedes}
 use Rattle.tangle_lexer.proofs.laws.TokenOrder.{Inside, AreInOrder, IsFrom, span_end, jumped}
 use Rattle.tangle_scan.proofs.laws.ItemSpans.{token_spans}
 
--- a span is behind a place
+-- a span is behind a position
 abbrev pub IsBehind : Point → Span → Type 0
 IsBehind at s = (at.line ≤ s.line) × (at.line ≡ s.line → at.column ≤ s.start)
 
@@ -42,7 +42,7 @@ module _ (width : ℕ → ℕ) (count : ℕ) where
   is-behind : (a at : Point) (s : Span) → Precedes a at → IsFrom width count at s → IsBehind a s
   is-behind a at s h is = (omega (arith, h.0, is.line), λ e. let k = h.1 (e ∙ is.line) in omega (arith, k, is.start))
 
-  -- the end of a span of a line is not before the line's earlier places
+  -- the end of a span of a line is not before the line's earlier positions
   end-behind : (a at : Point) (s : Span) → Precedes a at → IsFrom width count at s → Precedes a (span_end s)
   end-behind a at s h is = (omega (arith, h.0, is.line), λ e. let k = h.1 (e ∙ is.line) in omega (arith, k, is.start, is.order))
 

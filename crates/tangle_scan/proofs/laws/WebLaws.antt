@@ -6,11 +6,11 @@ use Rattle.std.proofs.lemmas.Grind.{flat_map-append}
 use Rattle.std.proofs.lemmas.List.{get_or-map, length-map}
 use Rattle.tangle_lines.specs.Reading.{Line, SourceRead}
 use Rattle.tangle_lines.specs.Reading.{no_line}
-use Rattle.tangle_lexer.specs.declared.spans.Span.{Span}
+use Rattle.tangle_text.specs.declared.spans.Span.{Span}
 use Rattle.tangle_scan.specs.declared.items.Item.{Item}
 use Rattle.tangle_scan.specs.declared.items.Item.TheVariants as item
 use Rattle.tangle_scan.specs.Rules.{part_items, macro_items, is_macro}
-use Rattle.tangle_lexer.specs.Text.{text_from}
+use Rattle.tangle_text.specs.Text.{text_from}
 use Rattle.tangle_lexer.specs.Steps.{at_first, tokens_from, all_tokens}
 use Rattle.tangle_scan.specs.Web.{web_of, PieceRead, Block, BlockKind, blocks, piece_of, kind_piece, macro_of, kind_macro, texts_of}
 use Rattle.tangle_scan.specs.Web.BlockKind.{OfMacro, OfPiece}
@@ -114,13 +114,13 @@ module _ (lines : List Line) where
 
   -- the parts whose texts follow one another by lines are at their lines
   blocks-true : (ps : List Block) → AllFlow (length lines) ps
-      → AllZip (λ p text_lines. IsAtItsLine lines p.place p.items text_lines) (flat_map (piece_of lines) ps) (flat_map (λ p. kind_locations p.kind p.tokens) ps)
+      → AllZip (λ p text_lines. IsAtItsLine lines p.origin p.items text_lines) (flat_map (piece_of lines) ps) (flat_map (λ p. kind_locations p.kind p.tokens) ps)
   blocks-true [] flow = tt
   blocks-true (p ∷ ps) flow = by p.kind flow.0 (blocks-true ps flow.1)
     where
       by : (k : BlockKind) → kind_flows (length lines) k p
-          → AllZip (λ p text_lines. IsAtItsLine lines p.place p.items text_lines) (flat_map (piece_of lines) ps) (flat_map (λ p. kind_locations p.kind p.tokens) ps)
-          → AllZip (λ p text_lines. IsAtItsLine lines p.place p.items text_lines) (kind_piece lines k p ++ flat_map (piece_of lines) ps) (kind_locations k p.tokens ++ flat_map (λ p. kind_locations p.kind p.tokens) ps)
+          → AllZip (λ p text_lines. IsAtItsLine lines p.origin p.items text_lines) (flat_map (piece_of lines) ps) (flat_map (λ p. kind_locations p.kind p.tokens) ps)
+          → AllZip (λ p text_lines. IsAtItsLine lines p.origin p.items text_lines) (kind_piece lines k p ++ flat_map (piece_of lines) ps) (kind_locations k p.tokens ++ flat_map (λ p. kind_locations p.kind p.tokens) ps)
       by (OfMacro line) f rest = rest
       by (OfPiece name line) f rest = (part-true lines line p.tokens f, rest)
 
@@ -138,7 +138,7 @@ web-in-order source = record {
   macros = ordered-pairs (width source.lines) (length source.lines) _ (macros-ordered source.lines);
 }
 
--- the texts of each piece are at the compiler's place that is their own, outside stretches
+-- the texts of each piece is at the counted origin that is their own, outside stretches
 pub web-line-truth : (source : SourceRead) → PiecesAreAtTheirLines source (web_of source)
 web-line-truth source =
     let ordered = all-in_order source.lines in

@@ -3,14 +3,14 @@ use Rattle.tangle_lexer.specs.declared.tokens.Token.{Token}
 use Rattle.tangle_lexer.specs.declared.tokens.Token.TheVariants as token
 use Rattle.tangle_scan.specs.declared.items.Item.{Item}
 use Rattle.tangle_scan.specs.declared.items.Item.TheVariants as item
-use Rattle.tangle_lines.specs.declared.faults.Origin.{Origin}
+use Rattle.tangle_faults.specs.declared.faults.Origin.{Origin}
 use Rattle.tangle_scan.specs.declared.laying.Before.{Before}
 use Rattle.tangle_scan.specs.declared.laying.Count.{Count}
 use Rattle.tangle_scan.specs.declared.laying.Laying.{Laying}
 use Rattle.tangle_lines.specs.Reading.{Line}
-use Rattle.tangle_lexer.specs.declared.spans.Span.{Span}
+use Rattle.tangle_text.specs.declared.spans.Span.{Span}
 use Rattle.tangle_lexer.specs.declared.tokens.TextKind.{TextKind}
-use Rattle.tangle_scan.specs.Rules.{text_item, blanks, items_by_place, unmarked_items, line_item, count_behind}
+use Rattle.tangle_scan.specs.Rules.{text_item, blanks, items_by_origin, unmarked_items, line_item, count_behind}
 use Rattle.tangle_scan.specs.Passes.{counts, items_ahead, unmarked_from, items_at, count_after, item_of}
 
 -- two pushes in a row
@@ -19,11 +19,11 @@ pushed-twice old blank middle more new rest first second =
     ap (λ t. t ++ rest) (second ∙ ap (λ t. t ++ more) first) ∙ (append_assoc (old ++ blank) more rest ∙ append_assoc old blank (more ++ rest))
 
 -- rules 4 and 5 at another token than white space and a line end
-items_by_place-step : (lines : List Line) (count : Origin) (e : Token) (es : List Token) → (e ≡ token.White → ⊥) → ((line : ℕ) → e ≡ token.LineEnd line → ⊥) →
-    items_by_place lines count (e ∷ es) ≡ items_at lines e ++ items_by_place lines (count_after lines count e) es
-items_by_place-step lines count token.White es other end = absurd (other refl)
-items_by_place-step lines count (token.LineEnd line) es other end = absurd (end line refl)
-items_by_place-step lines count _ es other end = refl
+items_by_origin-step : (lines : List Line) (count : Origin) (e : Token) (es : List Token) → (e ≡ token.White → ⊥) → ((line : ℕ) → e ≡ token.LineEnd line → ⊥) →
+    items_by_origin lines count (e ∷ es) ≡ items_at lines e ++ items_by_origin lines (count_after lines count e) es
+items_by_origin-step lines count token.White es other end = absurd (other refl)
+items_by_origin-step lines count (token.LineEnd line) es other end = absurd (end line refl)
+items_by_origin-step lines count _ es other end = refl
 
 -- the items of a macro likewise
 unmarked-step : (e : Token) (es : List Token) → (e ≡ token.White → ⊥) → ((line : ℕ) → e ≡ token.LineEnd line → ⊥) →
@@ -39,10 +39,10 @@ blanks-item before white token.White es other line = absurd (other refl)
 blanks-item before white (token.LineEnd line) es other end = absurd (end line refl)
 blanks-item before white _ es other end = refl
 
-pub items_by_place-blank : (lines : List Line) (count : Origin) (blank : Bool) (es : List Token) →
-    items_by_place lines count ((if blank then token.White ∷ [] else []) ++ es) ≡ (if blank then item.Blank ∷ [] else []) ++ items_by_place lines count es
-items_by_place-blank lines count true es = refl
-items_by_place-blank lines count false es = refl
+pub items_by_origin-blank : (lines : List Line) (count : Origin) (blank : Bool) (es : List Token) →
+    items_by_origin lines count ((if blank then token.White ∷ [] else []) ++ es) ≡ (if blank then item.Blank ∷ [] else []) ++ items_by_origin lines count es
+items_by_origin-blank lines count true es = refl
+items_by_origin-blank lines count false es = refl
 
 unmarked-blank : (blank : Bool) (es : List Token) → unmarked_items ((if blank then token.White ∷ [] else []) ++ es) ≡ (if blank then item.Blank ∷ [] else []) ++ unmarked_items es
 unmarked-blank true es = refl
@@ -58,7 +58,7 @@ pub laid-line : (lines : List Line) (at : Laying) (line : ℕ) (count : Count) (
     ≡ items_ahead lines at (token.LineEnd line ∷ es)
 unfolding items_ahead
 laid-line lines at line count es is =
-    ap (λ c. line_item lines (counts at.count) line ∷ items_by_place lines c (blanks false false es)) is
+    ap (λ c. line_item lines (counts at.count) line ∷ items_by_origin lines c (blanks false false es)) is
 
 pub laid-item : (lines : List Line) (at : Laying) (e : Token) (count : Count) (es : List Token) → (e ≡ token.White → ⊥) → ((line : ℕ) → e ≡ token.LineEnd line → ⊥) →
     counts count ≡ count_after lines (counts at.count) e →
@@ -69,8 +69,8 @@ unfolding items_ahead
 laid-item lines at e count es other end is =
     rw (
       blanks-item at.before.item at.before.white e es other end,
-      items_by_place-blank lines (counts at.count) (at.before.item && at.before.white) (e ∷ blanks true false es),
-      items_by_place-step lines (counts at.count) e (blanks true false es) other end,
+      items_by_origin-blank lines (counts at.count) (at.before.item && at.before.white) (e ∷ blanks true false es),
+      items_by_origin-step lines (counts at.count) e (blanks true false es) other end,
       is,
     ) refl
 

@@ -4,8 +4,8 @@ use Rattle.std.proofs.Common.{List, [], ◌∷◌, ◌++◌, sym, ◌∙◌, app
 use Rattle.tangle_lexer.specs.declared.tokens.Token.{Token}
 use Rattle.tangle_lexer.specs.declared.tokens.TextKind.TheVariants as text_kind
 use Rattle.tangle_lexer.specs.declared.tokens.Token.TheVariants as token
-use Rattle.tangle_lines.specs.declared.faults.Origin.{Origin}
-use Rattle.tangle_lines.specs.Reading.{Line, place_at}
+use Rattle.tangle_faults.specs.declared.faults.Origin.{Origin}
+use Rattle.tangle_lines.specs.Reading.{Line, origin_at}
 use Rattle.tangle_scan.specs.declared.items.Item.{Item}
 use Rattle.tangle_scan.specs.declared.items.Item.TheVariants as item
 use Rattle.tangle_scan.specs.declared.rare_parts.Last.{Last}
@@ -13,14 +13,14 @@ use Rattle.tangle_scan.specs.declared.rare_parts.Last.TheVariants as last
 use Rattle.tangle_scan.specs.declared.spacing.Stage.TheVariants as stage
 use Rattle.tangle_scan.specs.Rules.{without_faults, with_spaces, would_merge, is_constant}
 use Rattle.tangle_scan.specs.Rules.{is_word_token, without_joins, left_of_run, is_gap}
-use Rattle.tangle_scan.specs.Rules.{is_join, has_join, blanks, items_by_place, line_item}
+use Rattle.tangle_scan.specs.Rules.{is_join, has_join, blanks, items_by_origin, line_item}
 use Rattle.tangle_scan.specs.Rules.{count_behind, part_items}
 use Rattle.tangle_scan.specs.Passes.{joins_ahead, touches, needs_blank, behind_white, last_of}
 use Rattle.tangle_scan.specs.Passes.{is_joined, laid, items_at, count_after, with_white_space}
 use Rattle.tangle_scan.proofs.lemmas.RuleLemmas.{without_joins-item, has_join-push}
 use Rattle.tangle_scan.proofs.lemmas.SpacingLemmas.{behind-line, behind-join, spaced-inside}
-use Rattle.tangle_scan.proofs.lemmas.LayingLemmas.{items_by_place-blank}
-use Rattle.tangle_scan.proofs.lemmas.RareLemmas.{is_solid, blanks-solid, items_by_place-solid}
+use Rattle.tangle_scan.proofs.lemmas.LayingLemmas.{items_by_origin-blank}
+use Rattle.tangle_scan.proofs.lemmas.RareLemmas.{is_solid, blanks-solid, items_by_origin-solid}
 
 abbrev white_if : Bool → List Token
 white_if b = if b then token.White ∷ [] else []
@@ -197,15 +197,15 @@ step-line : (lines : List Line) (count : Origin) (line : ℕ) (at : Last) (j : B
     (x : Bool → List Token) (joined front : List Item) →
     (j ≡ true → x false ≡ x true) →
     ((i : Bool) → blanks i false (x true) ≡ blanks false false (x true)) →
-    joined ≡ items_by_place lines count (blanks false false (x true)) →
-    front ≡ items_by_place lines (count_behind lines count line) (blanks false false (x false)) →
+    joined ≡ items_by_origin lines count (blanks false false (x true)) →
+    front ≡ items_by_origin lines (count_behind lines count line) (blanks false false (x false)) →
     (if is_joined at || j then joined else line_item lines count line ∷ front)
-    ≡ items_by_place lines count (blanks (is_item at) (is_white at j)
+    ≡ items_by_origin lines count (blanks (is_item at) (is_white at j)
     (unless (is_joined at || j) (token.LineEnd line ∷ []) ++ x (is_joined at)))
 step-line lines count line last.Joined j x joined front same none is is_front = is
 step-line lines count line at true x joined front same none is is_front =
     let apart = sym (none (is_item at)) ∙ ap (blanks (is_item at) false) (sym (same refl)) in
-    is ∙ ap (items_by_place lines count) apart
+    is ∙ ap (items_by_origin lines count) apart
 step-line lines count line _ false x joined front same none is is_front =
     ap (λ t. line_item lines count line ∷ t) is_front
 
@@ -226,16 +226,16 @@ step-blank last.White e x h = blanks-solid true true e x h
 
 step-item : (lines : List Line) (at : Last) (count : Origin) (e : Token) (x : List Token)
     (rest : List Item) (merges : Bool) → is_solid e ≡ true → merges ≡ touches at e →
-    rest ≡ items_by_place lines (count_after lines count e) (blanks true false x) →
+    rest ≡ items_by_origin lines (count_after lines count e) (blanks true false x) →
     (if needs_blank at e then item.Blank ∷ [] else []) ++ (items_at lines e ++ rest)
-    ≡ items_by_place lines count
+    ≡ items_by_origin lines count
     (blanks (is_item at) (is_white at false) (white_if merges ++ e ∷ x))
 step-item lines at count e x rest merges h is is_rest =
     rw (
       is,
       step-blank at e x h,
-      items_by_place-blank lines count (needs_blank at e) (e ∷ blanks true false x),
-      items_by_place-solid lines count e (blanks true false x) h,
+      items_by_origin-blank lines count (needs_blank at e) (e ∷ blanks true false x),
+      items_by_origin-solid lines count e (blanks true false x) h,
       is_rest,
     ) refl
 
@@ -251,7 +251,7 @@ last-touches _ f = refl
 laid-left : (lines : List Line) (at : Last) (count : Origin) (before : Token) (es : List Token) →
     ((e : Token) → would_merge before e ≡ touches at e) →
     laid lines at count es
-    ≡ items_by_place lines count
+    ≡ items_by_origin lines count
     (blanks (is_item at) (is_white at (joins_ahead es)) (left (is_joined at) before es))
 laid-left lines at count before [] h = refl
 laid-left lines at count before (token.Fault kind line ∷ es) h =
@@ -259,14 +259,14 @@ laid-left lines at count before (token.Fault kind line ∷ es) h =
 laid-left lines at count before (token.Join ∷ es) h =
     let white = ap (λ w. blanks (is_item at) w (left true token.White es)) (gone at) in
     laid-left lines last.Joined count token.White es (λ e. refl)
-    ∙ ap (items_by_place lines count) (sym (blanks-joined (is_item at) es) ∙ white)
+    ∙ ap (items_by_origin lines count) (sym (blanks-joined (is_item at) es) ∙ white)
   where
     gone : (at : Last) → false ≡ is_white at true
     gone last.White = refl
     gone _ = refl
 laid-left lines at count before (token.White ∷ es) h =
     laid-left lines (behind_white at) count token.White es (untouched at)
-    ∙ ap (items_by_place lines count) (step-white at (joins_ahead es) (λ b. left b token.White es))
+    ∙ ap (items_by_origin lines count) (step-white at (joins_ahead es) (λ b. left b token.White es))
   where
     untouched : (at : Last) (e : Token) → would_merge token.White e ≡ touches (behind_white at) e
     untouched last.Front e = refl
@@ -287,8 +287,8 @@ laid-left lines at count before (e ∷ es) h =
 
 -- all the items of a C part
 pub part-laid : (lines : List Line) (line : ℕ) (es : List Token) →
-    laid lines last.Front (place_at lines line) es ≡ part_items lines line es
+    laid lines last.Front (origin_at lines line) es ≡ part_items lines line es
 part-laid lines line es =
-    let place = place_at lines line in
-    laid-left lines last.Front place token.White es (λ e. refl)
-    ∙ ap (λ t. items_by_place lines place (blanks false false t)) (sym (spaced-left es))
+    let origin = origin_at lines line in
+    laid-left lines last.Front origin token.White es (λ e. refl)
+    ∙ ap (λ t. items_by_origin lines origin (blanks false false t)) (sym (spaced-left es))

@@ -6,8 +6,8 @@ use Rattle.std.proofs.lemmas.List.{take_all, take-append-le}
 use Rattle.tangle_lexer.specs.declared.tokens.Token.{Token}
 use Rattle.tangle_lexer.specs.declared.tokens.Token.TheVariants as token
 use Rattle.tangle_lexer.specs.declared.tokens.TextKind.TheVariants as text_kind
-use Rattle.tangle_lines.specs.declared.faults.Origin.{Origin}
-use Rattle.tangle_lines.specs.declared.faults.FaultKind.{FaultKind}
+use Rattle.tangle_faults.specs.declared.faults.Origin.{Origin}
+use Rattle.tangle_faults.specs.declared.faults.FaultKind.{FaultKind}
 use Rattle.tangle_lines.specs.Reading.{Line}
 use Rattle.tangle_scan.specs.declared.items.Item.{Item}
 use Rattle.tangle_scan.specs.declared.items.Item.TheVariants as item
@@ -16,7 +16,7 @@ use Rattle.tangle_scan.specs.declared.rare_parts.Start.{Start}
 use Rattle.tangle_scan.specs.declared.rare_parts.Last.{Last}
 use Rattle.tangle_scan.specs.declared.rare_parts.Last.TheVariants as last
 use Rattle.tangle_scan.specs.declared.rare_parts.RareLaying.{RareLaying}
-use Rattle.tangle_scan.specs.Rules.{blanks, items_by_place, line_item, count_behind}
+use Rattle.tangle_scan.specs.Rules.{blanks, items_by_origin, line_item, count_behind}
 use Rattle.tangle_scan.specs.Passes.{counts, items_at, count_after, whole, laid, takes_back}
 use Rattle.tangle_scan.specs.Passes.{joins_ahead, is_joined, needs_blank, behind_white, last_of}
 use Rattle.tangle_scan.proofs.lemmas.LayingLemmas.{pushed-twice}
@@ -39,13 +39,13 @@ solid token.Join white end join fault = absurd (join refl)
 solid (token.Fault kind line) white end join fault = absurd (fault kind line refl)
 solid _ white end join fault = refl
 
-pub items_by_place-solid : (lines : List Line) (count : Origin) (e : Token) (es : List Token) →
+pub items_by_origin-solid : (lines : List Line) (count : Origin) (e : Token) (es : List Token) →
     is_solid e ≡ true →
-    items_by_place lines count (e ∷ es)
-    ≡ items_at lines e ++ items_by_place lines (count_after lines count e) es
-items_by_place-solid lines count token.White es h = cc
-items_by_place-solid lines count (token.LineEnd line) es h = cc
-items_by_place-solid lines count _ es h = refl
+    items_by_origin lines count (e ∷ es)
+    ≡ items_at lines e ++ items_by_origin lines (count_after lines count e) es
+items_by_origin-solid lines count token.White es h = cc
+items_by_origin-solid lines count (token.LineEnd line) es h = cc
+items_by_origin-solid lines count _ es h = refl
 
 pub blanks-solid : (before white : Bool) (e : Token) (es : List Token) → is_solid e ≡ true →
     blanks before white (e ∷ es)

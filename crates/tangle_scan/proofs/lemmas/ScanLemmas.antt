@@ -4,7 +4,7 @@ use Rattle.std.specs.Option.{IfSome, IfNone}
 use Rattle.tangle_lines.specs.Reading.{SourceRead}
 use Rattle.tangle_lexer.specs.declared.tokens.Token.{Token}
 use Rattle.tangle_lexer.specs.declared.modes.ScanState.{ScanState}
-use Rattle.tangle_lexer.specs.Text.{Cell}
+use Rattle.tangle_text.specs.Text.{Cell}
 use Rattle.tangle_lexer.specs.Steps.{tokens_from, occurrences_from, all_tokens, all_occurrences}
 use Rattle.tangle_scan.specs.Web.{body, web_of}
 use Rattle.tangle_lexer.specs.Occurrences.{OccurrenceRead, occurrence_of}

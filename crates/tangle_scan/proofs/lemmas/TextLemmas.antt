@@ -2,7 +2,7 @@
 use Rattle.std.proofs.Common.{◌≡◌, ℕ, ◌+◌, List, [], ◌∷◌, ◌++◌, length, refl, arith}
 use Rattle.std.proofs.lemmas.List.{length-append}
 use Rattle.tangle_lines.specs.Reading.{Line}
-use Rattle.tangle_lexer.specs.Text.{line_text, text_from}
+use Rattle.tangle_text.specs.Text.{line_text, text_from}
 
 line_text-length : (line column : ℕ) (bytes : List ℕ) → length (line_text line column bytes) ≡ length bytes + 1
 line_text-length line column [] = refl

@@ -1,18 +1,18 @@
--- Stretches and the compiler's place, on small lists.
+-- Stretches and the counted origin, on small lists.
 use Rattle.std.proofs.Common.{◌≡◌, ℕ, Bool, true, false, [], ◌∷◌, Some, None, refl}
-use Rattle.tangle_lines.specs.declared.faults.Origin.{Origin}
-use Rattle.tangle_lexer.specs.declared.spans.Span.{Span}
+use Rattle.tangle_faults.specs.declared.faults.Origin.{Origin}
+use Rattle.tangle_text.specs.declared.spans.Span.{Span}
 use Rattle.tangle_scan.specs.declared.items.Item.TheVariants as item
 use Rattle.tangle_lexer.specs.declared.tokens.TextKind.TheVariants as text_kind
 use Rattle.tangle_lexer.specs.declared.tokens.Token.TheVariants as token
-use Rattle.tangle_scan.specs.LineTruth.{placed_items, Location, locations}
+use Rattle.tangle_scan.specs.LineTruth.{counted_items, Location, locations}
 
 -- one byte in the first column of a line
 abbrev at : ℕ → Span
 at line = record { line = line; start = 0; end = 1 }
 
-abbrev place : ℕ → Origin
-place line = record { file = 0; line = line }
+abbrev origin : ℕ → Origin
+origin line = record { file = 0; line = line }
 
 abbrev location : ℕ → Bool → Location
 location line in_stretch = record { item = item.Word (at line); line = line; in_stretch = in_stretch }
@@ -34,11 +34,11 @@ quote_break = refl
 code_line : locations false false false (token.AsciiConstant 65 7 ∷ []) ≡ record { item = item.Code 65; line = 7; in_stretch = false } ∷ []
 code_line = refl
 
--- the compiler's place: each line end adds a line, a mark sets it, and behind a use it is not known
+-- the counted origin: each line end adds a line, a mark sets it, and behind a use it is not known
 counted_lines :
-    placed_items (Some (place 4)) (item.LineEnd ∷ item.Word (at 1) ∷ item.UseOf 0 ∷ item.Word (at 2) ∷ item.LineMark (place 9) ∷ item.QuoteBreak ∷ item.Word (at 3) ∷ [])
-    ≡ record { item = item.Word (at 1); place = Some (place 5) }
-    ∷ record { item = item.Word (at 2); place = None }
-    ∷ record { item = item.Word (at 3); place = Some (place 10) }
+    counted_items (Some (origin 4)) (item.LineEnd ∷ item.Word (at 1) ∷ item.UseOf 0 ∷ item.Word (at 2) ∷ item.LineMark (origin 9) ∷ item.QuoteBreak ∷ item.Word (at 3) ∷ [])
+    ≡ record { item = item.Word (at 1); origin = Some (origin 5) }
+    ∷ record { item = item.Word (at 2); origin = None }
+    ∷ record { item = item.Word (at 3); origin = Some (origin 10) }
     ∷ []
 counted_lines = refl

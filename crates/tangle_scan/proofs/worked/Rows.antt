@@ -1,8 +1,8 @@
 -- Worked webs come out: their pieces, macros, names and faults.
 use Rattle.std.specs.Prelude.{◌≡◌, ℕ, ◌+◌, List, [], ◌∷◌, ◌++◌, map, flat_map, refl, codes, take, ◌/◌, ◌%◌, ◌==◌, if◌then◌else◌, true, false}
-use Rattle.tangle_lines.specs.declared.faults.FaultKind.{FaultKind}
-use Rattle.tangle_lines.specs.declared.faults.FaultKind.TheVariants as fault
-use Rattle.tangle_lines.specs.Faults.{FaultRead, fault_at}
+use Rattle.tangle_faults.specs.declared.faults.FaultKind.{FaultKind}
+use Rattle.tangle_faults.specs.declared.faults.FaultKind.TheVariants as fault
+use Rattle.tangle_faults.specs.Faults.{FaultRead, fault_at}
 use Rattle.tangle_lines.specs.Reading.{Line, SourceRead}
 use Rattle.tangle_scan.specs.declared.items.Item.{Item}
 use Rattle.tangle_scan.specs.declared.items.Item.TheVariants as item
@@ -14,7 +14,7 @@ use Rattle.tangle_scan.specs.Rules.{span_text}
 use Rattle.tangle_scan.specs.Web.{WebRead, web_of}
 
 abbrev line : List ℕ → ℕ → Line
-line bytes n = record { bytes = bytes; place = record { file = 0; line = n }; changed = false }
+line bytes n = record { bytes = bytes; origin = record { file = 0; line = n }; changed = false }
 
 abbrev lines_from : ℕ → List (List ℕ) → List Line
 lines_from n [] = []
@@ -55,7 +55,7 @@ shown texts item.Defs = 72 ∷ []
 
 -- the pieces, each with its section and the line of its opening mark
 abbrev shown_pieces : WebRead → List ℕ
-shown_pieces w = flat_map (λ p. digits p.section ++ 58 ∷ digits p.place.line ++ flat_map (shown w.texts) p.items ++ 10 ∷ []) w.pieces
+shown_pieces w = flat_map (λ p. digits p.section ++ 58 ∷ digits p.origin.line ++ flat_map (shown w.texts) p.items ++ 10 ∷ []) w.pieces
 
 abbrev shown_macros : WebRead → List ℕ
 shown_macros w = flat_map (λ m. flat_map (shown w.texts) m ++ 10 ∷ []) w.macros
@@ -408,9 +408,9 @@ cut_texts_items = refl
 
 -- the occurrences of names: abbreviated or not, in which role, and where
 pub abbreviated_occurrences : (web abbreviated).occurrences
-    ≡ record { text = codes "Ini..."; is_abbreviation = true; is_file = false; role = role.Use; place = record { file = 0; line = 3 } }
-    ∷ record { text = codes "Initialize"; is_abbreviation = false; is_file = false; role = role.Definition; place = record { file = 0; line = 4 } }
-    ∷ record { text = codes "Init table"; is_abbreviation = false; is_file = false; role = role.Definition; place = record { file = 0; line = 6 } } ∷ []
+    ≡ record { text = codes "Ini..."; is_abbreviation = true; is_file = false; role = role.Use; origin = record { file = 0; line = 3 } }
+    ∷ record { text = codes "Initialize"; is_abbreviation = false; is_file = false; role = role.Definition; origin = record { file = 0; line = 4 } }
+    ∷ record { text = codes "Init table"; is_abbreviation = false; is_file = false; role = role.Definition; origin = record { file = 0; line = 6 } } ∷ []
 unfolding lexeme tokens_from occurrences_from
 abbreviated_occurrences = refl
 

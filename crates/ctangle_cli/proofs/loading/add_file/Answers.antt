@@ -1,5 +1,5 @@
 use Rattle.std.proofs.Common.{refl, ◌≡◌, subst, sym, true}
-use Rattle.tangle_files.specs.Roles.{is_there}
+use Rattle.tangle_files.specs.Adding.{has_file}
 use Rattle.ctangle_cli.proofs.LoadLemmas.{stops_given, refused_bytes, there_added}
 use Rattle.ctangle_cli.proofs.loading.add_file.Goals as goal
 
@@ -10,4 +10,4 @@ returns-in-Err-clause-err c = λ reported n.
 
 pub returns-in-Ok-clause-there : goal.returns-in-Ok-clause-there
 returns-in-Ok-clause-there c =
-    subst (λ t. is_there t c.args.name.now ≡ true) (sym c.in-Ok.ensures.ok) (there_added c.args.files.now c.args.name.now c.args.bytes.items)
+    subst (λ t. has_file t c.args.name.now ≡ true) (sym c.in-Ok.ensures.ok) (there_added c.args.files.now c.args.name.now c.args.bytes.items)

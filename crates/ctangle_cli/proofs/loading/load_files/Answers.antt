@@ -35,31 +35,31 @@ returns-clause-once g c = asked_once _ _ _ _ (c.in_ok-read_rounds.ensures.asks _
 pub returns-in_err-read_needed-clause-ends : goal.returns-in_err-read_needed-clause-ends
 returns-in_err-read_needed-clause-ends g c =
     let left = err_from_is_err_and c.from_residual.result c.from_residual.ensures.1 in
-    rw (left.1, left.2) (until_first (g.F.Folder.files c.args.folder.now) (g.F.Folder.asked c.args.folder.now) (g.F.Folder.asked c.read_needed.new.folder) c.args.roles.now (ending_of c.in_err-read_needed.field-0.0)
+    rw (left.1, left.2) (until_first (g.F.Folder.state c.args.folder.now).files (g.F.Folder.state c.args.folder.now).asked (g.F.Folder.state c.read_needed.new.folder).asked c.args.roles.now (ending_of c.in_err-read_needed.field-0.0)
     (rw (c.new-files.ensures, c.web.ensures) at c.in_err-read_needed.ensures.ends))
 
 pub returns-in_err-read_change-clause-ends : goal.returns-in_err-read_change-clause-ends
 returns-in_err-read_change-clause-ends g c =
     let left = err_from_is_err_and c.from_residual-in_err-read_change.result c.from_residual-in_err-read_change.ensures.1 in
-    let mid = tried (g.F.Folder.asked c.read_needed.new.folder) c.read_needed.new.files [] in
-    rw (left.1, left.2) (until_second (g.F.Folder.files c.args.folder.now) (g.F.Folder.asked c.args.folder.now) (g.F.Folder.asked c.read_change.new.folder) c.args.roles.now mid (ending_of c.in_err-read_change.field-0.0)
+    let mid = tried (g.F.Folder.state c.read_needed.new.folder).asked c.read_needed.new.files [] in
+    rw (left.1, left.2) (until_second (g.F.Folder.state c.args.folder.now).files (g.F.Folder.state c.args.folder.now).asked (g.F.Folder.state c.read_change.new.folder).asked c.args.roles.now mid (ending_of c.in_err-read_change.field-0.0)
     (rw (c.new-files.ensures, c.web.ensures) at c.in_ok-read_needed.ensures.order) (rw (c.in_ok-read_needed.ensures.files_stay, c.change.ensures) at c.in_err-read_change.ensures.ends))
 
 pub returns-in_err-read_rounds-clause-ends : goal.returns-in_err-read_rounds-clause-ends
 returns-in_err-read_rounds-clause-ends g c =
     let left = err_from_is_err_and c.from_residual-in_err-read_rounds.result c.from_residual-in_err-read_rounds.ensures.1 in
-    let mid = tried (g.F.Folder.asked c.read_needed.new.folder) c.read_needed.new.files [] in
-    let now = tried (g.F.Folder.asked c.read_change.new.folder) c.read_change.new.files [] in
-    let begun = begins_rounds (g.F.Folder.files c.args.folder.now) (g.F.Folder.asked c.args.folder.now) c.args.roles.now mid now (rw (c.new-files.ensures, c.web.ensures) at c.in_ok-read_needed.ensures.order)
+    let mid = tried (g.F.Folder.state c.read_needed.new.folder).asked c.read_needed.new.files [] in
+    let now = tried (g.F.Folder.state c.read_change.new.folder).asked c.read_change.new.files [] in
+    let begun = begins_rounds (g.F.Folder.state c.args.folder.now).files (g.F.Folder.state c.args.folder.now).asked c.args.roles.now mid now (rw (c.new-files.ensures, c.web.ensures) at c.in_ok-read_needed.ensures.order)
     (rw (c.in_ok-read_needed.ensures.files_stay, c.change.ensures) at c.in_ok-read_change.ensures.order) in
-    rw (left.1, left.2) (until_rounds (g.F.Folder.files c.args.folder.now) (g.F.Folder.asked c.args.folder.now) (g.F.Folder.asked c.read_rounds.new.folder) c.args.roles.now now (ending_of c.in_err-read_rounds.field-0.0) begun
+    rw (left.1, left.2) (until_rounds (g.F.Folder.state c.args.folder.now).files (g.F.Folder.state c.args.folder.now).asked (g.F.Folder.state c.read_rounds.new.folder).asked c.args.roles.now now (ending_of c.in_err-read_rounds.field-0.0) begun
     (rw (c.in_ok-read_change.ensures.files_stay, c.in_ok-read_needed.ensures.files_stay) at c.in_err-read_rounds.ensures.ends))
 
 pub returns-clause-order : goal.returns-clause-order
 returns-clause-order g c =
-    let mid = tried (g.F.Folder.asked c.read_needed.new.folder) c.read_needed.new.files [] in
-    let now = tried (g.F.Folder.asked c.read_change.new.folder) c.read_change.new.files [] in
-    let begun = begins_rounds (g.F.Folder.files c.args.folder.now) (g.F.Folder.asked c.args.folder.now) c.args.roles.now mid now (rw (c.new-files.ensures, c.web.ensures) at c.in_ok-read_needed.ensures.order)
+    let mid = tried (g.F.Folder.state c.read_needed.new.folder).asked c.read_needed.new.files [] in
+    let now = tried (g.F.Folder.state c.read_change.new.folder).asked c.read_change.new.files [] in
+    let begun = begins_rounds (g.F.Folder.state c.args.folder.now).files (g.F.Folder.state c.args.folder.now).asked c.args.roles.now mid now (rw (c.new-files.ensures, c.web.ensures) at c.in_ok-read_needed.ensures.order)
     (rw (c.in_ok-read_needed.ensures.files_stay, c.change.ensures) at c.in_ok-read_change.ensures.order) in
-    all_asked (g.F.Folder.files c.args.folder.now) (g.F.Folder.asked c.args.folder.now) (g.F.Folder.asked c.read_rounds.new.folder) c.args.roles.now now begun
+    all_asked (g.F.Folder.state c.args.folder.now).files (g.F.Folder.state c.args.folder.now).asked (g.F.Folder.state c.read_rounds.new.folder).asked c.args.roles.now now begun
     (rw (c.in_ok-read_change.ensures.files_stay, c.in_ok-read_needed.ensures.files_stay) at c.in_ok-read_rounds.ensures.order)

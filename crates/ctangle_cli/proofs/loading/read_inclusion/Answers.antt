@@ -16,13 +16,13 @@ returns-in-Ok-clause-err g c =
     IfErr-weaker c.add_file.result _ _
     (λ fault stops.
     stops_along _ _ _ _ _ _ (ending_of fault) c.in-Ok.ensures.counted
-    (included_bytes (g.F.Folder.files c.args.folder.now) c.args.files.now c.args.name.now c.in-Ok.bytes c.in-Ok.ensures.answer absent named)
-    (stops (g.F.Folder.files c.args.folder.now) (g.F.Folder.failures c.read_file.new.self)))
+    (included_bytes (g.F.Folder.state c.args.folder.now).files c.args.files.now c.args.name.now c.in-Ok.bytes c.in-Ok.ensures.answer absent named)
+    (stops (g.F.Folder.state c.args.folder.now).files (g.F.Folder.state c.read_file.new.self).failures))
     c.add_file.ensures.err
 
 pub returns-then-contains-clause-ok : goal.returns-then-contains-clause-ok
 returns-then-contains-clause-ok g c = (
-  absent_adds_none (g.F.Folder.files c.args.folder.now) c.args.files.now c.args.name.now c.args.absent.now c.requires (sym c.contains.ensures ∙ c.if-contains.true)
+  absent_adds_none (g.F.Folder.state c.args.folder.now).files c.args.files.now c.args.name.now c.args.absent.now c.requires (sym c.contains.ensures ∙ c.if-contains.true)
       (sym c.has.ensures ∙ c.if-has.false) (sym c.is_file_name.ensures ∙ c.if-not-is_file_name.false),
   refl,
 )
@@ -32,8 +32,8 @@ returns-in-Ok-clause-reported g c = IfErr-weaker c.add_file.result _ _ (λ fault
 
 pub returns-in-Ok-clause-asks : goal.returns-in-Ok-clause-asks
 returns-in-Ok-clause-asks g c =
-    let old = tried (g.F.Folder.asked c.args.folder.now) c.args.files.now c.args.absent.now in
-    let new = tried (g.F.Folder.asked c.read_file.new.self) c.add_file.new.files c.args.absent.now in
+    let old = tried (g.F.Folder.state c.args.folder.now).asked c.args.files.now c.args.absent.now in
+    let new = tried (g.F.Folder.state c.read_file.new.self).asked c.add_file.new.files c.args.absent.now in
     on_ok_weaker c.add_file.result
     (λ ok. asks_this old new c.args.name.now (untried _ _ (sym c.has.ensures ∙ c.if-has.false) (sym c.contains.ensures ∙ c.if-contains.false)) c.in-Ok.ensures.asks
     (tries_added old.asked new.asked c.args.files.now c.add_file.new.files c.args.absent.now c.args.name.now c.in-Ok.bytes.items ok))
@@ -41,8 +41,8 @@ returns-in-Ok-clause-asks g c =
 
 pub returns-in-Ok-clause-tries : goal.returns-in-Ok-clause-tries
 returns-in-Ok-clause-tries g c =
-    let old = tried (g.F.Folder.asked c.args.folder.now) c.args.files.now c.args.absent.now in
-    let new = tried (g.F.Folder.asked c.read_file.new.self) c.add_file.new.files c.args.absent.now in
+    let old = tried (g.F.Folder.state c.args.folder.now).asked c.args.files.now c.args.absent.now in
+    let new = tried (g.F.Folder.state c.read_file.new.self).asked c.add_file.new.files c.args.absent.now in
     on_ok_weaker c.add_file.result
     (λ ok. tries_this old new c.args.name.now
     (tries_added old.asked new.asked c.args.files.now c.add_file.new.files c.args.absent.now c.args.name.now c.in-Ok.bytes.items ok))
@@ -54,8 +54,8 @@ returns-in-Ok-clause-stops g c = always_err c.add_file.result
 
 pub returns-in_ok-insert-in-Err-Missing-clause-asks : goal.returns-in_ok-insert-in-Err-Missing-clause-asks
 returns-in_ok-insert-in-Err-Missing-clause-asks g c =
-    let old = tried (g.F.Folder.asked c.args.folder.now) c.args.files.now c.args.absent.now in
-    let new = tried (g.F.Folder.asked c.read_file.new.self) c.args.files.now c.insert.new.self in
+    let old = tried (g.F.Folder.state c.args.folder.now).asked c.args.files.now c.args.absent.now in
+    let new = tried (g.F.Folder.state c.read_file.new.self).asked c.args.files.now c.insert.new.self in
     asks_this old new c.args.name.now (untried _ _ (sym c.has.ensures ∙ c.if-has.false) (sym c.contains.ensures ∙ c.if-contains.false))
     (rw c.in-Err-Missing.field-0-is at c.in-Err-Missing.ensures.asks)
     (tries_absent old.asked new.asked c.args.files.now c.args.absent.now c.insert.new.self c.args.name.now c.in_ok-insert-in-Err-Missing.ensures.holds)
@@ -82,51 +82,51 @@ returns-in-Err-NoMemory-clause-stops g c =
 
 pub returns-in-Ok-clause-order : goal.returns-in-Ok-clause-order
 returns-in-Ok-clause-order g c =
-    let old = tried (g.F.Folder.asked c.args.folder.now) c.args.files.now c.args.absent.now in
-    let new = tried (g.F.Folder.asked c.read_file.new.self) c.add_file.new.files c.args.absent.now in
+    let old = tried (g.F.Folder.state c.args.folder.now).asked c.args.files.now c.args.absent.now in
+    let new = tried (g.F.Folder.state c.read_file.new.self).asked c.add_file.new.files c.args.absent.now in
     on_ok_weaker c.add_file.result
-    (λ ok. named_goes (g.F.Folder.files c.args.folder.now) old new c.args.name.now (sym c.is_file_name.ensures ∙ c.if-not-is_file_name.false)
-    (goes_asked (g.F.Folder.files c.args.folder.now) old new c.args.name.now (untried _ _ (sym c.has.ensures ∙ c.if-has.false) (sym c.contains.ensures ∙ c.if-contains.false)) c.in-Ok.ensures.asks
+    (λ ok. named_goes (g.F.Folder.state c.args.folder.now).files old new c.args.name.now (sym c.is_file_name.ensures ∙ c.if-not-is_file_name.false)
+    (goes_asked (g.F.Folder.state c.args.folder.now).files old new c.args.name.now (untried _ _ (sym c.has.ensures ∙ c.if-has.false) (sym c.contains.ensures ∙ c.if-contains.false)) c.in-Ok.ensures.asks
     (tries_added old.asked new.asked c.args.files.now c.add_file.new.files c.args.absent.now c.args.name.now c.in-Ok.bytes.items ok)
-    (found_added (g.F.Folder.files c.args.folder.now) c.args.files.now c.add_file.new.files c.args.name.now c.in-Ok.bytes c.in-Ok.ensures.answer ok)))
+    (found_added (g.F.Folder.state c.args.folder.now).files c.args.files.now c.add_file.new.files c.args.name.now c.in-Ok.bytes c.in-Ok.ensures.answer ok)))
     c.add_file.ensures.ok
 
 pub returns-in-Ok-clause-ends : goal.returns-in-Ok-clause-ends
 returns-in-Ok-clause-ends g c =
-    let old = tried (g.F.Folder.asked c.args.folder.now) c.args.files.now c.args.absent.now in
-    let asked = g.F.Folder.asked c.read_file.new.self in
+    let old = tried (g.F.Folder.state c.args.folder.now).asked c.args.files.now c.args.absent.now in
+    let asked = (g.F.Folder.state c.read_file.new.self).asked in
     IfErr-weaker c.add_file.result _ _
-    (λ fault about. named_ends (g.F.Folder.files c.args.folder.now) old asked c.args.name.now (ending_of fault) (sym c.is_file_name.ensures ∙ c.if-not-is_file_name.false)
-    (ends_about (g.F.Folder.files c.args.folder.now) old asked c.args.name.now (ending_of fault) (untried _ _ (sym c.has.ensures ∙ c.if-has.false) (sym c.contains.ensures ∙ c.if-contains.false)) c.in-Ok.ensures.asks about))
+    (λ fault about. named_ends (g.F.Folder.state c.args.folder.now).files old asked c.args.name.now (ending_of fault) (sym c.is_file_name.ensures ∙ c.if-not-is_file_name.false)
+    (ends_about (g.F.Folder.state c.args.folder.now).files old asked c.args.name.now (ending_of fault) (untried _ _ (sym c.has.ensures ∙ c.if-has.false) (sym c.contains.ensures ∙ c.if-contains.false)) c.in-Ok.ensures.asks about))
     c.add_file.ensures.about
 
 pub returns-in_ok-insert-in-Err-Missing-clause-order : goal.returns-in_ok-insert-in-Err-Missing-clause-order
 returns-in_ok-insert-in-Err-Missing-clause-order g c =
-    let old = tried (g.F.Folder.asked c.args.folder.now) c.args.files.now c.args.absent.now in
-    let new = tried (g.F.Folder.asked c.read_file.new.self) c.args.files.now c.insert.new.self in
-    named_goes (g.F.Folder.files c.args.folder.now) old new c.args.name.now (sym c.is_file_name.ensures ∙ c.if-not-is_file_name.false)
-    (goes_asked (g.F.Folder.files c.args.folder.now) old new c.args.name.now (untried _ _ (sym c.has.ensures ∙ c.if-has.false) (sym c.contains.ensures ∙ c.if-contains.false)) (rw c.in-Err-Missing.field-0-is at c.in-Err-Missing.ensures.asks)
+    let old = tried (g.F.Folder.state c.args.folder.now).asked c.args.files.now c.args.absent.now in
+    let new = tried (g.F.Folder.state c.read_file.new.self).asked c.args.files.now c.insert.new.self in
+    named_goes (g.F.Folder.state c.args.folder.now).files old new c.args.name.now (sym c.is_file_name.ensures ∙ c.if-not-is_file_name.false)
+    (goes_asked (g.F.Folder.state c.args.folder.now).files old new c.args.name.now (untried _ _ (sym c.has.ensures ∙ c.if-has.false) (sym c.contains.ensures ∙ c.if-contains.false)) (rw c.in-Err-Missing.field-0-is at c.in-Err-Missing.ensures.asks)
     (tries_absent old.asked new.asked c.args.files.now c.args.absent.now c.insert.new.self c.args.name.now c.in_ok-insert-in-Err-Missing.ensures.holds)
-    (found_none (g.F.Folder.files c.args.folder.now) c.args.files.now c.args.name.now (rw c.in-Err-Missing.field-0-is at c.in-Err-Missing.ensures.answer)))
+    (found_none (g.F.Folder.state c.args.folder.now).files c.args.files.now c.args.name.now (rw c.in-Err-Missing.field-0-is at c.in-Err-Missing.ensures.answer)))
 
 pub returns-in_err-insert-in-Err-Missing-clause-ends : goal.returns-in_err-insert-in-Err-Missing-clause-ends
 returns-in_err-insert-in-Err-Missing-clause-ends g c =
     let left = err_from_is_err_and c.from_residual.result c.from_residual.ensures.1 in
-    let old = tried (g.F.Folder.asked c.args.folder.now) c.args.files.now c.args.absent.now in
-    let asked = g.F.Folder.asked c.read_file.new.self in
-    rw (left.1, left.2) (named_ends (g.F.Folder.files c.args.folder.now) old asked c.args.name.now Memory (sym c.is_file_name.ensures ∙ c.if-not-is_file_name.false)
-    (ends_about (g.F.Folder.files c.args.folder.now) old asked c.args.name.now Memory (untried _ _ (sym c.has.ensures ∙ c.if-has.false) (sym c.contains.ensures ∙ c.if-contains.false)) (rw c.in-Err-Missing.field-0-is at c.in-Err-Missing.ensures.asks) tt))
+    let old = tried (g.F.Folder.state c.args.folder.now).asked c.args.files.now c.args.absent.now in
+    let asked = (g.F.Folder.state c.read_file.new.self).asked in
+    rw (left.1, left.2) (named_ends (g.F.Folder.state c.args.folder.now).files old asked c.args.name.now Memory (sym c.is_file_name.ensures ∙ c.if-not-is_file_name.false)
+    (ends_about (g.F.Folder.state c.args.folder.now).files old asked c.args.name.now Memory (untried _ _ (sym c.has.ensures ∙ c.if-has.false) (sym c.contains.ensures ∙ c.if-contains.false)) (rw c.in-Err-Missing.field-0-is at c.in-Err-Missing.ensures.asks) tt))
 
 pub returns-in-Err-TooBig-clause-ends : goal.returns-in-Err-TooBig-clause-ends
 returns-in-Err-TooBig-clause-ends g c =
-    let old = tried (g.F.Folder.asked c.args.folder.now) c.args.files.now c.args.absent.now in
-    let asked = g.F.Folder.asked c.read_file.new.self in
-    named_ends (g.F.Folder.files c.args.folder.now) old asked c.args.name.now (ending_of c.cannot_read.result) (sym c.is_file_name.ensures ∙ c.if-not-is_file_name.false)
-    (ends_at (g.F.Folder.files c.args.folder.now) old asked c.args.name.now (ending_of c.cannot_read.result) (untried _ _ (sym c.has.ensures ∙ c.if-has.false) (sym c.contains.ensures ∙ c.if-contains.false)) (rw c.in-Err-TooBig.field-0-is at c.in-Err-TooBig.ensures.asks) c.cannot_read.ensures)
+    let old = tried (g.F.Folder.state c.args.folder.now).asked c.args.files.now c.args.absent.now in
+    let asked = (g.F.Folder.state c.read_file.new.self).asked in
+    named_ends (g.F.Folder.state c.args.folder.now).files old asked c.args.name.now (ending_of c.cannot_read.result) (sym c.is_file_name.ensures ∙ c.if-not-is_file_name.false)
+    (ends_at (g.F.Folder.state c.args.folder.now).files old asked c.args.name.now (ending_of c.cannot_read.result) (untried _ _ (sym c.has.ensures ∙ c.if-has.false) (sym c.contains.ensures ∙ c.if-contains.false)) (rw c.in-Err-TooBig.field-0-is at c.in-Err-TooBig.ensures.asks) c.cannot_read.ensures)
 
 pub returns-in-Err-Failed-clause-ends : goal.returns-in-Err-Failed-clause-ends
 returns-in-Err-Failed-clause-ends g c =
-    let old = tried (g.F.Folder.asked c.args.folder.now) c.args.files.now c.args.absent.now in
-    let asked = g.F.Folder.asked c.read_file.new.self in
-    named_ends (g.F.Folder.files c.args.folder.now) old asked c.args.name.now (ending_of c.cannot_read-in-Err-Failed.result) (sym c.is_file_name.ensures ∙ c.if-not-is_file_name.false)
-    (ends_at (g.F.Folder.files c.args.folder.now) old asked c.args.name.now (ending_of c.cannot_read-in-Err-Failed.result) (untried _ _ (sym c.has.ensures ∙ c.if-has.false) (sym c.contains.ensures ∙ c.if-contains.false)) (rw c.in-Err-Failed.field-0-is at c.in-Err-Failed.ensures.asks) c.cannot_read-in-Err-Failed.ensures)
+    let old = tried (g.F.Folder.state c.args.folder.now).asked c.args.files.now c.args.absent.now in
+    let asked = (g.F.Folder.state c.read_file.new.self).asked in
+    named_ends (g.F.Folder.state c.args.folder.now).files old asked c.args.name.now (ending_of c.cannot_read-in-Err-Failed.result) (sym c.is_file_name.ensures ∙ c.if-not-is_file_name.false)
+    (ends_at (g.F.Folder.state c.args.folder.now).files old asked c.args.name.now (ending_of c.cannot_read-in-Err-Failed.result) (untried _ _ (sym c.has.ensures ∙ c.if-has.false) (sym c.contains.ensures ∙ c.if-contains.false)) (rw c.in-Err-Failed.field-0-is at c.in-Err-Failed.ensures.asks) c.cannot_read-in-Err-Failed.ensures)

@@ -16,12 +16,12 @@ pub loop-fault-preserved : goal.loop-fault-preserved
 loop-fault-preserved g c =
     let faults = c.args.faults.now in
     let rest = missed_in (drop (c.loop-fault.fault-index + 1) faults) in
-    let old = tried (g.F.Folder.asked c.args.folder.now) c.args.files.now c.args.absent.now in
-    let now = tried (g.F.Folder.asked c.loop-fault.folder) c.loop-fault.files c.loop-fault.absent in
+    let old = tried (g.F.Folder.state c.args.folder.now).asked c.args.files.now c.args.absent.now in
+    let now = tried (g.F.Folder.state c.loop-fault.folder).asked c.loop-fault.files c.loop-fault.absent in
     let kind = ap is_missing_kind (sym c.kind.ensures) ∙ sym c.is_missing.ensures in
     elim c.if-is_missing.branch [
       | then-is_missing+in_ok-read_inclusion w ↦
-          let next = tried (g.F.Folder.asked w.read_inclusion.new.folder) w.read_inclusion.new.files w.read_inclusion.new.absent in
+          let next = tried (g.F.Folder.state w.read_inclusion.new.folder).asked w.read_inclusion.new.files w.read_inclusion.new.absent in
           let missed = missed_at faults c.loop-fault.fault-index c.fault-item.result true c.loop-fault-test.true c.fault-item.is (kind ∙ w.if-is_missing.true)
           ∙ ap (λ name. name ∷ rest) (sym w.subject.ensures) in
           record {
@@ -50,7 +50,7 @@ loop-fault-preserved g c =
             files_stay = search rules;
             created_stay = search rules;
             order = rw (w.folder-is, w.files-is, w.absent-is)
-                (subst (OrderSoFar (g.F.Folder.files c.args.folder.now) old now (missed_in faults)) missed c.loop-fault.invariant.order);
+                (subst (OrderSoFar (g.F.Folder.state c.args.folder.now).files old now (missed_in faults)) missed c.loop-fault.invariant.order);
             asks = rw (w.folder-is, w.files-is, w.absent-is) (subst (AsksSoFar old now (missed_in faults)) missed c.loop-fault.invariant.asks);
             tries = rw (w.files-is, w.absent-is) (subst (TriesSoFar now (missed_in faults)) missed c.loop-fault.invariant.tries);
             stay = rw (w.files-is, w.absent-is) c.loop-fault.invariant.stay;
@@ -67,17 +67,17 @@ returns-clause-order g c =
 
 pub returns-in_err-read_inclusion-clause-fails : goal.returns-in_err-read_inclusion-clause-fails
 returns-in_err-read_inclusion-clause-fails g c =
-    always_err _ (fails_since _ _ _ _ _ _ _ c.loop-fault.invariant.unnoted c.loop-fault.invariant.unfailed c.in_err-read_inclusion.ensures.fails)
+    always_err _ (fails_since (g.F.Folder.state c.args.folder.now) (g.F.Folder.state c.loop-fault.folder) (g.F.Folder.state c.read_inclusion.new.folder) c.loop-fault.invariant.unnoted c.loop-fault.invariant.unfailed c.in_err-read_inclusion.ensures.fails)
 
 pub returns-in_err-read_inclusion-clause-ends : goal.returns-in_err-read_inclusion-clause-ends
 returns-in_err-read_inclusion-clause-ends g c =
     let left = err_from_is_err_and c.from_residual.result c.from_residual.ensures.1 in
     let faults = c.args.faults.now in
     let rest = missed_in (drop (c.loop-fault.fault-index + 1) faults) in
-    let old = tried (g.F.Folder.asked c.args.folder.now) c.args.files.now c.args.absent.now in
-    let now = tried (g.F.Folder.asked c.loop-fault.folder) c.loop-fault.files c.loop-fault.absent in
+    let old = tried (g.F.Folder.state c.args.folder.now).asked c.args.files.now c.args.absent.now in
+    let now = tried (g.F.Folder.state c.loop-fault.folder).asked c.loop-fault.files c.loop-fault.absent in
     let kind = ap is_missing_kind (sym c.kind.ensures) ∙ sym c.is_missing.ensures in
     let missed = missed_at faults c.loop-fault.fault-index c.fault-item.result true c.loop-fault-test.true c.fault-item.is (kind ∙ c.if-is_missing.true)
     ∙ ap (λ name. name ∷ rest) (sym c.subject.ensures) in
-    rw (left.1, left.2) (order_stops (g.F.Folder.files c.args.folder.now) (g.F.Folder.files c.loop-fault.folder) old now (g.F.Folder.asked c.read_inclusion.new.folder) (missed_in faults) _
+    rw (left.1, left.2) (order_stops (g.F.Folder.state c.args.folder.now).files (g.F.Folder.state c.loop-fault.folder).files old now (g.F.Folder.state c.read_inclusion.new.folder).asked (missed_in faults) _
     c.subject.result.now rest (ending_of c.in_err-read_inclusion.field-0.0) c.loop-fault.invariant.files_stay missed c.loop-fault.invariant.order c.in_err-read_inclusion.ensures.ends)

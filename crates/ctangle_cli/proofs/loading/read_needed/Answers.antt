@@ -12,8 +12,8 @@ returns-in-Ok-clause-err g c =
     IfErr-weaker c.add_file.result _ _
     (λ fault stops.
     stops_along _ _ _ _ _ _ (ending_of fault) c.in-Ok.ensures.counted
-    (needed_bytes (g.F.Folder.files c.args.folder.now) c.args.files.now c.args.name.now c.in-Ok.bytes c.in-Ok.ensures.answer)
-    (stops (g.F.Folder.files c.args.folder.now) (g.F.Folder.failures c.read_file.new.self)))
+    (needed_bytes (g.F.Folder.state c.args.folder.now).files c.args.files.now c.args.name.now c.in-Ok.bytes c.in-Ok.ensures.answer)
+    (stops (g.F.Folder.state c.args.folder.now).files (g.F.Folder.state c.read_file.new.self).failures))
     c.add_file.ensures.err
 
 pub returns-in-Ok-clause-reported : goal.returns-in-Ok-clause-reported
@@ -21,8 +21,8 @@ returns-in-Ok-clause-reported g c = IfErr-weaker c.add_file.result _ _ (λ fault
 
 pub returns-in-Ok-clause-asks : goal.returns-in-Ok-clause-asks
 returns-in-Ok-clause-asks g c =
-    let old = tried (g.F.Folder.asked c.args.folder.now) c.args.files.now [] in
-    let new = tried (g.F.Folder.asked c.read_file.new.self) c.add_file.new.files [] in
+    let old = tried (g.F.Folder.state c.args.folder.now).asked c.args.files.now [] in
+    let new = tried (g.F.Folder.state c.read_file.new.self).asked c.add_file.new.files [] in
     on_ok_weaker c.add_file.result
     (λ ok. asks_this old new c.args.name.now (or_false _ ∙ c.requires) c.in-Ok.ensures.asks
     (tries_added old.asked new.asked c.args.files.now c.add_file.new.files [] c.args.name.now c.in-Ok.bytes.items ok))
@@ -45,17 +45,17 @@ returns-in-Err-NoMemory-clause-stops g c = stops_short _ _ c.args.name.now (or_f
 
 pub returns-in-Ok-clause-order : goal.returns-in-Ok-clause-order
 returns-in-Ok-clause-order g c =
-    let old = tried (g.F.Folder.asked c.args.folder.now) c.args.files.now [] in
-    let new = tried (g.F.Folder.asked c.read_file.new.self) c.add_file.new.files [] in
+    let old = tried (g.F.Folder.state c.args.folder.now).asked c.args.files.now [] in
+    let new = tried (g.F.Folder.state c.read_file.new.self).asked c.add_file.new.files [] in
     on_ok_weaker c.add_file.result
-    (λ ok. goes_asked (g.F.Folder.files c.args.folder.now) old new c.args.name.now (or_false _ ∙ c.requires) c.in-Ok.ensures.asks
+    (λ ok. goes_asked (g.F.Folder.state c.args.folder.now).files old new c.args.name.now (or_false _ ∙ c.requires) c.in-Ok.ensures.asks
     (tries_added old.asked new.asked c.args.files.now c.add_file.new.files [] c.args.name.now c.in-Ok.bytes.items ok)
-    (found_added (g.F.Folder.files c.args.folder.now) c.args.files.now c.add_file.new.files c.args.name.now c.in-Ok.bytes c.in-Ok.ensures.answer ok))
+    (found_added (g.F.Folder.state c.args.folder.now).files c.args.files.now c.add_file.new.files c.args.name.now c.in-Ok.bytes c.in-Ok.ensures.answer ok))
     c.add_file.ensures.ok
 
 pub returns-in-Ok-clause-ends : goal.returns-in-Ok-clause-ends
 returns-in-Ok-clause-ends g c =
-    let old = tried (g.F.Folder.asked c.args.folder.now) c.args.files.now [] in
+    let old = tried (g.F.Folder.state c.args.folder.now).asked c.args.files.now [] in
     IfErr-weaker c.add_file.result _ _
-    (λ fault about. ends_about (g.F.Folder.files c.args.folder.now) old (g.F.Folder.asked c.read_file.new.self) c.args.name.now (ending_of fault) (or_false _ ∙ c.requires) c.in-Ok.ensures.asks about)
+    (λ fault about. ends_about (g.F.Folder.state c.args.folder.now).files old (g.F.Folder.state c.read_file.new.self).asked c.args.name.now (ending_of fault) (or_false _ ∙ c.requires) c.in-Ok.ensures.asks about)
     c.add_file.ensures.about

@@ -9,15 +9,15 @@ use Rattle.ctangle_cli.proofs.loading.read_rounds.Given as goal
 abbrev pub invariant-loop-absent : goal.invariant-loop-absent
 invariant-loop-absent g l = record {
   fits : fits l.files l.roles ≡ true;
-  absent : AreAbsent (g.F.Folder.files l.initial.folder) l.absent;
-  loads : IfSome (g.F.Folder.files l.initial.folder) (λ all. rounds_from all l.roles l.files ≡ rounds_from all l.roles l.initial.files);
-  unfailed : g.F.Folder.failures l.folder ≡ g.F.Folder.failures l.initial.folder;
-  unnoted : g.F.Folder.failed l.folder ≡ g.F.Folder.failed l.initial.folder;
-  order : RoundsSoFar (g.F.Folder.files l.initial.folder) l.roles (tried (g.F.Folder.asked l.initial.folder) l.initial.files []) (tried (g.F.Folder.asked l.folder) l.files l.absent);
-  files_stay : g.F.Folder.files l.folder ≡ g.F.Folder.files l.initial.folder;
-  created_stay : g.F.Folder.created l.folder ≡ g.F.Folder.created l.initial.folder;
-  asks : (before : Option (List (List ℕ))) → RoundsOnce before (tried (g.F.Folder.asked l.initial.folder) l.initial.files []) l.roles
-      → RoundsOnce before (tried (g.F.Folder.asked l.folder) l.files l.absent) l.roles;
+  absent : AreAbsent (g.F.Folder.state l.initial.folder).files l.absent;
+  loads : IfSome (g.F.Folder.state l.initial.folder).files (λ all. rounds_from all l.roles l.files ≡ rounds_from all l.roles l.initial.files);
+  unfailed : (g.F.Folder.state l.folder).failures ≡ (g.F.Folder.state l.initial.folder).failures;
+  unnoted : (g.F.Folder.state l.folder).failed ≡ (g.F.Folder.state l.initial.folder).failed;
+  order : RoundsSoFar (g.F.Folder.state l.initial.folder).files l.roles (tried (g.F.Folder.state l.initial.folder).asked l.initial.files []) (tried (g.F.Folder.state l.folder).asked l.files l.absent);
+  files_stay : (g.F.Folder.state l.folder).files ≡ (g.F.Folder.state l.initial.folder).files;
+  created_stay : (g.F.Folder.state l.folder).created ≡ (g.F.Folder.state l.initial.folder).created;
+  asks : (before : Option (List (List ℕ))) → RoundsOnce before (tried (g.F.Folder.state l.initial.folder).asked l.initial.files []) l.roles
+      → RoundsOnce before (tried (g.F.Folder.state l.folder).asked l.files l.absent) l.roles;
 }
 
 abbrev pub decreases-loop-absent : goal.decreases-loop-absent

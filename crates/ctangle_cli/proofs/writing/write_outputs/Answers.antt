@@ -6,13 +6,13 @@ use Rattle.ctangle_cli.proofs.writing.write_outputs.Goals as goal
 
 pub write_file-requires : goal.write_file-requires
 write_file-requires g c =
-    let next = next_output (outputs_of c.args.session.now.files c.args.session.now.roles) (g.F.Folder.created c.args.folder.now) (g.F.Folder.created c.loop-index.folder)
+    let next = next_output (outputs_of c.args.session.now.files c.args.session.now.roles) (g.F.Folder.state c.args.folder.now).created (g.F.Folder.state c.loop-index.folder).created
     (enumerate_source c.loop-index.index-iterator) c.in-Some.name.now (enumerate_source c.next.new.self) c.in-Some.ensures.steps.0 c.requires c.loop-index.invariant.written in
     next.is_there
 
 pub loop-index-preserved : goal.loop-index-preserved
 loop-index-preserved g c =
-    let next = next_output (outputs_of c.args.session.now.files c.args.session.now.roles) (g.F.Folder.created c.args.folder.now) (g.F.Folder.created c.loop-index.folder)
+    let next = next_output (outputs_of c.args.session.now.files c.args.session.now.roles) (g.F.Folder.state c.args.folder.now).created (g.F.Folder.state c.loop-index.folder).created
     (enumerate_source c.loop-index.index-iterator) c.in-Some.name.now (enumerate_source c.next.new.self) c.in-Some.ensures.steps.0 c.requires c.loop-index.invariant.written in
     record {
       written = wrote_next (outputs_of c.args.session.now.files c.args.session.now.roles) _ _ _ c.in-Some.name.now _ next c.in-Ok.ensures.whole;
@@ -23,6 +23,6 @@ loop-index-preserved g c =
 
 pub returns-in-Err-clause-stopped : goal.returns-in-Err-clause-stopped
 returns-in-Err-clause-stopped g c =
-    let next = next_output (outputs_of c.args.session.now.files c.args.session.now.roles) (g.F.Folder.created c.args.folder.now) (g.F.Folder.created c.loop-index.folder)
+    let next = next_output (outputs_of c.args.session.now.files c.args.session.now.roles) (g.F.Folder.state c.args.folder.now).created (g.F.Folder.state c.loop-index.folder).created
     (enumerate_source c.loop-index.index-iterator) c.in-Some.name.now (enumerate_source c.next.new.self) c.in-Some.ensures.steps.0 c.requires c.loop-index.invariant.written in
     stops_at_next (outputs_of c.args.session.now.files c.args.session.now.roles) _ _ _ c.in-Some.name.now _ c.in-Err.fault next c.in-Err.ensures.part c.in-Err.ensures.nothing

@@ -6,8 +6,8 @@ use Rattle.ctangle_cli.proofs.writing.write_outputs.Given as goal
 
 abbrev pub invariant-loop-index : goal.invariant-loop-index
 invariant-loop-index g l = record {
-  written : HasWritten (outputs_of l.session.files l.session.roles) (g.F.Folder.created l.initial.folder) (g.F.Folder.created l.folder) (enumerate_source l.index-iterator);
-  unfailed : g.F.Folder.failures l.folder ≡ g.F.Folder.failures l.initial.folder;
-  asked_stay : g.F.Folder.asked l.folder ≡ g.F.Folder.asked l.initial.folder;
-  failed_stay : g.F.Folder.failed l.folder ≡ g.F.Folder.failed l.initial.folder;
+  written : HasWritten (outputs_of l.session.files l.session.roles) (g.F.Folder.state l.initial.folder).created (g.F.Folder.state l.folder).created (enumerate_source l.index-iterator);
+  unfailed : (g.F.Folder.state l.folder).failures ≡ (g.F.Folder.state l.initial.folder).failures;
+  asked_stay : (g.F.Folder.state l.folder).asked ≡ (g.F.Folder.state l.initial.folder).asked;
+  failed_stay : (g.F.Folder.state l.folder).failed ≡ (g.F.Folder.state l.initial.folder).failed;
 }

@@ -1,7 +1,7 @@
 use Rattle.std.proofs.Common.{◌≡◌, ◌∙◌, ◌<◌, length, ap, sym, subst}
 use Rattle.std.proofs.lemmas.Slice.Eq.{bytes_eq-Decides}
-use Rattle.tangle_expansion.specs.Shapes.{Named}
-use Rattle.tangle_expansion.specs.declared.nodes.Node.TheVariants.{Name}
+use Rattle.tangle_plans.specs.Shapes.{Named}
+use Rattle.tangle_plans.specs.declared.nodes.Node.TheVariants.{Name}
 use Rattle.tangle_graph.specs.Nodes.{IsNodeOf, title_of_node}
 use Rattle.tangle_graph.proofs.NodeLemmas.{title_inside}
 use Rattle.tangle_affected.proofs.NameLemmas.{name_found, name_absent}

@@ -1,10 +1,10 @@
 use Rattle.std.proofs.Common.{◌≡◌, ◌∙◌, ◌+◌, true, false, arith, get_or, length, length-set, set, subst, sym, take, Contains}
 use Rattle.std.proofs.lemmas.List.{take_all}
-use Rattle.tangle_expansion.specs.Shapes.{here}
-use Rattle.tangle_expansion.specs.declared.nodes.Node.TheVariants.{Program}
+use Rattle.tangle_plans.specs.Shapes.{here}
+use Rattle.tangle_plans.specs.declared.nodes.Node.TheVariants.{Program}
 use Rattle.tangle_graph.specs.Stores.{title_in_store}
 use Rattle.tangle_affected.specs.Flags.{number_of_node, ReachesChanged, AreFlagged}
-use Rattle.tangle_affected.proofs.FlagLemmas.{at_place, number_low, flagged_next, reached_by_use, not_reached}
+use Rattle.tangle_affected.proofs.FlagLemmas.{at_position, number_low, flagged_next, reached_by_use, not_reached}
 use Rattle.tangle_affected.proofs.edits.reaching_changed.Goals as goal
 use Rattle.tangle_affected.proofs.edits.reaching_changed.Goals.{then-is_changed, else-is_changed}
 
@@ -12,7 +12,7 @@ pub index_mut-requires : goal.index_mut-requires
 index_mut-requires c =
     let names = c.args.new.now.names in
     let node = get_or c.args.order.now c.loop-node.node-index Program in
-    let low = number_low names node (at_place c.args.new.now c.args.order.now c.requires.order c.loop-node.node-index c.loop-node-test.true) in
+    let low = number_low names node (at_position c.args.new.now c.args.order.now c.requires.order c.loop-node.node-index c.loop-node-test.true) in
     let is = rw c.name_count-count.ensures at c.number_of.ensures in
     omega (arith, low, c.loop-node.invariant.size, is)
 

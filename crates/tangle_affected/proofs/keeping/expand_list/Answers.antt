@@ -1,6 +1,6 @@
 use Rattle.std.proofs.Common.{◌∙◌, ◌++◌, ◌∷◌, [], ap, arith, get_or, sym, take}
 use Rattle.std.proofs.lemmas.List.{take_more, append_assoc}
-use Rattle.tangle_expansion.specs.declared.nodes.Node.TheVariants.{Program}
+use Rattle.tangle_plans.specs.declared.nodes.Node.TheVariants.{Program}
 use Rattle.tangle_affected.proofs.KeepLemmas.{next_expandable, next_kept, done_more, done_all}
 use Rattle.tangle_affected.proofs.keeping.expand_list.Goals as goal
 

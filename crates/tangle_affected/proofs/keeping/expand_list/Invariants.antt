@@ -1,5 +1,5 @@
 use Rattle.std.proofs.Common.{◌≡◌, ◌++◌, take}
-use Rattle.tangle_expansion.specs.Shapes.{Shapes}
+use Rattle.tangle_plans.specs.Shapes.{Shapes}
 use Rattle.tangle_affected.specs.Keeping.{KeepsDone, CanExpand}
 use Rattle.tangle_affected.proofs.keeping.expand_list.Given as goal
 

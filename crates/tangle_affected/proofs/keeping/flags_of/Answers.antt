@@ -1,7 +1,7 @@
 use Rattle.std.proofs.Common.{◌≡◌, ◌∙◌, ◌+◌, true, arith, get_or, length, length-set, set, subst, sym, take}
 use Rattle.std.proofs.lemmas.List.{take_all}
 use Rattle.std.proofs.lemmas.List.Elements.{Contains-get_or}
-use Rattle.tangle_expansion.specs.declared.nodes.Node.TheVariants.{Program}
+use Rattle.tangle_plans.specs.declared.nodes.Node.TheVariants.{Program}
 use Rattle.tangle_affected.specs.Flags.{number_of_node, AreListed}
 use Rattle.tangle_affected.proofs.FlagLemmas.{listed_next, number_low}
 use Rattle.tangle_affected.proofs.keeping.flags_of.Goals as goal

@@ -2,13 +2,13 @@ use Rattle.std.proofs.Common.{◌≡◌, ◌∙◌, ◌<◌, ℕ, List, [], map,
 use Rattle.std.specs.Prelude.{slice_index_or}
 use Rattle.std.proofs.lemmas.List.Elements.{All-push}
 use Rattle.tangle_names.specs.NameTable.{table_of}
-use Rattle.tangle_expansion.specs.Shapes.{Named}
-use Rattle.tangle_expansion.specs.WebShapes.{pieces_of}
-use Rattle.tangle_expansion.specs.ItemSlots.{pieces_at}
+use Rattle.tangle_plans.specs.Shapes.{Named}
+use Rattle.tangle_plans.specs.WebShapes.{pieces_of}
+use Rattle.tangle_plans.specs.ItemSlots.{pieces_at}
 use Rattle.tangle_expansion.specs.Numbers.{piece_numbers}
 use Rattle.tangle_expansion.specs.NumbersKept.{entry_of}
 use Rattle.tangle_expansion.specs.TextLimits.{EntryIsShort}
-use Rattle.tangle_expansion.specs.declared.nodes.Node.TheVariants.{Name}
+use Rattle.tangle_plans.specs.declared.nodes.Node.TheVariants.{Name}
 use Rattle.tangle_expansion.proofs.BuildLemmas.{entries_added, entries_next, take_whole}
 use Rattle.tangle_expansion.proofs.building.numbers_of_names.Goals as goal
 

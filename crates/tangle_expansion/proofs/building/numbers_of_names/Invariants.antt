@@ -1,7 +1,7 @@
 use Rattle.std.proofs.Common.{◌≡◌, map, take, All}
 use Rattle.tangle_names.specs.NameTable.{table_of}
-use Rattle.tangle_expansion.specs.Shapes.{Named}
-use Rattle.tangle_expansion.specs.WebShapes.{pieces_of}
+use Rattle.tangle_plans.specs.Shapes.{Named}
+use Rattle.tangle_plans.specs.WebShapes.{pieces_of}
 use Rattle.tangle_expansion.specs.Numbers.{piece_numbers}
 use Rattle.tangle_expansion.specs.NumbersKept.{entries_of}
 use Rattle.tangle_expansion.specs.TextLimits.{EntryIsShort}

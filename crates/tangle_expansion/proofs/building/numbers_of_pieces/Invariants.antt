@@ -1,5 +1,5 @@
 use Rattle.std.proofs.Common.{◌≡◌, ◌++◌, drop, map, All}
-use Rattle.tangle_expansion.specs.ItemSlots.{pieces_at}
+use Rattle.tangle_plans.specs.ItemSlots.{pieces_at}
 use Rattle.tangle_expansion.specs.Numbers.{piece_numbers}
 use Rattle.tangle_expansion.specs.TextLimits.{IsShort}
 use Rattle.tangle_expansion.proofs.building.numbers_of_pieces.Given as goal

@@ -1,8 +1,8 @@
 use Rattle.std.proofs.Common.{◌∙◌, ap, arith}
 use Rattle.tangle_expansion.specs.Kept.{used_symbols}
-use Rattle.tangle_expansion.specs.Meaning.{title_of, plan_flat}
-use Rattle.tangle_expansion.specs.declared.expansion.NodeBody.{NodeBody}
-use Rattle.tangle_expansion.specs.declared.expansion.Step.TheVariants.{Open}
+use Rattle.tangle_plans.specs.Meaning.{title_of, plan_flat}
+use Rattle.tangle_plans.specs.declared.nodes.NodeBody.{NodeBody}
+use Rattle.tangle_plans.specs.declared.steps.Step.TheVariants.{Open}
 use Rattle.tangle_expansion.proofs.UseLemmas.{used_in_plan, uses_end, plan_filled}
 use Rattle.tangle_expansion.proofs.expanding.expansion_of.Goals as goal
 

@@ -1,6 +1,6 @@
 use Rattle.std.proofs.Common.{◌≡◌, ◌++◌, map, drop}
 use Rattle.tangle_expansion.specs.Kept.{used_symbols}
-use Rattle.tangle_expansion.specs.Slots.{uses_of}
+use Rattle.tangle_plans.specs.Slots.{uses_of}
 use Rattle.tangle_expansion.proofs.expanding.expansion_of.Given as goal
 
 abbrev pub invariant-loop-step : goal.invariant-loop-step

@@ -1,5 +1,5 @@
 use Rattle.std.proofs.Common.{◌≤◌, length, arith}
-use Rattle.tangle_expansion.specs.Flat.{flat}
+use Rattle.tangle_plans.specs.Flat.{flat}
 use Rattle.tangle_expansion.proofs.Weights.{weight-length}
 use Rattle.tangle_expansion.proofs.TextLemmas.{text-short}
 use Rattle.std.proofs.Math.Nat.{mul-le-mul_right}

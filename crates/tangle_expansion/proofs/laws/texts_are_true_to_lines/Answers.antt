@@ -7,6 +7,6 @@ use Rattle.tangle_expansion.proofs.laws.texts_are_true_to_lines.Goals as goal
 
 pub returns : goal.returns
 returns c = λ source web node own. record {
-  written = ap (text (numbers_of web (table_of web) Full)) (sym (c.texts_are_at_their_places.ensures.symbols source web (table_of web) levels node));
-  places = c.texts_are_at_their_places.ensures.places source web levels node None own;
+  written = ap (text (numbers_of web (table_of web) Full)) (sym (c.texts_are_at_their_origins.ensures.symbols source web (table_of web) levels node));
+  origins = c.texts_are_at_their_origins.ensures.origins source web levels node None own;
 }

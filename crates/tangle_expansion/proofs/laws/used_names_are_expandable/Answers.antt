@@ -1,6 +1,6 @@
 use Rattle.std.proofs.Common.{ap, arith, length}
-use Rattle.tangle_expansion.specs.Shapes.{Named}
-use Rattle.tangle_expansion.specs.Flat.{flat, depth}
+use Rattle.tangle_plans.specs.Shapes.{Named}
+use Rattle.tangle_plans.specs.Flat.{flat, depth}
 use Rattle.tangle_expansion.proofs.UsedLemmas.{pieces_shorter, pieces_shallower}
 use Rattle.tangle_expansion.proofs.laws.used_names_are_expandable.Goals as goal
 

@@ -1,12 +1,12 @@
 use Rattle.std.proofs.Common.{append-nil}
-use Rattle.tangle_expansion.specs.Meaning.{title_of}
+use Rattle.tangle_plans.specs.Meaning.{title_of}
 use Rattle.tangle_expansion.proofs.PutLemmas.{puts_then, puts_same}
 use Rattle.tangle_expansion.proofs.TextLemmas.{text-bytes, mark_written, closing_written, macros_written}
 use Rattle.tangle_expansion.proofs.writing.put_step.Goals as goal
 
 pub returns-in-Open : goal.returns-in-Open
 returns-in-Open g c =
-    rw (c.in-Open.is, append-nil, ← c.requires.ours, ← c.section_at.ensures, ← c.place_at.ensures)
+    rw (c.in-Open.is, append-nil, ← c.requires.ours, ← c.section_at.ensures, ← c.origin_at.ensures)
     (puts_then _ _ _ _ _ _ _ _ c.put_opening-opened.ensures c.put_mark.ensures)
 
 pub returns-in-Run : goal.returns-in-Run
@@ -17,14 +17,14 @@ pub returns-in-Mark : goal.returns-in-Mark
 returns-in-Mark g c =
     rw c.in-Mark.is
     (puts_same _ _ _ _ _ _
-    (mark_written c.args.numbers.now (title_of c.args.node.now.name) c.args.pieces.now c.args.at.piece _ c.place_at-in-Mark.result c.requires.ours c.place_at-in-Mark.ensures)
+    (mark_written c.args.numbers.now (title_of c.args.node.now.name) c.args.pieces.now c.args.at.piece _ c.origin_at-in-Mark.result c.requires.ours c.origin_at-in-Mark.ensures)
     c.put_mark-in-Mark.ensures)
 
-pub returns-in-Macros : goal.returns-in-Macros
-returns-in-Macros g c =
-    rw c.in-Macros.is
+pub returns-in-AllMacros : goal.returns-in-AllMacros
+returns-in-AllMacros g c =
+    rw c.in-AllMacros.is
     (puts_same _ _ _ _ _ _ (macros_written c.args.numbers.now c.macros.result.now c.macros.ensures)
-    (puts_then _ _ _ _ _ _ _ _ c.put-fed.ensures c.put-in-Macros.ensures))
+    (puts_then _ _ _ _ _ _ _ _ c.put-fed.ensures c.put-in-AllMacros.ensures))
 
 pub returns-in-Close : goal.returns-in-Close
 returns-in-Close g c =

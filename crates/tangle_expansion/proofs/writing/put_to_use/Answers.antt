@@ -1,5 +1,5 @@
 use Rattle.std.proofs.Common.{◌∙◌, refl, sym, arith}
-use Rattle.tangle_expansion.specs.Meaning.{title_of}
+use Rattle.tangle_plans.specs.Meaning.{title_of}
 use Rattle.tangle_expansion.proofs.PutLemmas.{wrote_at_first, wrote_more, wrote_whole}
 use Rattle.tangle_expansion.proofs.PlanLemmas.{goes_on, stops_at_use, stops_at_end}
 use Rattle.tangle_expansion.proofs.writing.put_to_use.Goals as goal

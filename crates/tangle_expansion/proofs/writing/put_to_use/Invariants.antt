@@ -1,5 +1,5 @@
 use Rattle.std.proofs.Common.{◌≡◌, ◌-◌, drop, length}
-use Rattle.tangle_expansion.specs.Meaning.{title_of, before_use, behind_use}
+use Rattle.tangle_plans.specs.Meaning.{title_of, before_use, behind_use}
 use Rattle.tangle_expansion.specs.Numbers.{text}
 use Rattle.tangle_expansion.proofs.PutLemmas.{Wrote}
 use Rattle.tangle_expansion.proofs.writing.put_to_use.Given as goal

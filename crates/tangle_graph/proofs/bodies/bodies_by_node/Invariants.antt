@@ -5,7 +5,7 @@ use Rattle.tangle_graph.proofs.bodies.bodies_by_node.Given as goal
 
 abbrev pub invariant-loop-n : goal.invariant-loop-n
 invariant-loop-n l = record {
-  texts : AreBodies l.web l.table (rows_of (take l.n l.pieces)) (node_bodies l.texts.items);
-  plans : ArePlans l.web l.table (λ id. get_or l.has_piece id false) (rows_of (take l.n l.pieces)) (slots_of l.texts.items) (uses_of_plans l.texts.items);
-  planned : ArePlanned l.table.names (λ id. get_or l.has_piece id false) (node_bodies l.texts.items);
+  bodies : AreBodies l.web l.table (rows_of (take l.n l.pieces)) (node_bodies l.bodies.items);
+  plans : ArePlans l.web l.table (λ id. get_or l.has_piece id false) (rows_of (take l.n l.pieces)) (slots_of l.bodies.items) (uses_of_plans l.bodies.items);
+  planned : ArePlanned l.table.names (λ id. get_or l.has_piece id false) (node_bodies l.bodies.items);
 }

@@ -1,8 +1,8 @@
 use Rattle.std.proofs.Common.{◌≡◌, ◌≤◌, ◌∙◌, ◌<◌, ◌++◌, ◌∷◌, [], List, not, cond, ap, arith, length}
 use Rattle.std.proofs.lemmas.List.{get_or_default}
-use Rattle.tangle_lines.specs.declared.faults.FaultKind.{FaultKind}
-use Rattle.tangle_lines.specs.declared.faults.FaultKind.TheVariants as kind
-use Rattle.tangle_lines.specs.Faults.{fault_unplaced}
+use Rattle.tangle_faults.specs.declared.faults.FaultKind.{FaultKind}
+use Rattle.tangle_faults.specs.declared.faults.FaultKind.TheVariants as kind
+use Rattle.tangle_faults.specs.Faults.{fault_unplaced}
 use Rattle.tangle_graph.specs.FaultFlags.{flag_at}
 use Rattle.tangle_graph.specs.Faults.{is_defined, is_too_large, faults_of_names}
 use Rattle.tangle_graph.proofs.FaultLemmas.{joined, kinds_step, kinds_whole, unless}

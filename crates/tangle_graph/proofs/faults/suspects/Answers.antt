@@ -2,10 +2,10 @@ use Rattle.std.proofs.Common.{◌≡◌, ◌∙◌, ◌<◌, arith, ◌∷◌, [
 use Rattle.std.specs.Prelude.{All}
 use Rattle.std.specs.List.{range_with_len}
 use Rattle.std.proofs.lemmas.List.Elements.{All-append, All-cons, All-nil}
-use Rattle.tangle_lines.specs.declared.faults.FaultKind.{FaultKind}
-use Rattle.tangle_lines.specs.Faults.{FaultRead}
+use Rattle.tangle_faults.specs.declared.faults.FaultKind.{FaultKind}
+use Rattle.tangle_faults.specs.Faults.{FaultRead}
 use Rattle.tangle_graph.specs.FaultFlags.{flag_at}
-use Rattle.tangle_graph.specs.Faults.{fault_of, fault_place}
+use Rattle.tangle_graph.specs.Faults.{fault_of, fault_occurrence}
 use Rattle.tangle_graph.proofs.FaultLemmas.{suspects_step}
 use Rattle.tangle_graph.proofs.faults.suspects.Goals as goal
 
@@ -22,7 +22,7 @@ loop-id-preserved c =
     let count = length table.names in
     let low : id < count = omega arith in
     let g : List ℕ → FaultKind → ℕ → List FaultRead =
-    (λ out kind id. fault_of web table kind id (fault_place web table out (flag_at flags.self_containing.now) (flag_at flags.reaching.now) kind id)) in
+    (λ out kind id. fault_of web table kind id (fault_occurrence web table out (flag_at flags.self_containing.now) (flag_at flags.reaching.now) kind id)) in
     record {
       names = subst (All (λ m. m < count)) (sym c.in_ok-push_where.ensures)
           (All-append (λ m. m < count) c.loop-id.names.items (cond c.may_have_fault-needed.result (id ∷ []) []) c.loop-id.invariant.names (all_where count id c.may_have_fault-needed.result low));
@@ -37,4 +37,4 @@ returns-clause-faults c = λ out kind.
     let flags = c.args.flags.now in
     let end : c.loop-id.id ≡ length table.names = omega arith in
     c.loop-id.invariant.faults out kind
-    ∙ ap (λ n. flat_map (λ id. fault_of web table kind id (fault_place web table out (flag_at flags.self_containing.now) (flag_at flags.reaching.now) kind id)) (range_with_len 0 n)) end
+    ∙ ap (λ n. flat_map (λ id. fault_of web table kind id (fault_occurrence web table out (flag_at flags.self_containing.now) (flag_at flags.reaching.now) kind id)) (range_with_len 0 n)) end

@@ -4,7 +4,7 @@ use Rattle.std.proofs.lemmas.List.{get_or_default}
 use Rattle.digraph.specs.Graph.{rows_of, row_at}
 use Rattle.digraph.proofs.GraphLemmas.{row_read}
 use Rattle.tangle_expansion.specs.Limits.{levels, depth_of}
-use Rattle.tangle_expansion.specs.WebShapes.{shapes}
+use Rattle.tangle_plans.specs.WebShapes.{shapes}
 use Rattle.tangle_graph.specs.Nodes.{title_at}
 use Rattle.tangle_graph.proofs.OrderLemmas.{measured_next, measured_all, left_out_deepest}
 use Rattle.tangle_graph.proofs.StepLemmas.{measured_capped, depth_step}

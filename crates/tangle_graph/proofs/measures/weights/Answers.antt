@@ -3,16 +3,16 @@ use Rattle.std.specs.Prelude.{All, sum_by}
 use Rattle.std.proofs.lemmas.List.{get_or_default}
 use Rattle.digraph.specs.Graph.{rows_of, row_at}
 use Rattle.digraph.proofs.GraphLemmas.{rows_size}
-use Rattle.tangle_expansion.specs.ItemSlots.{pieces_at}
+use Rattle.tangle_plans.specs.ItemSlots.{pieces_at}
 use Rattle.tangle_expansion.specs.Limits.{weight_cap, weight_of}
-use Rattle.tangle_expansion.specs.NodeBodies.{node_uses, plan_slots}
-use Rattle.tangle_expansion.specs.declared.expansion.NodeBody.{NodeBody}
-use Rattle.tangle_expansion.specs.WebShapes.{shapes}
+use Rattle.tangle_plans.specs.NodeBodies.{node_uses, plan_slots}
+use Rattle.tangle_plans.specs.declared.nodes.NodeBody.{NodeBody}
+use Rattle.tangle_plans.specs.WebShapes.{shapes}
 use Rattle.tangle_graph.specs.Measures.{weight_of_pieces}
 use Rattle.tangle_graph.specs.Nodes.{title_at}
 use Rattle.tangle_graph.proofs.OrderLemmas.{measured_next, measured_all, left_out_heaviest}
 use Rattle.tangle_graph.proofs.StepLemmas.{measured_capped, weight_step}
-use Rattle.tangle_graph.proofs.TextLemmas.{body_reported, names_inside}
+use Rattle.tangle_graph.proofs.BodyLemmas.{body_reported, names_inside}
 use Rattle.tangle_graph.proofs.measures.weights.Goals as goal
 
 pub weight_of_node-requires-clause-inside : goal.weight_of_node-requires-clause-inside
@@ -24,8 +24,8 @@ weight_of_node-requires-clause-inside c =
     let n = get_or c.args.order.now i 0 in
     let graph = c.requires.graph in
     let low : n < length rows = omega (arith, c.requires.order.placed.nodes i c.loop-n-test.true, graph.rows_size, graph.uses_size, rows_size c.args.pieces.now) in
-    let reported = body_reported web table rows c.args.texts.now n c.index-texts-n.result c.requires.texts low c.index-texts-n.is in
-    let inside = names_inside web table (row_at rows n) c.index-texts-n.result.value c.requires.inside reported in
+    let reported = body_reported web table rows c.args.bodies.now n c.index-bodies-n.result c.requires.bodies low c.index-bodies-n.is in
+    let inside = names_inside web table (row_at rows n) c.index-bodies-n.result.value c.requires.inside reported in
     subst (λ (t : NodeBody). All (λ id. id < length c.deref.result.now) (node_uses t)) (sym c.deref-in-loop-n.ensures)
     (λ k d h. omega (arith, inside k d h, ap length c.deref.ensures.value, c.loop-n.invariant.0, graph.uses_size))
 
@@ -47,7 +47,7 @@ loop-n-preserved c =
     let value : ℕ → ℕ = λ k. weight_of (shapes web table) (title_at table.names k) in
     let rows = rows_of c.args.pieces.now in
     let low : n < length rows = omega (arith, c.requires.order.placed.nodes i c.loop-n-test.true, c.requires.graph.rows_size, c.requires.graph.uses_size, rows_size c.args.pieces.now) in
-    let reported = body_reported web table rows c.args.texts.now n c.index-texts-n.result c.requires.texts low c.index-texts-n.is in
+    let reported = body_reported web table rows c.args.bodies.now n c.index-bodies-n.result c.requires.bodies low c.index-bodies-n.is in
     let e : c.weight_of_node.result ≡ min weight_cap (weight_of_pieces web.texts table (λ id. get_or c.loop-n.weights.items id 0) (pieces_at web.pieces (row_at rows n))) =
     subst (λ ws. c.weight_of_node.result ≡ min weight_cap (length (plan_slots c.deref-in-loop-n.result.now) + sum_by (λ id. get_or ws id 0) (node_uses c.deref-in-loop-n.result.now))) c.deref.ensures.value c.weight_of_node.ensures
     ∙ ap (λ (t : NodeBody). min weight_cap (length (plan_slots t) + sum_by (λ id. get_or c.loop-n.weights.items id 0) (node_uses t))) c.deref-in-loop-n.ensures

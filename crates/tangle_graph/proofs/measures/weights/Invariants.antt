@@ -1,6 +1,6 @@
 use Rattle.std.proofs.Common.{◌≡◌, length, take}
 use Rattle.tangle_expansion.specs.Limits.{weight_cap, weight_of}
-use Rattle.tangle_expansion.specs.WebShapes.{shapes}
+use Rattle.tangle_plans.specs.WebShapes.{shapes}
 use Rattle.tangle_graph.specs.Measures.{AreMeasured}
 use Rattle.tangle_graph.specs.Nodes.{title_at}
 use Rattle.tangle_graph.proofs.measures.weights.Given as goal

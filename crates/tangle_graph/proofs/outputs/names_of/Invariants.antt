@@ -1,6 +1,6 @@
 use Rattle.std.proofs.Common.{◌≡◌, ◌<◌, flat_map, take, option_to_list, length}
 use Rattle.std.specs.Prelude.{All}
-use Rattle.tangle_expansion.specs.WebShapes.{resolved_at}
+use Rattle.tangle_plans.specs.WebShapes.{resolved_at}
 use Rattle.tangle_graph.specs.Grouping.{number_of_name}
 use Rattle.tangle_graph.proofs.outputs.names_of.Given as goal
 

@@ -2,8 +2,8 @@ use Rattle.std.proofs.Common.{◌∙◌, ◌<◌, ◌++◌, ◌∷◌, ◌&&◌,
 use Rattle.std.specs.Prelude.{All, not, if◌then◌else◌}
 use Rattle.std.specs.Str.{bytes_eq}
 use Rattle.std.proofs.lemmas.List.{get_or_default}
-use Rattle.tangle_expansion.specs.WebShapes.{shapes}
-use Rattle.tangle_graph.specs.Outputs.{main_file, named_file, name_text, is_written, is_expandable}
+use Rattle.tangle_plans.specs.WebShapes.{shapes}
+use Rattle.tangle_graph.specs.Outputs.{main_file, named_file, name_with_number, is_written, is_expandable}
 use Rattle.tangle_graph.proofs.FirstLemmas.{mapped_more}
 use Rattle.tangle_graph.proofs.NodeLemmas.{title_inside}
 use Rattle.tangle_graph.proofs.outputs.outputs.Goals as goal
@@ -20,7 +20,7 @@ loop-id-preserved c =
     let low : id < length table.names = below i 0 c.loop-id-test.true in
     let room : id < length c.args.expandable.now = omega (arith, low, c.requires.size) in
     c.in_ok-add_named_file.ensures
-    ∙ ap (λ b. c.loop-id.files.items ++ (if b && not (bytes_eq (name_text table id) out) then named_file table id ∷ [] else []))
+    ∙ ap (λ b. c.loop-id.files.items ++ (if b && not (bytes_eq (name_with_number table id) out) then named_file table id ∷ [] else []))
     (get_or_default c.args.expandable.now id _ false room ∙ c.requires.flags id room ∙ ap (is_expandable (shapes web table)) (title_inside table.names id low))
     ∙ ap (λ l. l ++ (if is_written web table out id then named_file table id ∷ [] else [])) c.loop-id.invariant
     ∙ append_assoc (main_file web table out) (map (named_file table) (filter (is_written web table out) (take i xs))) (if is_written web table out id then named_file table id ∷ [] else [])

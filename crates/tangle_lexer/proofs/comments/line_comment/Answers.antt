@@ -1,8 +1,8 @@
 use Rattle.std.proofs.Common.{refl, ap, sym, ◌∙◌, append_assoc}
-use Rattle.tangle_lexer.specs.declared.regions.Region.TheVariants as region
-use Rattle.tangle_lexer.specs.Regions.{region_end}
+use Rattle.tangle_text.specs.declared.regions.Region.TheVariants as region
+use Rattle.tangle_text.specs.Regions.{region_end}
 use Rattle.tangle_lexer.specs.Comments.{starts_section}
-use Rattle.tangle_lexer.proofs.lemmas.RegionLemmas.{behind-two, mid-is}
+use Rattle.tangle_lexer.proofs.lemmas.OpenedRegions.{behind-two, mid-is}
 use Rattle.tangle_lexer.proofs.comments.line_comment.Goals as goal
 
 pub returns-in_ok-push-2 : goal.returns-in_ok-push-2

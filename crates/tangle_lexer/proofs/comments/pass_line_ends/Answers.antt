@@ -1,10 +1,11 @@
 use Rattle.std.proofs.Common.{ap, sym, ◌∙◌, append-nil, append_assoc, ◌++◌}
-use Rattle.tangle_lexer.specs.Regions.{region_end}
+use Rattle.tangle_text.specs.Regions.{region_end}
 use Rattle.tangle_lexer.specs.Lexemes.{include_over}
 use Rattle.tangle_lexer.specs.Comments.{line_ends, unit_line_end}
-use Rattle.tangle_lexer.proofs.lemmas.RegionLemmas.{unit_at-front, region_end-nothing, region_end-stop, region_end-go}
+use Rattle.tangle_text.proofs.RegionLemmas.{unit_at-front, region_end-nothing, region_end-stop, region_end-go}
 use Rattle.tangle_lexer.proofs.lemmas.LexemeLemmas.{from_units-go, from_units-stop, include_over-append}
-use Rattle.tangle_lexer.proofs.lemmas.OrdinaryLemmas.{region_end-ordinary, line_ends-ordinary}
+use Rattle.tangle_lexer.proofs.lemmas.OrdinaryLemmas.{line_ends-ordinary}
+use Rattle.tangle_text.proofs.OrdinaryBytes.{region_end-ordinary}
 use Rattle.tangle_lexer.proofs.comments.pass_line_ends.Goals as goal
 
 pub returns-in-Stop-clause-ahead : goal.returns-in-Stop-clause-ahead

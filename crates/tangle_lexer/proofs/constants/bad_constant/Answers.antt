@@ -1,9 +1,9 @@
 use Rattle.std.proofs.Common.{drop, ap, sym, ◌∙◌, refl, append_assoc}
-use Rattle.tangle_lexer.specs.declared.regions.Region.TheVariants as region
-use Rattle.tangle_lexer.specs.Bytes.{holds, apostrophe}
-use Rattle.tangle_lexer.specs.Text.{byte_at}
-use Rattle.tangle_lexer.specs.Regions.{region_end}
-use Rattle.tangle_lexer.proofs.lemmas.RegionLemmas.{mid-is, behind-if}
+use Rattle.tangle_text.specs.declared.regions.Region.TheVariants as region
+use Rattle.tangle_text.specs.Bytes.{holds, apostrophe}
+use Rattle.tangle_text.specs.Text.{byte_at}
+use Rattle.tangle_text.specs.Regions.{region_end}
+use Rattle.tangle_lexer.proofs.lemmas.OpenedRegions.{mid-is, behind-if}
 use Rattle.tangle_lexer.proofs.constants.bad_constant.Goals as goal
 
 pub returns-then-holds : goal.returns-then-holds

@@ -18,27 +18,27 @@ returns-in-Some-pop_head-clause-no_head c =
     taken-none _ _ _ _ c.in-Some-pop_head.head c.loop-front.invariant.no_head (lexeme-alone c.loop-front.state c.loop-front.ahead)
     c.in_ok-state.ensures.read.tokens c.in-Some-pop_head.ensures.0 c.in-Some-pop_head.ensures.1
 
-pub returns-in-Some-pop_head-clause-names : goal.returns-in-Some-pop_head-clause-names
-returns-in-Some-pop_head-clause-names c =
-    step-names c.args.source.now.lines _ _ _ _ c.loop-front.state _ c.loop-front.ahead _ c.in-Some.ensures.front.inside c.in_ok-state.ensures.read c.in_ok-state.ensures.names ∙ c.loop-front.invariant.names
+pub returns-in-Some-pop_head-clause-occurrences : goal.returns-in-Some-pop_head-clause-occurrences
+returns-in-Some-pop_head-clause-occurrences c =
+    step-names c.args.source.now.lines _ _ _ _ c.loop-front.state _ c.loop-front.ahead _ c.in-Some.ensures.front.inside c.in_ok-state.ensures.read c.in_ok-state.ensures.occurrences ∙ c.loop-front.invariant.occurrences
 
 pub returns-in-Some-pop_head-clause-count : goal.returns-in-Some-pop_head-clause-count
 returns-in-Some-pop_head-clause-count c =
-    step-count c.args.source.now.lines _ _ _ _ c.loop-front.state _ c.loop-front.ahead _ c.in_ok-state.ensures.read c.in_ok-state.ensures.names c.loop-front.invariant.count
+    step-count c.args.source.now.lines _ _ _ _ c.loop-front.state _ c.loop-front.ahead _ c.in_ok-state.ensures.read c.in_ok-state.ensures.occurrences c.loop-front.invariant.count
 
 pub loop-front-preserved : goal.loop-front-preserved
 loop-front-preserved c =
     let inside = c.in-Some.ensures.front.inside in
     let read = c.in_ok-state.ensures.read in
-    let adds = c.in_ok-state.ensures.names in
+    let adds = c.in_ok-state.ensures.occurrences in
     let kept = c.in_default-pop_head.ensures in
     let simple = c.in_ok-state-2.ensures in
     let step = step-tokens _ _ c.loop-front.state _ c.loop-front.ahead _ inside read in
     record {
       tokens = simple.tokens ∙ (ap (λ es. es ++ tokens_from c.in_ok-state.state c.step.new.ahead) kept.0 ∙ (step ∙ c.loop-front.invariant.tokens));
       no_head = simple.no_head (ap (list_any is_head) kept.0 ∙ kept-none _ _ _ c.loop-front.invariant.no_head (lexeme-alone c.loop-front.state c.loop-front.ahead) read.tokens kept.1);
-      names = ap (λ ns. c.step.new.output.occurrences.items ++ map (occurrence_of c.args.source.now.lines) ns) simple.names
-          ∙ (step-names c.args.source.now.lines _ _ _ _ c.loop-front.state _ c.loop-front.ahead _ inside read adds ∙ c.loop-front.invariant.names);
+      occurrences = ap (λ ns. c.step.new.output.occurrences.items ++ map (occurrence_of c.args.source.now.lines) ns) simple.occurrences
+          ∙ (step-names c.args.source.now.lines _ _ _ _ c.loop-front.state _ c.loop-front.ahead _ inside read adds ∙ c.loop-front.invariant.occurrences);
       count = simple.count ∙ step-count c.args.source.now.lines _ _ _ _ c.loop-front.state _ c.loop-front.ahead _ read adds c.loop-front.invariant.count;
       shorter = omega (arith, simple.shorter, step-shorter _ _ c.loop-front.state _ c.loop-front.ahead _ inside read, c.loop-front.invariant.shorter);
     }

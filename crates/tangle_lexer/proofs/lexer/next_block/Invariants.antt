@@ -9,7 +9,7 @@ abbrev pub invariant-loop-front : goal.invariant-loop-front
 invariant-loop-front l = record {
   tokens : l.output.tokens.items ++ tokens_from l.state l.ahead ≡ tokens_from l.fn.from l.fn.ahead;
   no_head : list_any is_head l.output.tokens.items ≡ false;
-  names : l.output.occurrences.items ++ map (occurrence_of l.source.lines) (occurrences_from l.state l.ahead)
+  occurrences : l.output.occurrences.items ++ map (occurrence_of l.source.lines) (occurrences_from l.state l.ahead)
       ≡ l.fn.output.occurrences.items ++ map (occurrence_of l.source.lines) (occurrences_from l.fn.from l.fn.ahead);
   count : l.state.occurrences ≡ length l.output.occurrences.items;
   shorter : length l.ahead ≤ length l.fn.ahead;

@@ -1,7 +1,7 @@
 use Rattle.std.proofs.Common.{◌≡◌, false, drop, ap, sym, ◌∙◌, refl}
 use Rattle.tangle_lexer.specs.declared.names.Equals.{Equals}
 use Rattle.tangle_lexer.specs.declared.names.Equals.TheVariants as equals
-use Rattle.tangle_lexer.specs.Text.{byte_at}
+use Rattle.tangle_text.specs.Text.{byte_at}
 use Rattle.tangle_lexer.specs.Names.{count_before_equals, equals_by, equals_in, is_single}
 use Rattle.tangle_lexer.proofs.lemmas.NameLemmas.{equals-further}
 use Rattle.tangle_lexer.proofs.names.has_single_equals.Goals as goal

@@ -1,5 +1,5 @@
 use Rattle.std.proofs.Common.{◌+◌, Some, drop, ap, sym, ◌∙◌, refl, arith, drop-drop}
-use Rattle.tangle_lexer.specs.Text.{byte_at, line_at}
+use Rattle.tangle_text.specs.Text.{byte_at, line_at}
 use Rattle.tangle_lexer.specs.Names.{count_before_equals, equals_by}
 use Rattle.tangle_lexer.proofs.lemmas.NameLemmas.{equals-further}
 use Rattle.tangle_lexer.proofs.names.pass_head.Goals as goal

@@ -1,4 +1,4 @@
-use Rattle.std.proofs.Common.{◌≡◌, ◌++◌, ◌∙◌, ◌∷◌, ◌+◌, List, ℕ, drop, ap, sym, drop-cons, add-one}
+use Rattle.std.proofs.Common.{◌≡◌, ◌++◌, ◌∙◌, ◌∷◌, ◌+◌, drop, ap, sym, drop-cons, add-one}
 use Rattle.std.specs.Prelude.{slice_index_or}
 use Rattle.tangle_lexer.specs.Names.{with_single_spaces, has_begun}
 use Rattle.tangle_lexer.proofs.names.push_bytes.Goals as goal

@@ -1,5 +1,5 @@
 use Rattle.std.proofs.Common.{◌∷◌, ◌∙◌}
-use Rattle.tangle_lexer.specs.Names.{name_byte}
+use Rattle.tangle_text.specs.NameBytes.{name_byte}
 use Rattle.tangle_lexer.proofs.names.push_unit.Goals as goal
 
 pub returns-in_ok-white-in-Two-2 : goal.returns-in_ok-white-in-Two-2

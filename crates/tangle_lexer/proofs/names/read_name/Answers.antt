@@ -1,7 +1,7 @@
 use Rattle.std.proofs.Common.{ap, ◌∙◌}
-use Rattle.tangle_lexer.specs.declared.regions.Region.TheVariants as region
-use Rattle.tangle_lexer.specs.Text.{line_at}
-use Rattle.tangle_lexer.specs.Regions.{region_end}
+use Rattle.tangle_text.specs.declared.regions.Region.TheVariants as region
+use Rattle.tangle_text.specs.Text.{line_at}
+use Rattle.tangle_text.specs.Regions.{region_end}
 use Rattle.tangle_lexer.specs.Comments.{has_end_code}
 use Rattle.tangle_lexer.proofs.lemmas.NameLemmas.{name_end-is, behind-is}
 use Rattle.tangle_lexer.proofs.names.read_name.Goals as goal

@@ -1,8 +1,9 @@
 use Rattle.std.proofs.Common.{◌++◌, drop, ap, sym, ◌∙◌, append-nil}
-use Rattle.tangle_lexer.specs.declared.regions.Region.TheVariants as region
-use Rattle.tangle_lexer.specs.Regions.{region_end, from_units, more_by}
-use Rattle.tangle_lexer.specs.Names.{with_single_spaces, has_begun, name_bytes}
-use Rattle.tangle_lexer.proofs.lemmas.RegionLemmas.{unit_at-front, region_end-nothing, region_end-stop, region_end-go}
+use Rattle.tangle_text.specs.declared.regions.Region.TheVariants as region
+use Rattle.tangle_text.specs.Regions.{region_end, from_units, more_by}
+use Rattle.tangle_lexer.specs.Names.{with_single_spaces, has_begun}
+use Rattle.tangle_text.specs.NameBytes.{name_bytes}
+use Rattle.tangle_text.proofs.RegionLemmas.{unit_at-front, region_end-nothing, region_end-stop, region_end-go}
 use Rattle.tangle_lexer.proofs.lemmas.LexemeLemmas.{from_units-go, from_units-stop}
 use Rattle.tangle_lexer.proofs.names.read_text.Goals as goal
 

@@ -1,7 +1,8 @@
 use Rattle.std.proofs.Common.{◌≡◌, ◌++◌, length, false}
-use Rattle.tangle_lexer.specs.declared.regions.Region.TheVariants as region
-use Rattle.tangle_lexer.specs.Regions.{region_end, from_units}
-use Rattle.tangle_lexer.specs.Names.{with_single_spaces, has_begun, name_bytes}
+use Rattle.tangle_text.specs.declared.regions.Region.TheVariants as region
+use Rattle.tangle_text.specs.Regions.{region_end, from_units}
+use Rattle.tangle_lexer.specs.Names.{with_single_spaces, has_begun}
+use Rattle.tangle_text.specs.NameBytes.{name_bytes}
 use Rattle.tangle_lexer.proofs.names.read_text.Given as goal
 
 abbrev pub invariant-loop-front : goal.invariant-loop-front

@@ -1,8 +1,8 @@
 use Rattle.std.proofs.Common.{drop, ap, sym, ◌∙◌}
-use Rattle.tangle_lexer.specs.declared.regions.Region.TheVariants as region
-use Rattle.tangle_lexer.specs.Bytes.{holds, plus_sign}
-use Rattle.tangle_lexer.specs.Text.{byte_at}
-use Rattle.tangle_lexer.specs.Regions.{region_end}
+use Rattle.tangle_text.specs.declared.regions.Region.TheVariants as region
+use Rattle.tangle_text.specs.Bytes.{holds, plus_sign}
+use Rattle.tangle_text.specs.Text.{byte_at}
+use Rattle.tangle_text.specs.Regions.{region_end}
 use Rattle.tangle_lexer.proofs.lemmas.NameLemmas.{plus-further, no_plus-further}
 use Rattle.tangle_lexer.proofs.names.skip_to_equals.Goals as goal
 

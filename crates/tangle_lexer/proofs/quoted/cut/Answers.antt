@@ -1,9 +1,10 @@
 use Rattle.std.proofs.Common.{ap, sym, ◌∙◌, append_assoc, ◌++◌}
-use Rattle.tangle_lexer.specs.Regions.{region_end}
-use Rattle.tangle_lexer.proofs.lemmas.RegionLemmas.{unit_at-front, region_end-nothing, region_end-stop, region_end-go}
+use Rattle.tangle_text.specs.Regions.{region_end}
+use Rattle.tangle_text.proofs.RegionLemmas.{unit_at-front, region_end-nothing, region_end-stop, region_end-go}
 use Rattle.tangle_lexer.proofs.lemmas.CutLemmas.{cut-go, cut-stop, cut-nothing}
 use Rattle.tangle_lexer.specs.Quoted.{cut_tokens}
-use Rattle.tangle_lexer.proofs.lemmas.OrdinaryLemmas.{region_end-ordinary, cut-ordinary}
+use Rattle.tangle_lexer.proofs.lemmas.OrdinaryLemmas.{cut-ordinary}
+use Rattle.tangle_text.proofs.OrdinaryBytes.{region_end-ordinary}
 use Rattle.tangle_lexer.proofs.quoted.cut.Goals as goal
 
 pub returns-in-Stop-clause-ahead : goal.returns-in-Stop-clause-ahead

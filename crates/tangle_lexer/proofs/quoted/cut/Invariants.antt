@@ -1,7 +1,7 @@
 use Rattle.std.proofs.Common.{◌≡◌, ◌++◌, ℕ, List, length}
 use Rattle.tangle_lexer.specs.declared.tokens.Token.{Token}
-use Rattle.tangle_lexer.specs.Text.{Cell}
-use Rattle.tangle_lexer.specs.Regions.{region_end}
+use Rattle.tangle_text.specs.Text.{Cell}
+use Rattle.tangle_text.specs.Regions.{region_end}
 use Rattle.tangle_lexer.specs.Quoted.{cut_tokens}
 use Rattle.tangle_lexer.proofs.quoted.cut.Given as goal
 

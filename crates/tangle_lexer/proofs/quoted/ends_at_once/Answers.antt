@@ -1,5 +1,5 @@
 use Rattle.std.proofs.Common.{sym, ◌∙◌}
-use Rattle.tangle_lexer.proofs.lemmas.RegionLemmas.{unit_at-front}
+use Rattle.tangle_text.proofs.RegionLemmas.{unit_at-front}
 use Rattle.tangle_lexer.proofs.lemmas.CutLemmas.{at_once-stop, at_once-go}
 use Rattle.tangle_lexer.proofs.quoted.ends_at_once.Goals as goal
 

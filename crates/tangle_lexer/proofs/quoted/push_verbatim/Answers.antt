@@ -1,5 +1,5 @@
 use Rattle.std.proofs.Common.{sym, ◌∙◌}
-use Rattle.tangle_lexer.specs.declared.regions.Region.TheVariants as region
+use Rattle.tangle_text.specs.declared.regions.Region.TheVariants as region
 use Rattle.tangle_lexer.proofs.lemmas.CutLemmas.{at_once-end}
 use Rattle.tangle_lexer.proofs.quoted.push_verbatim.Goals as goal
 

@@ -1,7 +1,7 @@
 use Rattle.std.proofs.Common.{refl, ap, ◌∙◌, drop}
-use Rattle.tangle_lexer.specs.Bytes.{holds}
-use Rattle.tangle_lexer.specs.Text.{byte_at}
-use Rattle.tangle_lexer.specs.Regions.{region_end}
+use Rattle.tangle_text.specs.Bytes.{holds}
+use Rattle.tangle_text.specs.Text.{byte_at}
+use Rattle.tangle_text.specs.Regions.{region_end}
 use Rattle.tangle_lexer.specs.Quoted.{one_if, quote_end}
 use Rattle.tangle_lexer.proofs.lemmas.CutLemmas.{drop-end}
 use Rattle.tangle_lexer.proofs.quoted.quoted_text.Goals as goal

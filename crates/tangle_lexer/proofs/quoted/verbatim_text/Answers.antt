@@ -1,8 +1,8 @@
 use Rattle.std.proofs.Common.{refl, ap, sym, ◌∙◌}
-use Rattle.tangle_lexer.specs.declared.regions.Region.TheVariants as region
-use Rattle.tangle_lexer.specs.Regions.{region_end}
+use Rattle.tangle_text.specs.declared.regions.Region.TheVariants as region
+use Rattle.tangle_text.specs.Regions.{region_end}
 use Rattle.tangle_lexer.specs.Comments.{has_end_code}
-use Rattle.tangle_lexer.proofs.lemmas.RegionLemmas.{drop-two, closed-ahead, open-ahead}
+use Rattle.tangle_lexer.proofs.lemmas.OpenedRegions.{drop-two, closed-ahead, open-ahead}
 use Rattle.tangle_lexer.proofs.quoted.verbatim_text.Goals as goal
 
 pub returns-then-has_end_code : goal.returns-then-has_end_code

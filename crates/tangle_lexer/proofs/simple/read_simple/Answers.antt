@@ -18,7 +18,7 @@ loop-simple-preserved c =
       tokens = step-tokens _ _ state _ c.loop-simple.here _ here.inside read ∙ before.tokens;
       no_head = λ none. ap (list_any is_head) simple.tokens
           ∙ no_head-append c.loop-simple.tokens.items _ (before.no_head none) (simple-no_head c.in-Some.simple state c.loop-simple.here);
-      names = simple-occurrences_from _ _ state _ c.loop-simple.here _ c.in-Some.simple here before.mode simple ∙ before.names;
+      occurrences = simple-occurrences_from _ _ state _ c.loop-simple.here _ c.in-Some.simple here before.mode simple ∙ before.occurrences;
       shorter = omega (arith, step-shorter _ _ state _ c.loop-simple.here _ here.inside read, before.shorter);
       mode = before.mode;
     }

@@ -10,7 +10,7 @@ abbrev pub invariant-loop-simple : goal.invariant-loop-simple
 invariant-loop-simple l = record {
   tokens : l.tokens.items ++ tokens_from (with_include l.include l.fn.from) l.here ≡ l.fn.tokens.items ++ tokens_from l.fn.from l.fn.ahead;
   no_head : list_any is_head l.fn.tokens.items ≡ false → list_any is_head l.tokens.items ≡ false;
-  names : occurrences_from (with_include l.include l.fn.from) l.here ≡ occurrences_from l.fn.from l.fn.ahead;
+  occurrences : occurrences_from (with_include l.include l.fn.from) l.here ≡ occurrences_from l.fn.from l.fn.ahead;
   shorter : length l.here ≤ length l.fn.ahead;
   mode : is_c_text l.fn.from.mode ≡ true;
 }

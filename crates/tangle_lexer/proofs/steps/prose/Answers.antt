@@ -1,7 +1,7 @@
 use Rattle.std.proofs.Common.{drop, ap, ◌∙◌}
-use Rattle.tangle_lexer.specs.declared.regions.Region.TheVariants as region
-use Rattle.tangle_lexer.specs.Regions.{region_end}
-use Rattle.tangle_lexer.proofs.lemmas.RegionLemmas.{region_end-is}
+use Rattle.tangle_text.specs.declared.regions.Region.TheVariants as region
+use Rattle.tangle_text.specs.Regions.{region_end}
+use Rattle.tangle_text.proofs.RegionLemmas.{region_end-is}
 use Rattle.tangle_lexer.proofs.steps.prose.Goals as goal
 
 pub returns : goal.returns

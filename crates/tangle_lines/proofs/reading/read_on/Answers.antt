@@ -1,19 +1,19 @@
 use Rattle.std.proofs.Common.{arith, ◌+◌, ◌≤◌, ◌<◌, ◌∷◌, [], ◌++◌, List, ap, sym, ◌∙◌}
-use Rattle.tangle_lines.specs.declared.faults.FaultKind.TheVariants.{SourceTooLong}
-use Rattle.tangle_lines.specs.Faults.{FaultRead, fault_at}
+use Rattle.tangle_faults.specs.declared.faults.FaultKind.TheVariants.{SourceTooLong}
+use Rattle.tangle_faults.specs.Faults.{FaultRead, fault_at}
 use Rattle.tangle_lines.specs.Reading.{WaitingLine, Line, Reads, named, reads_from, before_reads, line_limit}
 use Rattle.tangle_lines.proofs.ReadingLemmas.{at, so_far-end, so_far-stop, so_far-plain, so_far-used}
 use Rattle.tangle_lines.proofs.reading.read_on.Goals as goal
 
 pub returns-then-taken-ge-LINE_LIMIT-clause-read : goal.returns-then-taken-ge-LINE_LIMIT-clause-read
 returns-then-taken-ge-LINE_LIMIT-clause-read c =
-    let place = ap (λ (r : WaitingLine). r.place) c.line.view_is in
+    let origin = ap (λ (r : WaitingLine). r.origin) c.line.view_is in
     let read : List Line = c.loop-line.lines.items in
     let noted : List FaultRead = c.loop-line.faults.items in
     so_far-stop c.args.files.now c.args.change_file _ _ _ _ _ _ c.loop-line.invariant.read c.in-Some.line c.take.new.self c.in-Some.ensures.front c.if-taken-ge-LINE_LIMIT.true
     ∙ ap (λ (fs : List FaultRead). let r : Reads = record { lines = read; faults = fs } in r)
-    (ap (λ p. noted ++ fault_at SourceTooLong (named c.args.files.now p) ∷ []) (sym place)
-    ∙ ap (λ n. noted ++ fault_at SourceTooLong (record { file = n; line = c.line.inside.place.line }) ∷ []) (sym c.name_at-file.ensures)
+    (ap (λ p. noted ++ fault_at SourceTooLong (named c.args.files.now p) ∷ []) (sym origin)
+    ∙ ap (λ n. noted ++ fault_at SourceTooLong (record { file = n; line = c.line.inside.origin.line }) ∷ []) (sym c.name_at-file.ensures)
     ∙ sym c.in_ok-note.ensures)
 
 pub loop-line-preserved-in-Some-change_at : goal.loop-line-preserved-in-Some-change_at

@@ -4,12 +4,12 @@ use Rattle.tangle_names.specs.Names.{Text, One}
 use Rattle.tangle_names.specs.Resolving.{resolution}
 use Rattle.tangle_names.specs.Faults.{begins_another}
 use Rattle.tangle_names.specs.Numbers.{key_texts, is_number}
-use Rattle.tangle_names.specs.Sorted.{texts_of}
+use Rattle.tangle_names.specs.Sorted.{borrowed_names}
 use Rattle.tangle_names.proofs.beginnings.beginnings.Given as goal
 
-abbrev pub invariant-loop-place : goal.invariant-loop-place
-invariant-loop-place l = record {
+abbrev pub invariant-loop-position : goal.invariant-loop-position
+invariant-loop-position l = record {
   size : length l.begins.items ≡ length l.names.keys;
   begins : (id : ℕ) → id < length l.names.keys → get_or l.begins.items id false
-      ≡ list_any (λ (t : Text). begins_another (texts_of l.sorted) t && is_number id (resolution (key_texts l.names.keys) (One t))) (take l.place (texts_of l.sorted));
+      ≡ list_any (λ (t : Text). begins_another (borrowed_names l.sorted) t && is_number id (resolution (key_texts l.names.keys) (One t))) (take l.position (borrowed_names l.sorted));
 }

@@ -1,8 +1,8 @@
 use Rattle.std.proofs.Common.{arith, ap, sym, ◌∙◌, false}
 use Rattle.std.proofs.lemmas.List.{drop_all}
 use Rattle.std.specs.List.{list_any}
-use Rattle.tangle_lines.specs.Reading.{place_at}
-use Rattle.tangle_scan.specs.Rules.{items_by_place, blanks}
+use Rattle.tangle_lines.specs.Reading.{origin_at}
+use Rattle.tangle_scan.specs.Rules.{items_by_origin, blanks}
 use Rattle.tangle_scan.specs.Passes.{is_rare, items_ahead}
 use Rattle.tangle_scan.proofs.lemmas.LayingLemmas.{laid-end}
 use Rattle.tangle_scan.proofs.lemmas.SpacingLemmas.{unchanged-stays}
@@ -16,6 +16,6 @@ returns-clause-items c = λ rare.
     let done = drop_all c.loop-token.token-index tokens (omega arith) in
     let none = sym c.loop-token.invariant.rare ∙ ap (list_any is_rare) done in
     laid-end lines c.loop-token.at _ _ _ done c.loop-token.invariant.rest
-    ∙ (ap (λ place. items_by_place lines place (blanks false false tokens)) c.count_on.ensures.place
-    ∙ ap (λ es. items_by_place lines (place_at lines c.args.line) (blanks false false es))
+    ∙ (ap (λ origin. items_by_origin lines origin (blanks false false tokens)) c.count_on.ensures.origin
+    ∙ ap (λ es. items_by_origin lines (origin_at lines c.args.line) (blanks false false es))
     (unchanged-stays tokens none))

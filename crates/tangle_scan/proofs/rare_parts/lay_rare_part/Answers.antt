@@ -13,5 +13,5 @@ returns c =
     let done = drop_all c.loop-token.token-index tokens (omega arith) in
     laid-end lines c.loop-token.at c.loop-token.items.items _ _ done c.loop-token.invariant.rest
     ∙ (laid-begin lines c.clear.new.self.items _ tokens c.clear.ensures.items
-    ∙ (ap (λ place. laid lines last.Front place tokens) c.count_on-count.ensures.place
+    ∙ (ap (λ origin. laid lines last.Front origin tokens) c.count_on-count.ensures.origin
     ∙ part-laid lines c.args.line tokens))

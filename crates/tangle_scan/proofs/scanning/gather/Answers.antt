@@ -1,7 +1,7 @@
 use Rattle.std.proofs.Common.{◌≡◌, ◌∷◌, [], ◌++◌, ◌∙◌, sym, ap, arith, map, length, append_assoc, append-nil, option_to_list, List, Option, None, Some}
 use Rattle.std.specs.Option.{IfNone}
 use Rattle.tangle_lexer.specs.declared.tokens.Token.{Token}
-use Rattle.tangle_lexer.specs.Text.{Cell}
+use Rattle.tangle_text.specs.Text.{Cell}
 use Rattle.tangle_lexer.specs.Steps.{tokens_from, occurrences_from, at_first}
 use Rattle.tangle_lexer.specs.Occurrences.{occurrence_of}
 use Rattle.tangle_scan.specs.Gathering.{nothing, gathering_with}
@@ -27,7 +27,7 @@ loop-front-init c =
       gathering = ap (λ g. gathering_with source g ahead) added ∙ (front
           ∙ (ap (λ s. gathering_with source nothing (tokens_from s c.new-ahead.result)) first
           ∙ ap (λ text. gathering_with source nothing (tokens_from (at_first (length source.lines)) text)) c.new-ahead.ensures));
-      names = read.names ∙ (ap (λ ns. ns ++ map (occurrence_of source.lines) (occurrences_from c.first_state-first.result c.new-ahead.result)) c.new-2.ensures.items
+      occurrences = read.occurrences ∙ (ap (λ ns. ns ++ map (occurrence_of source.lines) (occurrences_from c.first_state-first.result c.new-ahead.result)) c.new-2.ensures.items
           ∙ (ap (λ s. map (occurrence_of source.lines) (occurrences_from s c.new-ahead.result)) first
           ∙ ap (λ text. map (occurrence_of source.lines) (occurrences_from (at_first (length source.lines)) text)) c.new-ahead.ensures));
       room = omega (
@@ -56,7 +56,7 @@ loop-front-preserved c =
       end = read.end;
       gathering = ap (λ g. gathering_with source g ahead) added ∙ (part
           ∙ (ap (λ f. gathering_with source before.gathering (option_to_list f ++ tokens_from before.state before.ahead)) (sym c.in-Some.is) ∙ before.invariant.gathering));
-      names = read.names ∙ before.invariant.names;
+      occurrences = read.occurrences ∙ before.invariant.occurrences;
       room = omega (
         arith,
         c.in_ok-add_block.ensures.sections,
@@ -80,11 +80,11 @@ returns-clause-gathering c =
     ∙ (ap (gathering_with source end.gathering) (tokens-end end.state) ∙ gathering-nothing source end.gathering)))
     ∙ end.invariant.gathering
 
-pub returns-clause-names : goal.returns-clause-names
-returns-clause-names c =
+pub returns-clause-occurrences : goal.returns-clause-occurrences
+returns-clause-occurrences c =
     let lines = c.args.source.now.lines in
     let end = c.loop-front in
     let ahead = nothing-ahead end.front end.ahead end.invariant.end c.in_default.is in
     let none : map (occurrence_of lines) (occurrences_from end.state end.ahead) ≡ [] =
     ap (λ text. map (occurrence_of lines) (occurrences_from end.state text)) ahead ∙ ap (map (occurrence_of lines)) (names-end end.state) in
-    sym (append-nil end.output.occurrences.items) ∙ (ap (λ ns. end.output.occurrences.items ++ ns) (sym none) ∙ end.invariant.names)
+    sym (append-nil end.output.occurrences.items) ∙ (ap (λ ns. end.output.occurrences.items ++ ns) (sym none) ∙ end.invariant.occurrences)

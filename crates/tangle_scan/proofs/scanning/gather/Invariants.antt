@@ -1,6 +1,6 @@
 use Rattle.std.proofs.Common.{◌≡◌, ◌≤◌, ◌+◌, ◌++◌, [], true, length, map, option_to_list}
 use Rattle.std.specs.Option.{IfSome, IfNone}
-use Rattle.tangle_lexer.specs.Text.{text_from}
+use Rattle.tangle_text.specs.Text.{text_from}
 use Rattle.tangle_lexer.specs.Steps.{tokens_from, occurrences_from, all_tokens, all_occurrences}
 use Rattle.tangle_lexer.specs.Heads.{is_head}
 use Rattle.tangle_lexer.specs.Occurrences.{occurrence_of}
@@ -13,7 +13,7 @@ invariant-loop-front l = record {
   head : IfSome l.front (λ head. is_head head ≡ true);
   end : IfNone l.front (l.ahead ≡ []);
   gathering : gathering_with l.source l.gathering (option_to_list l.front ++ tokens_from l.state l.ahead) ≡ gathering_with l.source nothing (all_tokens l.source.lines);
-  names : l.output.occurrences.items ++ map (occurrence_of l.source.lines) (occurrences_from l.state l.ahead) ≡ map (occurrence_of l.source.lines) (all_occurrences l.source.lines);
+  occurrences : l.output.occurrences.items ++ map (occurrence_of l.source.lines) (occurrences_from l.state l.ahead) ≡ map (occurrence_of l.source.lines) (all_occurrences l.source.lines);
   room : l.gathering.sections + (length (option_to_list l.front) + length l.ahead) ≤ length (text_from 0 l.source.lines);
 }
 

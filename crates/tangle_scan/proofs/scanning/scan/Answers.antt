@@ -11,17 +11,17 @@ web-well-formed : (source : SourceRead) → IsWellFormed (web_of source)
 web-well-formed source = record { spans = web-in-range source; names = names-in-range source }
 
 pub gather-requires : goal.gather-requires
-gather-requires c = omega (arith, c.byte_count.ensures)
+gather-requires c = omega (arith, c.text_is_short.ensures)
 
 pub new-requires : goal.new-requires
 new-requires c =
     let gathering = c.in_ok-gathering.ensures in
-    rw (web-whole c.args.source.now _ _ gathering.gathering gathering.names) (web-well-formed c.args.source.now)
+    rw (web-whole c.args.source.now _ _ gathering.gathering gathering.occurrences) (web-well-formed c.args.source.now)
 
 pub returns-clause-web : goal.returns-clause-web
 returns-clause-web c =
     let gathering = c.in_ok-gathering.ensures in
-    c.new.ensures ∙ web-whole c.args.source.now _ _ gathering.gathering gathering.names
+    c.new.ensures ∙ web-whole c.args.source.now _ _ gathering.gathering gathering.occurrences
 
 pub returns-clause-well_formed : goal.returns-clause-well_formed
 returns-clause-well_formed c = rw (returns-clause-web c) (web-well-formed c.args.source.now)

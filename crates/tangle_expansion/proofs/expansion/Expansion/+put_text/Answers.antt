@@ -1,5 +1,5 @@
 use Rattle.std.proofs.Common.{refl, arith, drop}
-use Rattle.tangle_expansion.specs.Meaning.{title_of}
+use Rattle.tangle_plans.specs.Meaning.{title_of}
 use Rattle.tangle_expansion.proofs.PutLemmas.{wrote_at_first, wrote_more, wrote_all}
 use Rattle.tangle_expansion.proofs.PlanLemmas.{text_some, text_none}
 use Rattle.tangle_expansion.proofs.expansion.Expansion.+put_text.Goals as goal

@@ -1,5 +1,5 @@
 use Rattle.std.proofs.Common.{drop}
-use Rattle.tangle_expansion.specs.Meaning.{title_of, plan_flat}
+use Rattle.tangle_plans.specs.Meaning.{title_of, plan_flat}
 use Rattle.tangle_expansion.specs.Numbers.{text}
 use Rattle.tangle_expansion.proofs.PutLemmas.{Wrote}
 use Rattle.tangle_expansion.proofs.expansion.Expansion.+put_text.Given as goal

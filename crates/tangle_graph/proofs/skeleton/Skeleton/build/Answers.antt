@@ -8,57 +8,57 @@ use Rattle.digraph.specs.Order.{IsOrder}
 use Rattle.digraph.specs.Reach.{ContainsItself, ReachesCycle}
 use Rattle.digraph.specs.Rows.{IsConverse, IsOnceEach}
 use Rattle.digraph.proofs.GraphLemmas.{rows_size}
-use Rattle.tangle_expansion.specs.NodeBodies.{node_uses}
-use Rattle.tangle_expansion.specs.declared.expansion.NodeBody.{NodeBody}
+use Rattle.tangle_plans.specs.NodeBodies.{node_uses}
+use Rattle.tangle_plans.specs.declared.nodes.NodeBody.{NodeBody}
 use Rattle.tangle_graph.specs.Nodes.{node_at}
 use Rattle.tangle_graph.specs.Plans.{node_bodies}
 use Rattle.tangle_graph.proofs.SkeletonLemmas.{each_increasing, once_in_range}
 use Rattle.tangle_graph.proofs.skeleton.Skeleton.build.Goals as goal
 
-texts_size : (texts : List (Rc NodeBody Global)) (count : ℕ) → length texts ≡ count + 1 → length (node_bodies texts) ≡ count + 1
-texts_size texts count size = length-map texts (λ (t : Rc NodeBody Global). t.value) ∙ size
+bodies_size : (bodies : List (Rc NodeBody Global)) (count : ℕ) → length bodies ≡ count + 1 → length (node_bodies bodies) ≡ count + 1
+bodies_size bodies count size = length-map bodies (λ (t : Rc NodeBody Global). t.value) ∙ size
 
 pub users-requires-clause-range : goal.users-requires-clause-range
 users-requires-clause-range c =
     let count = length c.args.table.now.names in
-    once_in_range (node_bodies c.args.texts.now) count c.in_ok-rows.rows.items c.all_once.new.rows.items c.deref-uses.result.now c.in_ok-rows.ensures
-    (texts_size c.args.texts.now count c.requires.size) c.requires.inside c.all_once.ensures.range c.deref-uses.ensures.value
+    once_in_range (node_bodies c.args.bodies.now) count c.in_ok-rows.rows.items c.all_once.new.rows.items c.deref-uses.result.now c.in_ok-rows.ensures
+    (bodies_size c.args.bodies.now count c.requires.size) c.requires.inside c.all_once.ensures.range c.deref-uses.ensures.value
 
 pub order-requires : goal.order-requires
 order-requires c =
     let count = length c.args.table.now.names in
-    once_in_range (node_bodies c.args.texts.now) count c.in_ok-rows.rows.items c.all_once.new.rows.items c.deref-uses.result.now c.in_ok-rows.ensures
-    (texts_size c.args.texts.now count c.requires.size) c.requires.inside c.all_once.ensures.range c.deref-uses.ensures.value
+    once_in_range (node_bodies c.args.bodies.now) count c.in_ok-rows.rows.items c.all_once.new.rows.items c.deref-uses.result.now c.in_ok-rows.ensures
+    (bodies_size c.args.bodies.now count c.requires.size) c.requires.inside c.all_once.ensures.range c.deref-uses.ensures.value
 
 pub self_containing-requires : goal.self_containing-requires
 self_containing-requires c =
     let count = length c.args.table.now.names in
-    once_in_range (node_bodies c.args.texts.now) count c.in_ok-rows.rows.items c.all_once.new.rows.items c.deref-uses.result.now c.in_ok-rows.ensures
-    (texts_size c.args.texts.now count c.requires.size) c.requires.inside c.all_once.ensures.range c.deref-uses.ensures.value
+    once_in_range (node_bodies c.args.bodies.now) count c.in_ok-rows.rows.items c.all_once.new.rows.items c.deref-uses.result.now c.in_ok-rows.ensures
+    (bodies_size c.args.bodies.now count c.requires.size) c.requires.inside c.all_once.ensures.range c.deref-uses.ensures.value
 
 pub reaching_cycles-requires-clause-range : goal.reaching_cycles-requires-clause-range
 reaching_cycles-requires-clause-range c =
     let count = length c.args.table.now.names in
-    once_in_range (node_bodies c.args.texts.now) count c.in_ok-rows.rows.items c.all_once.new.rows.items c.deref-uses.result.now c.in_ok-rows.ensures
-    (texts_size c.args.texts.now count c.requires.size) c.requires.inside c.all_once.ensures.range c.deref-uses.ensures.value
+    once_in_range (node_bodies c.args.bodies.now) count c.in_ok-rows.rows.items c.all_once.new.rows.items c.deref-uses.result.now c.in_ok-rows.ensures
+    (bodies_size c.args.bodies.now count c.requires.size) c.requires.inside c.all_once.ensures.range c.deref-uses.ensures.value
 
 pub returns-clause-skeleton : goal.returns-clause-skeleton
 returns-clause-skeleton c =
     let count = length c.args.table.now.names in
-    let texts = node_bodies c.args.texts.now in
+    let bodies = node_bodies c.args.bodies.now in
     let before = c.in_ok-rows.rows.items in
     let uses = c.all_once.new.rows.items in
     let names = c.in_ok-texts_of_names.field-0.items in
     let users = c.in_ok-user_rows.user_rows.items in
-    let size : length uses ≡ length (map node_uses texts) = c.all_once.ensures.size ∙ sym (rows_size before) ∙ ap length c.in_ok-rows.ensures in
-    let once : (n : ℕ) → n < length (map node_uses texts) → IsOnceEach (row_at (map node_uses texts) n) (row_at (rows_of uses) n) =
+    let size : length uses ≡ length (map node_uses bodies) = c.all_once.ensures.size ∙ sym (rows_size before) ∙ ap length c.in_ok-rows.ensures in
+    let once : (n : ℕ) → n < length (map node_uses bodies) → IsOnceEach (row_at (map node_uses bodies) n) (row_at (rows_of uses) n) =
     (λ n low. subst (λ (rows : List (List ℕ)). IsOnceEach (row_at rows n) (row_at (rows_of uses) n)) c.in_ok-rows.ensures (c.all_once.ensures.rows n (omega (arith, low, size, c.all_once.ensures.size)))) in
     let count_is : c.count-count.result ≡ length names = c.count-count.ensures ∙ ap length (sym c.in_ok-texts_of_names.ensures) ∙ length-map names (λ (t : Vec ℕ Global). t.items) in
     record {
       size = size;
       once = once;
-      increasing = each_increasing (map node_uses texts) (rows_of uses) (rows_size uses ∙ size) once;
-      range = once_in_range texts count before uses uses c.in_ok-rows.ensures (texts_size c.args.texts.now count c.requires.size) c.requires.inside c.all_once.ensures.range refl;
+      increasing = each_increasing (map node_uses bodies) (rows_of uses) (rows_size uses ∙ size) once;
+      range = once_in_range bodies count before uses uses c.in_ok-rows.ensures (bodies_size c.args.bodies.now count c.requires.size) c.requires.inside c.all_once.ensures.range refl;
       order = subst (λ (g : Graph). IsOrder g c.in_ok-order.order.items) c.deref-uses.ensures.value c.in_ok-order.ensures;
       containing_size = omega (arith, c.in_ok-self_containing.self_containing.ok, c.in_ok-self_containing.ensures.size, ap length c.deref-uses.ensures.value);
       containing = subst (λ (g : Graph). FlagsJust g c.in_ok-self_containing.self_containing.items (ContainsItself (HasUse g))) c.deref-uses.ensures.value c.in_ok-self_containing.ensures.flags;

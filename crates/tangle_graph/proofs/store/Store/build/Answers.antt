@@ -4,11 +4,10 @@ use Rattle.std.specs.declared.rc.Rc.{Rc}
 use Rattle.std.specs.Prelude.{All}
 use Rattle.digraph.specs.Graph.{Graph, rows_of}
 use Rattle.tangle_scan.specs.Web.{PieceRead}
-use Rattle.tangle_expansion.specs.NodeBodies.{node_uses}
-use Rattle.tangle_expansion.specs.WebShapes.{ResolvesInside}
-use Rattle.tangle_expansion.specs.declared.expansion.NodeBody.{NodeBody}
+use Rattle.tangle_plans.specs.NodeBodies.{node_uses}
+use Rattle.tangle_plans.specs.WebShapes.{ResolvesInside}
+use Rattle.tangle_plans.specs.declared.nodes.NodeBody.{NodeBody}
 use Rattle.tangle_graph.specs.Plans.{ArePiecesInside, ArePlanned, ArePlans, node_bodies, slots_of, uses_of_plans}
-use Rattle.tangle_graph.proofs.PushLemmas.{none_planned}
 use Rattle.tangle_graph.proofs.SkeletonLemmas.{uses_inside}
 use Rattle.tangle_graph.proofs.UsesLemmas.{pieces_inside}
 use Rattle.tangle_graph.proofs.store.Store.build.Goals as goal
@@ -20,24 +19,21 @@ bodies_by_node-requires-clause-inside c =
     subst (ArePiecesInside (length c.args.web.now.pieces)) (sym c.deref-rows.ensures.value)
     (subst (λ (ps : List PieceRead). ArePiecesInside (length ps) rows) c.pieces.ensures.pieces inside)
 
-pub bodies_by_node-requires-clause-before : goal.bodies_by_node-requires-clause-before
-bodies_by_node-requires-clause-before c = none_planned c.args.table.now.names (λ id. get_or c.deref-flags.result.now id false)
-
 pub shared-requires-clause-inside : goal.shared-requires-clause-inside
 shared-requires-clause-inside c =
     let table = c.args.table.now in
     let inside = subst ResolvesInside (sym c.requires) (c.names_resolve_inside.ensures c.args.web.now) in
     subst (λ (ts : List (Rc NodeBody Global)). All (λ row. All (λ id. id < length table.names) row) (map node_uses (node_bodies ts))) (sym c.deref.ensures.value)
-    (uses_inside c.args.web.now table (rows_of c.deref-rows.result.now) (node_bodies c.in_ok-texts.texts.items) inside c.in_ok-texts.ensures.texts)
+    (uses_inside c.args.web.now table (rows_of c.deref-rows.result.now) (node_bodies c.in_ok-bodies.bodies.items) inside c.in_ok-bodies.ensures.bodies)
 
 pub over-requires-clause-plans : goal.over-requires-clause-plans
 over-requires-clause-plans c =
     let web = c.args.web.now in
     let table = c.args.table.now in
-    let texts = c.in_ok-texts.texts.items in
-    subst (λ (fs : List Bool). ArePlans web table (λ id. get_or fs id false) (rows_of c.in_ok-pieces.pieces.items) (slots_of texts) (uses_of_plans texts)) c.deref-flags.ensures.value
-    (subst (λ (g : Graph). ArePlans web table (λ id. get_or c.deref-flags.result.now id false) (rows_of g) (slots_of texts) (uses_of_plans texts)) c.deref-rows.ensures.value c.in_ok-texts.ensures.plans)
+    let bodies = c.in_ok-bodies.bodies.items in
+    subst (λ (fs : List Bool). ArePlans web table (λ id. get_or fs id false) (rows_of c.in_ok-pieces.pieces.items) (slots_of bodies) (uses_of_plans bodies)) c.deref-flags.ensures.value
+    (subst (λ (g : Graph). ArePlans web table (λ id. get_or c.deref-flags.result.now id false) (rows_of g) (slots_of bodies) (uses_of_plans bodies)) c.deref-rows.ensures.value c.in_ok-bodies.ensures.plans)
 
 pub over-requires-clause-planned : goal.over-requires-clause-planned
 over-requires-clause-planned c =
-    subst (λ (fs : List Bool). ArePlanned c.args.table.now.names (λ id. get_or fs id false) (node_bodies c.in_ok-texts.texts.items)) c.deref-flags.ensures.value c.in_ok-texts.ensures.planned
+    subst (λ (fs : List Bool). ArePlanned c.args.table.now.names (λ id. get_or fs id false) (node_bodies c.in_ok-bodies.bodies.items)) c.deref-flags.ensures.value c.in_ok-bodies.ensures.planned

@@ -5,9 +5,9 @@ use Rattle.std.proofs.lemmas.List.{length-map}
 use Rattle.std.specs.List.{IsDistinct}
 use Rattle.std.specs.Str.{bytes_eq}
 use Rattle.tangle_names.specs.NameTable.{TableRead}
-use Rattle.tangle_expansion.specs.WebShapes.{shapes, ResolvesInside}
+use Rattle.tangle_plans.specs.WebShapes.{shapes, ResolvesInside}
 use Rattle.tangle_expansion.specs.Limits.{levels, weight_of, depth_of}
-use Rattle.tangle_expansion.specs.declared.expansion.NodeBody.{NodeBody}
+use Rattle.tangle_plans.specs.declared.nodes.NodeBody.{NodeBody}
 use Rattle.digraph.specs.Flags.{FlagsJust}
 use Rattle.digraph.specs.Graph.{Graph, HasUse, rows_of, row_at}
 use Rattle.digraph.specs.Reach.{ContainsItself, ReachesCycle}
@@ -18,7 +18,7 @@ use Rattle.tangle_graph.specs.Nodes.{title_at, node_at}
 use Rattle.tangle_graph.specs.Ordering.{IsOrderIn}
 use Rattle.tangle_graph.specs.Outputs.{is_expandable}
 use Rattle.tangle_graph.specs.Plans.{AreFilled, ArePlanned, node_bodies, slots_of, uses_of_plans}
-use Rattle.tangle_graph.specs.Rows.{node_rows, texts_of}
+use Rattle.tangle_graph.specs.Rows.{node_rows, bytes_of_names}
 use Rattle.tangle_graph.specs.Stores.{AreWithin, is_filled}
 use Rattle.tangle_graph.specs.declared.skeleton.Skeleton.{Skeleton}
 use Rattle.tangle_graph.proofs.FaultLemmas.{containing_flag, defined_flag, defined_size, reaching_flag}
@@ -26,16 +26,16 @@ use Rattle.tangle_graph.proofs.LimitLemmas.{program_filled}
 use Rattle.tangle_graph.proofs.OrderingLemmas.{order_is, grouped_by}
 use Rattle.tangle_graph.proofs.SkeletonLemmas.{graph_over}
 use Rattle.tangle_graph.proofs.StoreIs.{store_made}
-use Rattle.tangle_graph.proofs.TextLemmas.{names_below}
+use Rattle.tangle_graph.proofs.BodyLemmas.{names_below}
 use Rattle.tangle_graph.proofs.store.Store.over.Goals as goal
 
 pub take-requires-clause-graph : goal.take-requires-clause-graph
 take-requires-clause-graph c =
     let web = c.args.web.now in
     let table = c.args.table.now in
-    let graph = graph_over web table c.args.pieces.items (node_bodies c.args.texts.items) c.args.skeleton.value
+    let graph = graph_over web table c.args.pieces.items (node_bodies c.args.bodies.items) c.args.skeleton.value
     (subst (λ (t : TableRead). IsDistinct bytes_eq t.names) (sym c.requires.table) (c.names_are_the_full_names.ensures.once web.occurrences))
-    (subst ResolvesInside (sym c.requires.table) (c.names_resolve_inside.ensures web)) c.requires.grouped c.requires.texts c.requires.skeleton in
+    (subst ResolvesInside (sym c.requires.table) (c.names_resolve_inside.ensures web)) c.requires.grouped c.requires.bodies c.requires.skeleton in
     subst (λ (g : Graph). IsGraphOf web table g c.deref-uses.result.now) (sym c.deref-rows.ensures.value)
     (subst (λ (g : Graph). IsGraphOf web table c.args.pieces.items g) (sym (c.deref-uses.ensures.value ∙ ap (λ (s : Skeleton). s.uses.items) c.deref-shared.ensures)) graph)
 
@@ -44,18 +44,18 @@ take-requires-clause-order c =
     subst (λ (g : Graph). IsOrder g c.deref-order.result.now) (sym (c.deref-uses.ensures.value ∙ ap (λ (s : Skeleton). s.uses.items) c.deref-shared.ensures))
     (subst (IsOrder c.args.skeleton.value.uses.items) (sym (c.deref-order.ensures.value ∙ ap (λ (s : Skeleton). s.order.items) c.deref-shared.ensures)) c.requires.skeleton.order)
 
-pub returns-clause-store : goal.returns-clause-store
-returns-clause-store c =
+pub returns : goal.returns
+returns c =
     let web = c.args.web.now in
     let table = c.args.table.now in
     let pieces = c.args.pieces.items in
-    let texts = c.args.texts.items in
+    let bodies = c.args.bodies.items in
     let skeleton = c.args.skeleton.value in
     let uses = skeleton.uses.items in
     let measures = c.in_ok-measures.measures in
     let distinct = subst (λ (t : TableRead). IsDistinct bytes_eq t.names) (sym c.requires.table) (c.names_are_the_full_names.ensures.once web.occurrences) in
     let inside = subst ResolvesInside (sym c.requires.table) (c.names_resolve_inside.ensures web) in
-    let graph = graph_over web table pieces (node_bodies texts) skeleton distinct inside c.requires.grouped c.requires.texts c.requires.skeleton in
+    let graph = graph_over web table pieces (node_bodies bodies) skeleton distinct inside c.requires.grouped c.requires.bodies c.requires.skeleton in
     let same : length c.deref-uses.result.now ≡ length uses = ap length (c.deref-uses.ensures.value ∙ ap (λ (s : Skeleton). s.uses.items) c.deref-shared.ensures) in
     let weighed : (n : ℕ) → n < length uses → get_or measures.weights.items n 0 ≡ weight_of (shapes web table) (title_at table.names n) =
     (λ n room. c.in_ok-measures.ensures.weights n (omega (arith, room, same))) in
@@ -66,54 +66,47 @@ returns-clause-store c =
     let has : ℕ → Bool = (λ id. get_or c.args.filled.items id false) in
     let has_is : (id : ℕ) → id < length table.names → has id ≡ is_filled (row_at (rows_of pieces) id) =
     (λ id low. c.requires.filled.flag id (omega (arith, low, graph.rows_size, rows_size pieces))) in
-    let count : length skeleton.names.items ≡ length table.names = sym (length-map skeleton.names.items (λ (text : Vec ℕ Global). text.items)) ∙ ap length c.requires.names in
+    let count : length skeleton.names.items ≡ length table.names = sym (length-map skeleton.names.items (λ (name : Vec ℕ Global). name.items)) ∙ ap length c.requires.names in
     let is = c.requires.skeleton in
-    store_made web table pieces uses is.users skeleton.self_containing.items measures.weights.items measures.depths.items measures.expandable.items c.in_ok-outputs.outputs.items c.in_ok-faults.faults.items
-    (slots_of texts) (uses_of_plans texts) (node_bodies texts) has distinct inside graph is.converse is.increasing is.users_size is.containing weighed measured limited has_is c.requires.plans c.requires.texts
-    (λ symbols node. c.filled_plans_are_right.ensures web table has symbols levels node inside)
-    (texts_of skeleton.names.items) (node_rows skeleton.used_nodes.items) (node_rows skeleton.user_nodes.items) c.requires.names
-    (is.used_nodes ∙ ap (λ k. map (map (node_at k)) (rows_of uses)) count) (is.user_nodes ∙ ap (λ k. map (map (node_at k)) (rows_of is.users)) count)
-
-pub returns-clause-names : goal.returns-clause-names
-returns-clause-names c = c.requires.names
-
-pub returns-clause-grouped : goal.returns-clause-grouped
-returns-clause-grouped c =
-    let web = c.args.web.now in
-    let table = c.args.table.now in
-    let skeleton = c.args.skeleton.value in
-    let distinct = subst (λ (t : TableRead). IsDistinct bytes_eq t.names) (sym c.requires.table) (c.names_are_the_full_names.ensures.once web.occurrences) in
-    let inside = subst ResolvesInside (sym c.requires.table) (c.names_resolve_inside.ensures web) in
-    let graph = graph_over web table c.args.pieces.items (node_bodies c.args.texts.items) skeleton distinct inside c.requires.grouped c.requires.texts c.requires.skeleton in
-    grouped_by web table c.args.pieces.items skeleton.uses.items (texts_of skeleton.names.items) graph c.requires.names _ (λ a. refl)
+    record {
+      store = store_made web table pieces uses is.users skeleton.self_containing.items measures.weights.items measures.depths.items measures.expandable.items c.in_ok-outputs.outputs.items c.in_ok-faults.faults.items
+          (slots_of bodies) (uses_of_plans bodies) (node_bodies bodies) has distinct inside graph is.converse is.increasing is.users_size is.containing weighed measured limited has_is c.requires.plans c.requires.bodies
+          (λ symbols node. c.filled_plans_are_right.ensures web table has symbols levels node inside)
+          (bytes_of_names skeleton.names.items) (node_rows skeleton.used_nodes.items) (node_rows skeleton.user_nodes.items) c.requires.names
+          (is.used_nodes ∙ ap (λ k. map (map (node_at k)) (rows_of uses)) count) (is.user_nodes ∙ ap (λ k. map (map (node_at k)) (rows_of is.users)) count);
+      names = c.requires.names;
+      outputs = c.in_ok-outputs.ensures;
+      faults = c.in_ok-faults.ensures;
+      grouped = grouped_by web table pieces uses (bytes_of_names skeleton.names.items) graph c.requires.names _ (λ a. refl);
+    }
 
 pub invariant_of-result : goal.invariant_of-result
 invariant_of-result c =
     let web = c.args.web.now in
     let table = c.args.table.now in
     let pieces = c.args.pieces.items in
-    let texts = c.args.texts.items in
+    let bodies = c.args.bodies.items in
     let skeleton = c.args.skeleton.value in
     let uses = skeleton.uses.items in
     let measures = c.in_ok-measures.measures in
     let distinct = subst (λ (t : TableRead). IsDistinct bytes_eq t.names) (sym c.requires.table) (c.names_are_the_full_names.ensures.once web.occurrences) in
     let inside = subst ResolvesInside (sym c.requires.table) (c.names_resolve_inside.ensures web) in
-    let graph = graph_over web table pieces (node_bodies texts) skeleton distinct inside c.requires.grouped c.requires.texts c.requires.skeleton in
+    let graph = graph_over web table pieces (node_bodies bodies) skeleton distinct inside c.requires.grouped c.requires.bodies c.requires.skeleton in
     let same : length c.deref-uses.result.now ≡ length uses = ap length (c.deref-uses.ensures.value ∙ ap (λ (s : Skeleton). s.uses.items) c.deref-shared.ensures) in
     let measured : (n : ℕ) → n < length uses → get_or measures.depths.items n 0 ≡ depth_of (shapes web table) (title_at table.names n) =
     (λ n room. c.in_ok-measures.ensures.depths n (omega (arith, room, same))) in
     let within : AreWithin (rows_of pieces) measures.weights.items measures.depths.items measures.expandable.items =
     subst (λ (g : Graph). AreWithin (rows_of g) measures.weights.items measures.depths.items measures.expandable.items) c.deref-rows.ensures.value c.in_ok-measures.ensures.within in
-    let count : length skeleton.names.items ≡ length table.names = sym (length-map skeleton.names.items (λ (text : Vec ℕ Global). text.items)) ∙ ap length c.requires.names in
+    let count : length skeleton.names.items ≡ length table.names = sym (length-map skeleton.names.items (λ (name : Vec ℕ Global). name.items)) ∙ ap length c.requires.names in
     let used : node_rows skeleton.used_nodes.items ≡ map (map (node_at (length table.names))) (rows_of uses) = c.requires.skeleton.used_nodes ∙ ap (λ k. map (map (node_at k)) (rows_of uses)) count in
     let nodes : skeleton.node_order.items ≡ map (node_at (length table.names)) skeleton.order.items = c.requires.skeleton.node_order ∙ ap (λ k. map (node_at k) skeleton.order.items) count in
     record {
-      sizes = sym (length-map texts (λ (t : Rc NodeBody Global). t.value)) ∙ c.requires.texts.size ∙ sym within.size;
+      sizes = sym (length-map bodies (λ (t : Rc NodeBody Global). t.value)) ∙ c.requires.bodies.size ∙ sym within.size;
       skeleton = c.requires.skeleton;
       order = subst (IsOrderIn _) (sym nodes)
           (order_is web table pieces uses skeleton.order.items measures.weights.items measures.depths.items measures.expandable.items _ graph c.requires.skeleton.order within measured c.requires.names used refl);
-      uses = names_below web table (rows_of pieces) (node_bodies texts) (length skeleton.names.items) inside c.requires.texts (sym count);
-      planned = subst (λ (ns : List (List ℕ)). ArePlanned ns (λ id. get_or c.args.filled.items id false) (node_bodies texts)) (sym c.requires.names) c.requires.planned;
+      uses = names_below web table (rows_of pieces) (node_bodies bodies) (length skeleton.names.items) inside c.requires.bodies (sym count);
+      planned = subst (λ (ns : List (List ℕ)). ArePlanned ns (λ id. get_or c.args.filled.items id false) (node_bodies bodies)) (sym c.requires.names) c.requires.planned;
     }
 
 pub outputs-requires-clause-program : goal.outputs-requires-clause-program
@@ -125,7 +118,7 @@ outputs-requires-clause-program c =
     let uses = skeleton.uses.items in
     let distinct = subst (λ (t : TableRead). IsDistinct bytes_eq t.names) (sym c.requires.table) (c.names_are_the_full_names.ensures.once web.occurrences) in
     let inside = subst ResolvesInside (sym c.requires.table) (c.names_resolve_inside.ensures web) in
-    let graph = graph_over web table pieces (node_bodies c.args.texts.items) skeleton distinct inside c.requires.grouped c.requires.texts c.requires.skeleton in
+    let graph = graph_over web table pieces (node_bodies c.args.bodies.items) skeleton distinct inside c.requires.grouped c.requires.bodies c.requires.skeleton in
     ap (λ l. get_or l c.count.result false) c.deref-defined.ensures.value
     ∙ ap (λ n. get_or c.args.filled.items n false) c.count.ensures
     ∙ c.requires.filled.flag (length table.names) (omega (arith, graph.rows_size, rows_size pieces))
@@ -140,7 +133,7 @@ faults-requires-clause-flags c =
     let uses = skeleton.uses.items in
     let distinct = subst (λ (t : TableRead). IsDistinct bytes_eq t.names) (sym c.requires.table) (c.names_are_the_full_names.ensures.once web.occurrences) in
     let inside = subst ResolvesInside (sym c.requires.table) (c.names_resolve_inside.ensures web) in
-    let graph = graph_over web table pieces (node_bodies c.args.texts.items) skeleton distinct inside c.requires.grouped c.requires.texts c.requires.skeleton in
+    let graph = graph_over web table pieces (node_bodies c.args.bodies.items) skeleton distinct inside c.requires.grouped c.requires.bodies c.requires.skeleton in
     let is = c.requires.skeleton in
     let filled : AreFilled (rows_of pieces) c.deref-defined.result.now = subst (AreFilled (rows_of pieces)) (sym c.deref-defined.ensures.value) c.requires.filled in
     let same : length c.deref-uses.result.now ≡ length uses = ap length (c.deref-uses.ensures.value ∙ ap (λ (s : Skeleton). s.uses.items) c.deref-shared.ensures) in

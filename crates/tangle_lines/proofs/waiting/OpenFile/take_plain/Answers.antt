@@ -27,7 +27,7 @@ loop-text-preserved c =
           (c.loop-text.invariant.passed rest) one
           (waiting-next c.self.inside.file c.self.inside.is_changed c.self.inside.depth c.loop-text.number c.in-Some.next c.in-OfFile.texts.now c.in-Some.text.now rest next c.in-Some.ensures.line.1)
           (c.in_ok-push.ensures.items ∙ ap (λ l. c.loop-text.lines.items ++ l ∷ []) c.new.ensures)
-          (unawaited c.args.changes.now (record { bytes = c.in-Some.text.now; place = record { file = c.self.inside.file; line = c.in-Some.next }; changed = c.self.inside.is_changed; depth = c.self.inside.depth })
+          (unawaited c.args.changes.now (record { bytes = c.in-Some.text.now; origin = record { file = c.self.inside.file; line = c.in-Some.next }; changed = c.self.inside.is_changed; depth = c.self.inside.depth })
           (ap (λ b. is_awaited (awaited c.args.changes.now c.self.inside.is_changed) b) (sym c.bytes.ensures.value)
           ∙ ap (λ a. is_awaited a c.bytes.result.now) (sym c.awaited_line-awaited.ensures)
           ∙ (c.if-not-is_source_line.ensures refl).0))

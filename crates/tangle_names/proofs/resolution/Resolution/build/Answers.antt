@@ -4,7 +4,7 @@ use Rattle.std.proofs.lemmas.List.{length-map}
 use Rattle.tangle_names.specs.Names.{Text, full_names}
 use Rattle.tangle_names.specs.Resolving.{names_in_order, resolve}
 use Rattle.tangle_names.specs.Numbers.{is_unresolved, key_texts, numbers_from}
-use Rattle.tangle_names.specs.Sorted.{SameTexts, texts_of}
+use Rattle.tangle_names.specs.Sorted.{SameTexts, borrowed_names}
 use Rattle.tangle_names.proofs.KeptLemmas.{beginnings_are}
 use Rattle.tangle_names.proofs.TableLemmas.{first_files_are, firsts_are, table_is}
 use Rattle.tangle_names.proofs.resolution.Resolution.build.Goals as goal
@@ -28,8 +28,8 @@ returns c =
         firsts = c.in_ok-firsts.ensures.size ∙ c.len.ensures.len;
         first_files = c.in_ok-first_files.ensures.size ∙ c.len-2.ensures.len;
         unresolved = c.in_ok-unresolved.ensures ∙ ap (numbers_from is_unresolved 0) c.deref-4.ensures.value;
-        beginnings = beginnings_are os (texts_of c.deref-5.result.now) (key_texts keys) c.in_ok-flags.flags.items _
-            (subst (λ bs. SameTexts (full_names os) (texts_of bs)) (sym c.deref-5.ensures.value) c.in_ok-sorted.ensures.same) named
+        beginnings = beginnings_are os (borrowed_names c.deref-5.result.now) (key_texts keys) c.in_ok-flags.flags.items _
+            (subst (λ bs. SameTexts (full_names os) (borrowed_names bs)) (sym c.deref-5.ensures.value) c.in_ok-sorted.ensures.same) named
             (omega (arith, size, c.in_ok-flags.ensures.size)) (λ id h. c.in_ok-flags.ensures.begins id (omega (arith, h, size)))
             (c.in_ok-beginnings.ensures ∙ ap (numbers_from (λ b. b) 0) c.deref-6.ensures.value);
       };

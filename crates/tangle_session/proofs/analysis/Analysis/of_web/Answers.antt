@@ -1,10 +1,16 @@
 use Rattle.std.proofs.Common.{◌∙◌, [], ap, subst}
 use Rattle.tangle_names.specs.NameTable.{TableRead}
-use Rattle.tangle_expansion.specs.WebShapes.{shapes}
+use Rattle.tangle_plans.specs.Nodes.{IsGroupedBy}
+use Rattle.tangle_plans.specs.WebShapes.{shapes}
 use Rattle.tangle_graph.specs.Faults.{AreGraphFaults}
 use Rattle.tangle_graph.specs.Outputs.{outputs}
-use Rattle.tangle_graph.specs.Stores.{IsStoreOf}
+use Rattle.tangle_graph.specs.Stores.{IsStoreOf, pieces_of_node}
 use Rattle.tangle_session.proofs.analysis.Analysis.of_web.Goals as goal
+
+pub build-requires : goal.build-requires
+build-requires c =
+    let store = c.in_ok-store.store in
+    subst (λ t. IsGroupedBy c.args.web.now t store.names (pieces_of_node store)) c.in_ok-table.ensures c.in_ok-store.ensures.grouped
 
 pub returns-clause-table : goal.returns-clause-table
 returns-clause-table c = c.take_faults-faults.ensures.others ∙ ap (λ (t : TableRead). record t { faults = [] }) c.in_ok-table.ensures

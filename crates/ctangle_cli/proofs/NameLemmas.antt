@@ -1,0 +1,50 @@
+-- The last slash and the dots of a name.
+use Rattle.std.proofs.Common.{◌≡◌, ℕ, ◌+◌, ◌-◌, Bool, false, not, List, [], ◌∷◌, suc, ◌<◌, ◌||◌, length, get_or, take, drop, refl, ap, sym, ◌∙◌, arith, Option, Some, None, is_some}
+use Rattle.std.specs.List.{suffix_len, after_last, before_last, list_any}
+use Rattle.std.proofs.lemmas.Bool.{false_from_ne_true}
+use Rattle.std.proofs.lemmas.List.Sums.{suffix_len_is}
+use Rattle.std.proofs.lemmas.List.Folds.{list_any_at}
+use Rattle.bstr.specs.Find.{IsFirstByte, IsLastByte}
+
+module _ (test : ℕ → Bool) (name : List ℕ) where
+  -- where the part after the last byte that passes begins
+  past-last : (k : ℕ) → IsLastByte test name (Some k) → length name - suffix_len (λ b. not (test b)) name ≡ k + 1
+  past-last k h =
+      let place : k + 1 - 1 ≡ k = omega arith in
+      let last = suffix_len_is (λ b. not (test b)) name (k + 1) 0 (omega (arith, h.0.high))
+      (λ j after within. ap not (false_from_ne_true _ (h.0.after j after within)))
+      (λ _. ap (λ n. not (test (get_or name n 0))) place ∙ ap not h.1) in
+      omega (arith, last, h.0.high)
+
+  past-none : IsLastByte test name None → length name - suffix_len (λ b. not (test b)) name ≡ 0
+  past-none h =
+      let last = suffix_len_is (λ b. not (test b)) name 0 0 (omega arith)
+      (λ j after within. ap not (false_from_ne_true _ (h j after within)))
+      (λ some. absurd (omega (arith, some))) in
+      omega (arith, last)
+
+  pub after-found : (k : ℕ) → IsLastByte test name (Some k) → drop (k + 1) name ≡ after_last test name
+  after-found k h = ap (λ n. drop n name) (sym (past-last k h))
+
+  pub after-none : IsLastByte test name None → name ≡ after_last test name
+  after-none h = ap (λ n. drop n name) (sym (past-none h))
+
+  pub before-found : (k : ℕ) → IsLastByte test name (Some k) → take k name ≡ before_last test name
+  before-found k h =
+      let last : k ≡ length name - suffix_len (λ b. not (test b)) name - 1 = omega (arith, past-last k h) in
+      ap (λ n. take n name) last
+
+  pub before-none : IsLastByte test name None → [] ≡ before_last test name
+  before-none h =
+      let last : 0 ≡ length name - suffix_len (λ b. not (test b)) name - 1 = omega (arith, past-none h) in
+      ap (λ n. take n name) last
+
+none_passes : (test : ℕ → Bool) (bytes : List ℕ) → ((j : ℕ) → j < length bytes → test (get_or bytes j 0) ≡ false) → false ≡ list_any test bytes
+none_passes test [] none = refl
+none_passes test (b ∷ bytes) none =
+    none_passes test bytes (λ j l. none (suc j) (omega (arith, l))) ∙ ap (λ t. t || list_any test bytes) (sym (none 0 (omega arith)))
+
+-- a byte passes where a first one is found
+pub passes-found : (test : ℕ → Bool) (bytes : List ℕ) (r : Option ℕ) → IsFirstByte test bytes r → is_some r ≡ list_any test bytes
+passes-found test bytes (Some k) h = sym (list_any_at test bytes k 0 h.0.high h.1)
+passes-found test bytes None h = none_passes test bytes (λ j l. false_from_ne_true _ (h j (omega arith) l))

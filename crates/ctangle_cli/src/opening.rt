@@ -1,0 +1,29 @@
+//! What both programs begin with: the arguments of the command line, and streams of lines.
+ghost use Rattle.std.specs.Prelude.{◌≡◌};
+
+use std::io::{Error, LineWriter, Write};
+use std::{env, io};
+use tangle_streams::IoSink;
+
+/// The arguments of the command line, the program's name first.
+///
+/// # Errors
+///
+/// That of the system: memory is out, or an argument is not UTF-8.
+pub fn command_line(rt: &HostRuntime) -> io::Result<Vec<String>> {
+    match env::args(rt) {
+        Ok(arguments) => arguments.collect(rt.alloc()).map_err(Error::from),
+        Err(error) => Err(error),
+    }
+}
+
+/// A sink of a stream, which passes on each line at its end. Where there is no memory for a line,
+/// it passes on each write.
+pub fn lines_to<W: Write + Drop + Copy>(rt: &HostRuntime, stream: W) -> IoSink<LineWriter<W>>
+    ensures { result.failures ≡ 0 }
+{
+    match LineWriter::new(rt.alloc(), stream) {
+        Ok(lines) => IoSink::new(lines),
+        Err(_) => IoSink::new(LineWriter::with_capacity(rt.alloc(), 0, stream).unwrap()),
+    }
+}

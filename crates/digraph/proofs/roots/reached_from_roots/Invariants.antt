@@ -1,5 +1,0 @@
-use Rattle.digraph.specs.Roots.{FromRoots}
-use Rattle.digraph.proofs.roots.reached_from_roots.Given as goal
-
-abbrev pub invariant-loop-n : goal.invariant-loop-n
-invariant-loop-n l = FromRoots l.uses l.roots l.flags.items

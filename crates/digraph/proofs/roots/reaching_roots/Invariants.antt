@@ -1,5 +1,0 @@
-use Rattle.digraph.specs.Roots.{ToRoots}
-use Rattle.digraph.proofs.roots.reaching_roots.Given as goal
-
-abbrev pub invariant-loop-n : goal.invariant-loop-n
-invariant-loop-n l = ToRoots l.uses l.roots l.flags.items

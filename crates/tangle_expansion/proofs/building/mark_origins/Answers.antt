@@ -1,0 +1,18 @@
+use Rattle.std.proofs.Common.{◌≡◌, ◌∷◌, [], List, false, refl, flat_map}
+use Rattle.std.specs.List.{list_any}
+use Rattle.tangle_scan.specs.declared.items.Item.{Item}
+use Rattle.tangle_scan.specs.declared.items.Item.TheVariants as item
+use Rattle.tangle_scan.specs.Web.{is_line_mark}
+use Rattle.tangle_expansion.specs.Numbers.{item_origins}
+use Rattle.tangle_expansion.proofs.building.mark_origins.Goals as goal
+
+-- without a mark there is no origin
+no-origins : (items : List Item) → list_any is_line_mark items ≡ false → flat_map item_origins items ≡ []
+no-origins [] h = refl
+no-origins (item.LineMark origin ∷ items) h = cc
+no-origins (_ ∷ items) h = no-origins items h
+
+pub returns-then-not-may_have_mark-clause-are : goal.returns-then-not-may_have_mark-clause-are
+returns-then-not-may_have_mark-clause-are c =
+    let none = no-origins c.args.piece.now.items (c.may_have_mark.ensures c.if-not-may_have_mark.true) in
+    rw (none, c.in_ok-push.ensures.items, c.new-origins.ensures.items, c.low_origin.ensures.same, c.origin.ensures) refl

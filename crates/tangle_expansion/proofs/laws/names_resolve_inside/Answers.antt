@@ -1,5 +1,0 @@
-use Rattle.tangle_expansion.proofs.InsideLemmas.{all_inside}
-use Rattle.tangle_expansion.proofs.laws.names_resolve_inside.Goals as goal
-
-pub returns : goal.returns
-returns c = λ web. all_inside web.occurrences (c.occurrences_resolve_by_the_whole_web.ensures.full web.occurrences) (c.occurrences_resolve_by_the_whole_web.ensures.abbreviated web.occurrences)

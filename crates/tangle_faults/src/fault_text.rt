@@ -1,0 +1,170 @@
+//! The line of a fault.
+ghost use Rattle.std.specs.Prelude.{◌≡◌, ◌^◌, ◌<◌, length, decimal};
+ghost use Rattle.std.specs.Option.{option_copied};
+ghost use Rattle.tangle_faults.specs.FaultText.{wording, bracketed, ending_text, named_place_text};
+ghost use Rattle.tangle_faults.specs.FaultText.{place_text, severity as severity_of, fault_line};
+ghost use Rattle.tangle_streams.specs.Streams.{IsWritten, IsWrittenBehind};
+
+use crate::faults::{Fault, FaultKind, Place};
+use itoa::Buffer;
+use tangle_streams::{Sink, WriteFault, put};
+
+/// What the text of a fault ends with.
+#[derive(Clone, Copy, Debug, PartialEq, Eq)]
+pub enum Ending {
+    Nothing,
+    /// The name of a file, as it is.
+    FileName,
+    Count,
+    /// The name of a section, in angle brackets.
+    SectionName,
+    /// The name of a section, or the program where the fault has no place.
+    NameOrProgram,
+}
+
+/// The text of a fault of this kind up to its ending, and what that is.
+fn words(kind: FaultKind) -> (&'static [u8], Ending)
+    ensures words { result.0.now ≡ (wording kind).0 }
+    ensures ending { result.1 ≡ (wording kind).1 }
+{
+    match kind {
+        FaultKind::StrayMark => (b"@y or @z out of place", Ending::Nothing),
+        FaultKind::MissingY => (b"change without @y", Ending::Nothing),
+        FaultKind::MissingZ => (b"change without @z", Ending::Nothing),
+        FaultKind::EmptyOld => (b"change without old lines", Ending::Nothing),
+        FaultKind::IncludeNoName => (b"inclusion without a file name", Ending::Nothing),
+        FaultKind::IncludeMissing => (b"included file not found: ", Ending::FileName),
+        FaultKind::IncludeTooDeep => (b"inclusion too deep", Ending::Nothing),
+        FaultKind::ChangeMismatch => (b"old lines that do not match: ", Ending::Count),
+        FaultKind::SourceTooLong => (b"too many lines", Ending::Nothing),
+        FaultKind::ChangeUnused => (b"change never used", Ending::Nothing),
+        FaultKind::CodeInC => (b"definition code in C text", Ending::Nothing),
+        FaultKind::MisplacedH => (b"@h in a macro", Ending::Nothing),
+        FaultKind::MacroName => (b"macro must start with an identifier", Ending::Nothing),
+        FaultKind::ControlText => (b"control text did not end", Ending::Nothing),
+        FaultKind::StringAt => (b"single @ in quoted text", Ending::Nothing),
+        FaultKind::StringEnd => (b"quoted text did not end", Ending::Nothing),
+        FaultKind::VerbatimEnd => (b"verbatim text did not end", Ending::Nothing),
+        FaultKind::AsciiBad => (b"bad ASCII constant", Ending::Nothing),
+        FaultKind::CommentEnd => (b"comment did not end", Ending::Nothing),
+        FaultKind::NameEnd => (b"section name did not end", Ending::Nothing),
+        FaultKind::NameEquals => (
+            b"missing section start before a definition",
+            Ending::Nothing,
+        ),
+        FaultKind::NoFullName => (b"no full name for ", Ending::SectionName),
+        FaultKind::Ambiguous => (b"several full names for ", Ending::SectionName),
+        FaultKind::PrefixName => (b"begins another name: ", Ending::SectionName),
+        FaultKind::Undefined => (b"undefined: ", Ending::SectionName),
+        FaultKind::Unused => (b"never used: ", Ending::SectionName),
+        FaultKind::SelfContaining => (b"contains itself: ", Ending::SectionName),
+        FaultKind::TooLarge => (b"too large: ", Ending::NameOrProgram),
+        FaultKind::FileClash => (b"file name is the main file's: ", Ending::SectionName),
+        FaultKind::NoProgram => (b"no program text", Ending::Nothing),
+    }
+}
+
+/// Writes the line of a fault: how many bytes it has. CWEB's programs word their faults otherwise:
+/// see docs/faults.md.
+///
+/// # Errors
+///
+/// `WriteFault(n)` where the sink failed, or took no byte, after the first `n` bytes of the line.
+pub fn write_fault<S: Sink>(fault: &Fault, sink: &mut S) -> Result<u128, WriteFault>
+    ensures { IsWritten (S.stream sink.old) (S.stream sink.new) (fault_line fault.now) result }
+{
+    let kind = fault.kind();
+    let (text, ending) = words(kind);
+    let placed = put_place(fault.place(), sink);
+    let judged = put(sink, placed, severity(kind));
+    let reported = put(sink, judged, text);
+    let ended = put_ending(sink, reported, ending, fault);
+    put(sink, ended, b"\n")
+}
+
+/// What is in front of the text of a fault of this kind.
+fn severity(kind: FaultKind) -> &'static [u8]
+    ensures { result.now ≡ severity_of kind }
+{
+    if kind.is_error() {
+        b"error: "
+    } else {
+        b"warning: "
+    }
+}
+
+/// Writes the place of a fault, if it has one.
+fn put_place<S: Sink>(place: Option<&Place>, sink: &mut S) -> Result<u128, WriteFault>
+    ensures written { IsWritten (S.stream sink.old) (S.stream sink.new)
+        (place_text (option_copied place.entry)) result }
+    ensures short { length (place_text (option_copied place.entry)) < 2 ^ 65 }
+{
+    match place {
+        Some(place) => put_named_place(place, sink),
+        None => Ok(0),
+    }
+}
+
+/// Writes a place.
+fn put_named_place<S: Sink>(place: &Place, sink: &mut S) -> Result<u128, WriteFault>
+    ensures written { IsWritten (S.stream sink.old) (S.stream sink.new) (named_place_text place.now)
+        result }
+    ensures short { length (named_place_text place.now) < 2 ^ 65 }
+{
+    let mut digits = Buffer::new();
+    let file = put(sink, Ok(0), place.file());
+    let colon = put(sink, file, b":");
+    let line = put(sink, colon, digits.format(place.line()).as_bytes());
+    put(sink, line, b": ")
+}
+
+/// Writes the ending of a fault's text after what was written so far.
+fn put_ending<S: Sink>(
+    sink: &mut S,
+    so_far: Result<u128, WriteFault>,
+    ending: Ending,
+    fault: &Fault,
+) -> Result<u128, WriteFault>
+    ensures written { IsWrittenBehind (S.stream sink.old) (S.stream sink.new) so_far
+        (ending_text ending fault.now) result }
+    ensures short { length (ending_text ending fault.now) < 2 ^ 65 }
+{
+    match ending {
+        Ending::Nothing => so_far,
+        Ending::FileName => put(sink, so_far, fault.subject()),
+        Ending::Count => put_count(sink, so_far, fault.count()),
+        Ending::SectionName => put_bracketed(sink, so_far, fault.subject()),
+        Ending::NameOrProgram => match fault.place() {
+            None => put(sink, so_far, b"the unnamed program"),
+            Some(_) => put_bracketed(sink, so_far, fault.subject()),
+        },
+    }
+}
+
+/// Writes a number.
+fn put_count<S: Sink>(
+    sink: &mut S,
+    so_far: Result<u128, WriteFault>,
+    count: usize,
+) -> Result<u128, WriteFault>
+    ensures written { IsWrittenBehind (S.stream sink.old) (S.stream sink.new) so_far (decimal count)
+        result }
+    ensures short { length (decimal count) < 2 ^ 64 }
+{
+    let mut digits = Buffer::new();
+    put(sink, so_far, digits.format(count).as_bytes())
+}
+
+/// Writes a name in angle brackets.
+fn put_bracketed<S: Sink>(
+    sink: &mut S,
+    so_far: Result<u128, WriteFault>,
+    name: &[u8],
+) -> Result<u128, WriteFault>
+    ensures { IsWrittenBehind (S.stream sink.old) (S.stream sink.new) so_far (bracketed name.now)
+        result }
+{
+    let opened = put(sink, so_far, b"<");
+    let named = put(sink, opened, name);
+    put(sink, named, b">")
+}

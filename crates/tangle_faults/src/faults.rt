@@ -1,0 +1,279 @@
+//! Places and faults.
+ghost use Rattle.std.specs.Prelude.{◌≡◌, [], ◌∷◌, ◌++◌, IfOk, OnOk};
+ghost use Rattle.std.specs.Option.{option_copied};
+ghost use Rattle.tangle_faults.specs.Faults.{fault_at, fault_about, fault_counting, fault_unplaced};
+ghost use Rattle.tangle_faults.specs.Faults.{is_error, is_error_kind};
+
+use std::alloc::Global;
+use std::marker::Model;
+use tangle_streams::NoMemory;
+
+/// What a fault is. The first ten are of change files and reading, those from `CodeInC` on of
+/// scanning, and those from `NoFullName` on of names and outputs.
+#[derive(Clone, Copy, Debug, PartialEq, Eq)]
+pub enum FaultKind {
+    /// A `@y` or `@z` where none may be.
+    StrayMark,
+    /// A change that ends without its `@y`.
+    MissingY,
+    /// A change that ends without its `@z`.
+    MissingZ,
+    /// A change without old lines.
+    EmptyOld,
+    /// An inclusion without the name of a file.
+    IncludeNoName,
+    /// An inclusion of a file that is not in the table. It has the name.
+    IncludeMissing,
+    /// An inclusion in the tenth file that is open.
+    IncludeTooDeep,
+    /// Old lines of a change that the lines there do not match. It says how many.
+    ChangeMismatch,
+    /// A line behind the 2,000,000 that are read.
+    SourceTooLong,
+    /// A change that was never used: the first of them.
+    ChangeUnused,
+    /// A control code that begins a definition, in C text.
+    CodeInC,
+    /// A `@h` in a macro.
+    MisplacedH,
+    /// A macro that does not start with an identifier.
+    MacroName,
+    /// A control text that did not end.
+    ControlText,
+    /// A single `@` in quoted or verbatim text.
+    StringAt,
+    /// A quoted text that did not end.
+    StringEnd,
+    /// A verbatim text that did not end on its line.
+    VerbatimEnd,
+    /// A bad ASCII constant.
+    AsciiBad,
+    /// A comment that did not end.
+    CommentEnd,
+    /// A section name that did not end.
+    NameEnd,
+    /// What looks like a definition, without a section start before it.
+    NameEquals,
+    /// An abbreviation that begins no full name. It has the abbreviation.
+    NoFullName,
+    /// An abbreviation that begins several full names. It has the abbreviation.
+    Ambiguous,
+    /// A full name that begins another one. This is a warning, and has the name.
+    PrefixName,
+    /// A section that is used and never defined. It has the name.
+    Undefined,
+    /// A section that is never used. This is a warning, and has the name.
+    Unused,
+    /// A section that contains itself. It has the name.
+    SelfContaining,
+    /// A section whose text is too large, or without a place the unnamed program.
+    TooLarge,
+    /// A file to be written that has the main file's name. It has the name.
+    FileClash,
+    /// A web without program text. This is a warning.
+    NoProgram,
+}
+
+impl FaultKind {
+    /// Whether a fault of this kind is an error, and no warning.
+    pub fn is_error(self) -> bool
+        ensures { result ≡ is_error_kind self }
+    {
+        match self {
+            FaultKind::PrefixName | FaultKind::Unused | FaultKind::NoProgram => false,
+            _ => true,
+        }
+    }
+}
+
+/// Where a line is: the number of its file in the table of files, from 0, and its own number there,
+/// from 1.
+#[derive(Clone, Copy, Debug, PartialEq, Eq)]
+pub struct Origin {
+    pub file: u16,
+    pub line: u32,
+}
+
+/// A line of a file, by the file's name.
+#[derive(Drop)]
+pub struct Place {
+    file: Vec<u8>,
+    line: u32,
+}
+
+impl Model for Place {
+    ghost use Rattle.tangle_faults.specs.Faults.{PlaceRead};
+
+    ghost Value = { PlaceRead };
+
+    ghost view = { λ p. record { file = p.file.items; line = p.line } };
+}
+
+impl Place {
+    /// The line of this number, from 1, of the file of this name.
+    fn new(alloc: Global, file: &[u8], line: u32) -> Result<Self, NoMemory>
+        ensures { IfOk result (λ p. p ≡ record { file = file.now; line = line }) }
+    {
+        let file = Vec::from_slice(alloc, file)?;
+        Ok(Place { file, line })
+    }
+
+    /// The name of the file.
+    pub fn file(&self) -> &[u8]
+        ensures { result.now ≡ self.now.file }
+    {
+        self.file.as_slice()
+    }
+
+    /// The number of the line, from 1.
+    pub fn line(&self) -> u32
+        ensures { result ≡ self.now.line }
+    {
+        self.line
+    }
+}
+
+/// A fault of the sources: what it is, its place, and the name or the number that its text has.
+#[derive(Drop)]
+pub struct Fault {
+    kind: FaultKind,
+    place: Option<Place>,
+    subject: Vec<u8>,
+    count: usize,
+}
+
+impl Model for Fault {
+    ghost use Rattle.tangle_faults.specs.Faults.{FaultRead};
+
+    ghost Value = { FaultRead };
+
+    ghost view = { λ f. record {
+      kind = f.kind;
+      place = f.place;
+      subject = f.subject.items;
+      count =
+          f.count;
+    } };
+}
+
+impl Fault {
+    /// A fault at a line.
+    ///
+    /// # Errors
+    ///
+    /// `NoMemory`.
+    pub fn at(alloc: Global, kind: FaultKind, file: &[u8], line: u32) -> Result<Self, NoMemory>
+        ensures { IfOk result (λ f. f ≡ fault_at kind (record { file = file.now; line = line })) }
+    {
+        let place = Some(Place::new(alloc, file, line)?);
+        Ok(Fault {
+            place,
+            ..Fault::unplaced(alloc, kind)
+        })
+    }
+
+    /// A fault at a line, about a file or a name.
+    ///
+    /// # Errors
+    ///
+    /// `NoMemory`.
+    pub fn about(
+        alloc: Global,
+        kind: FaultKind,
+        file: &[u8],
+        line: u32,
+        subject: &[u8],
+    ) -> Result<Self, NoMemory>
+        ensures { IfOk result (λ f. f ≡ fault_about kind (record { file = file.now; line = line })
+            subject.now) }
+    {
+        let subject = Vec::from_slice(alloc, subject)?;
+        Ok(Fault {
+            subject,
+            ..Fault::at(alloc, kind, file, line)?
+        })
+    }
+
+    /// A fault at a line, with a number.
+    ///
+    /// # Errors
+    ///
+    /// `NoMemory`.
+    pub fn counting(
+        alloc: Global,
+        kind: FaultKind,
+        file: &[u8],
+        line: u32,
+        count: usize,
+    ) -> Result<Self, NoMemory>
+        ensures { IfOk result (λ f. f ≡ fault_counting kind
+            (record { file = file.now; line = line }) count) }
+    {
+        Ok(Fault {
+            count,
+            ..Fault::at(alloc, kind, file, line)?
+        })
+    }
+
+    /// A fault without a place. It takes no memory.
+    pub fn unplaced(alloc: Global, kind: FaultKind) -> Self
+        ensures { result ≡ fault_unplaced kind }
+    {
+        Fault {
+            kind,
+            place: None,
+            subject: Vec::new(alloc),
+            count: 0,
+        }
+    }
+
+    /// What it is.
+    pub fn kind(&self) -> FaultKind
+        ensures { result ≡ self.now.kind }
+    {
+        self.kind
+    }
+
+    /// Where it is, if it has a place.
+    pub fn place(&self) -> Option<&Place>
+        ensures { option_copied result ≡ self.now.place }
+    {
+        self.place.as_ref()
+    }
+
+    /// The file or the name that it is about: no bytes where its text has none.
+    pub fn subject(&self) -> &[u8]
+        ensures { result.now ≡ self.now.subject }
+    {
+        self.subject.as_slice()
+    }
+
+    /// The number that its text has, or 0.
+    pub fn count(&self) -> usize
+        ensures { result ≡ self.now.count }
+    {
+        self.count
+    }
+
+    /// Whether it is an error, and no warning.
+    pub fn is_error(&self) -> bool
+        ensures { result ≡ is_error self.now }
+    {
+        self.kind.is_error()
+    }
+}
+
+/// Adds a fault at a line to the others.
+pub fn note(
+    alloc: Global,
+    kind: FaultKind,
+    file: &[u8],
+    line: u32,
+    faults: &mut Vec<Fault>,
+) -> Result<(), NoMemory>
+    ensures { OnOk result (faults.new.items ≡ faults.old.items
+        ++ fault_at kind (record { file = file.now; line = line }) ∷ []) }
+{
+    faults.push(Fault::at(alloc, kind, file, line)?)?;
+    Ok(())
+}

@@ -1,0 +1,33 @@
+use Rattle.std.proofs.Common.{◌≡◌, ◌∙◌, ℕ, Bool, get_or, ap, sym, subst, false}
+use Rattle.std.specs.Prelude.{IfSome}
+use Rattle.tangle_plans.specs.Comparing.{IsPlanned}
+use Rattle.tangle_plans.specs.ItemSlots.{pieces_at, pieces_slots}
+use Rattle.tangle_plans.specs.NodeBodies.{node_title}
+use Rattle.tangle_plans.specs.Shapes.{Title}
+use Rattle.tangle_graph.specs.Nodes.{title_at}
+use Rattle.tangle_graph.specs.Plans.{IsBodyAt}
+use Rattle.tangle_graph.proofs.BodyLemmas.{is_body_of}
+use Rattle.tangle_graph.proofs.bodies.body_after.Goals as goal
+
+pub returns-in-Ok : goal.returns-in-Ok
+returns-in-Ok c =
+    let web = c.args.web.now in
+    let table = c.args.table.now in
+    let numbers = c.args.numbers.now in
+    let pieces = pieces_at web.pieces numbers in
+    let has : ℕ → Bool = λ id. get_or c.args.has_piece.now id false in
+    let old = c.deref.result.now in
+    let yes = c.if-is_same_node.true in
+    let same : c.in-Ok.body.value ≡ old = c.in-Ok.ensures.cases ∙ sym c.deref.ensures in
+    let planned : IsPlanned has old =
+    subst (IsPlanned has) (sym c.deref.ensures) (subst (λ o. IfSome o (λ body. IsPlanned has body.now.value)) c.in-Some.is c.requires.planned) in
+    let title : node_title old ≡ title_at table.names c.args.n =
+    ap node_title c.deref.ensures ∙ subst (λ o. IfSome o (λ body. node_title body.now.value ≡ title_at table.names c.args.n)) c.in-Some.is c.requires.title in
+    let plan = c.is_same_node.ensures.plan yes has planned in
+    subst (IsBodyAt web table has c.args.n numbers) (sym same) (record {
+      slots = plan ∙ ap (λ (t : Title). pieces_slots web.texts table has t 0 pieces) title;
+      is_body = is_body_of web table has (node_title old) numbers old (c.is_same_node.ensures.shape yes) (c.is_same_node.ensures.same.0 yes).uses plan;
+      uses = c.is_same_node.ensures.plan_uses yes has planned;
+      title = title;
+      planned = planned;
+    })

@@ -1,8 +1,0 @@
-use Rattle.std.proofs.Common.{sym}
-use Rattle.tangle_lexer.proofs.lemmas.AheadLemmas.{byte_at-rest}
-use Rattle.tangle_lexer.proofs.ahead.Reader.byte.Goals as goal
-
-pub returns : goal.returns
-returns c =
-    let r = c.self.inside in
-    rw (c.byte_of.ensures, ← c.self.view_is, c.if-self.false) (sym (byte_at-rest r.source.now.lines r.text.now r.line r.column))

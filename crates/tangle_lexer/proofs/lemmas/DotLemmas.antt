@@ -1,0 +1,27 @@
+-- A search at the end of a name for three dots.
+use Rattle.std.proofs.Common.{◌≡◌, ℕ, ◌+◌, ◌-◌, ◌≤◌, ◌↔◌, Bool, true, false, List, length, take, drop, refl, ap, sym, ◌∙◌, arith, take_all, length-drop}
+use Rattle.std.specs.Prelude.{IsTrue}
+use Rattle.std.specs.Str.{bytes_eq}
+use Rattle.std.proofs.lemmas.Bool.{and_parts, and_from, le-leb}
+use Rattle.std.proofs.lemmas.Slice.Eq.{bytes_eq-Decides}
+use Rattle.bstr.specs.Find.{OccursAt}
+use Rattle.memchr.proofs.lemmas.MatchLemmas.{occurs_at-true, OccursAt-true}
+use Rattle.tangle_lexer.specs.Names.{dots}
+
+same_truth : (r b : Bool) → (r ≡ true → b ≡ true) → (b ≡ true → r ≡ true) → r ≡ b
+same_truth true b f g = sym (f refl)
+same_truth false true f g = g refl
+same_truth false false f g = refl
+
+-- a name ends with the dots where its last three bytes are these
+pub ends_with_dots : (text : List ℕ) (r : Bool) → IsTrue r ↔ ((3 ≤ length text) × OccursAt text dots (length text - 3)) → r ≡ bytes_eq (drop (length text - 3) text) dots
+ends_with_dots text r h =
+    let k = length text - 3 in
+    let all : take 3 (drop k text) ≡ drop k text = take_all 3 (drop k text) (omega (arith, length-drop k text)) in
+    same_truth r (bytes_eq (drop k text) dots)
+    (λ ends. ap (λ l. bytes_eq l dots) (sym all) ∙ (and_parts _ _ (occurs_at-true text dots k (h.0 ends).1)).1)
+    (λ equal.
+    let same : drop k text ≡ dots = (bytes_eq-Decides (drop k text) dots).0 equal in
+    let long : 3 ≤ length text = omega (arith, length-drop k text, ap length same) in
+    let fits : k + 3 ≤ length text = omega (arith, long) in
+    h.1 (long, OccursAt-true text dots k (and_from _ _ (le-leb _ _ fits) (ap (λ l. bytes_eq l dots) all ∙ equal))))

@@ -1,0 +1,242 @@
+-- Comparing lists from their fronts.
+use Rattle.std.proofs.Common.{◌≡◌, ◌≢◌, ◌∙◌, ℕ, ◌+◌, ◌<◌, ◌≤◌, ◌-◌, suc, List, [], ◌∷◌, ◌++◌, length, drop, refl, ap, sym, append_assoc, append-nil, get_or, drop-cons, add-one, All}
+use Rattle.std.specs.Prelude.{flat_map, Option, Some, None, IfSome}
+use Rattle.std.proofs.lemmas.List.{append_cancel_left, get_or_default}
+use Rattle.tangle_text.specs.declared.spans.Span.{Span}
+use Rattle.tangle_scan.specs.declared.items.Item.{Item}
+use Rattle.tangle_scan.specs.Rules.{span_text}
+use Rattle.tangle_scan.specs.SourceOrder.{IsInRange}
+use Rattle.tangle_scan.specs.Web.{PieceRead}
+use Rattle.tangle_names.specs.NameTable.{TableRead}
+use Rattle.tangle_plans.specs.Tags.{piece_end, shape_tags, shape_bytes}
+use Rattle.tangle_plans.specs.ItemTags.{bytes_in, tag_in, names_in, piece_tags, pieces_tags, pieces_bytes, pieces_names, shape_of}
+use Rattle.tangle_plans.specs.ItemSlots.{pieces_at, no_piece}
+use Rattle.tangle_plans.specs.NodeBodies.{HoldsShape, texts_at}
+use Rattle.tangle_plans.specs.Runs.{IsKept, IsTextOf, run_bytes}
+use Rattle.tangle_plans.specs.Comparing.{HasItemsOf}
+use Rattle.tangle_plans.specs.Fronts.{Lists, GoOnAs, IsBehind, IsNotBehind, with_tag, with_byte, with_bytes, with_text, with_item, with_items, with_pieces, with_shape, with_range, lists_at, no_lists, lists_of, IsBehindPosition, IsNotBehindPosition, GoesBehind}
+use Rattle.tangle_plans.specs.declared.tags.ItemTag.{ItemTag}
+use Rattle.tangle_plans.specs.declared.tags.ItemKind.{ItemKind}
+use Rattle.tangle_plans.specs.declared.comparing.Position.{Position}
+use Rattle.tangle_plans.specs.declared.nodes.NodeBody.{NodeBody}
+use Rattle.tangle_plans.proofs.DropLemmas.{drop_all}
+use Rattle.tangle_plans.proofs.HeldLemmas.{tags_held, bytes_held, names_held}
+
+pub lists_same : (a b : Lists) → a.tags ≡ b.tags → a.bytes ≡ b.bytes → a.uses ≡ b.uses → a ≡ b
+lists_same a b tags bytes uses =
+    ap (λ l. record { tags = l; bytes = a.bytes; uses = a.uses }) tags
+    ∙ ap (λ l. record { tags = b.tags; bytes = l; uses = a.uses }) bytes
+    ∙ ap (λ l. record { tags = b.tags; bytes = b.bytes; uses = l }) uses
+
+-- the range at a position that was found
+pub still_kept : (texts : List (List ℕ)) (position : Position) (found : Option Position) → IsKept texts position.run
+    → IfSome found (λ next. (texts : List (List ℕ)) → IsKept texts position.run → IsKept texts next.run)
+    → IfSome found (λ next. IsKept texts next.run)
+still_kept texts position None kept is = tt
+still_kept texts position (Some next) kept is = is texts kept
+
+-- one step behind another
+
+pub and_then : (a b c : Lists) (f g h : Lists → Lists) → GoOnAs a f b g → GoOnAs b g c h → GoOnAs a f c h
+and_then a b c f g h p q = λ more. ((λ e. (q more).0 ((p more).0 e)), λ e. (p more).1 ((q more).1 e))
+
+pub and_not : (a b : Lists) (f g : Lists → Lists) → GoOnAs a f b g → IsNotBehind g b → IsNotBehind f a
+and_not a b f g p q = λ more e. q more ((p more).0 e)
+
+-- fronts that say the same
+
+pub front_same : (a b : Lists) (f f' g : Lists → Lists) → ((more : Lists) → f' more ≡ f more) → GoOnAs a f b g → GoOnAs a f' b g
+front_same a b f f' g same p = λ more. ((λ e. (p more).0 (e ∙ same more)), λ e. (p more).1 e ∙ sym (same more))
+
+pub not_same : (a : Lists) (f f' : Lists → Lists) → ((more : Lists) → f' more ≡ f more) → IsNotBehind f a → IsNotBehind f' a
+not_same a f f' same p = λ more e. p more (e ∙ same more)
+
+pub back_same : (a b : Lists) (f g g' : Lists → Lists) → ((more : Lists) → g more ≡ g' more) → GoOnAs a f b g → GoOnAs a f b g'
+back_same a b f g g' same p = λ more. ((λ e. (p more).0 e ∙ same more), λ e. (p more).1 (e ∙ sym (same more)))
+
+-- tags, bytes and uses in front of lists
+
+pub other_tag : (tag first : ItemTag) (tags : List ItemTag) (bytes uses : List ℕ) → (first ≡ tag → ⊥)
+    → (more : Lists) → record { tags = first ∷ tags; bytes = bytes; uses = uses } ≢ with_tag tag more
+other_tag tag first tags bytes uses differ more e =
+    let both : (first ∷ tags) ≡ tag ∷ more.tags = ap (λ (m : Lists). m.tags) e in
+    differ (cc)
+
+-- the fronts of the three lists
+abbrev pub with_all : ItemTag → List ℕ → List ℕ → Lists → Lists
+with_all tag bytes uses more = record { tags = tag ∷ more.tags; bytes = bytes ++ more.bytes; uses = uses ++ more.uses }
+
+pub bytes_not : (tag : ItemTag) (bytes uses : List ℕ) (l : Lists) → ((rest : List ℕ) → l.bytes ≢ bytes ++ rest) → IsNotBehind (with_all tag bytes uses) l
+bytes_not tag bytes uses l differ = λ more e. differ more.bytes (ap (λ (m : Lists). m.bytes) e)
+
+pub uses_not : (tag : ItemTag) (bytes uses : List ℕ) (l : Lists) → ((rest : List ℕ) → l.uses ≢ uses ++ rest) → IsNotBehind (with_all tag bytes uses) l
+uses_not tag bytes uses l differ = λ more e. differ more.uses (ap (λ (m : Lists). m.uses) e)
+
+pub all_behind : (tag first : ItemTag) (bytes uses : List ℕ) (l : Lists) (tags : List ItemTag) (text rest : List ℕ)
+    → first ≡ tag → l.tags ≡ first ∷ tags → l.bytes ≡ bytes ++ text → l.uses ≡ uses ++ rest
+    → IsBehind (with_all tag bytes uses) l (record { tags = tags; bytes = text; uses = rest })
+all_behind tag first bytes uses l tags text rest same is b u = λ more. (
+  (λ e.
+      let both : (first ∷ tags) ≡ tag ∷ more.tags = sym is ∙ ap (λ (m : Lists). m.tags) e in
+      lists_same (record { tags = tags; bytes = text; uses = rest }) more (cc)
+      (append_cancel_left bytes text more.bytes (sym b ∙ ap (λ (m : Lists). m.bytes) e))
+      (append_cancel_left uses rest more.uses (sym u ∙ ap (λ (m : Lists). m.uses) e))),
+  λ e.
+      lists_same l (with_all tag bytes uses more)
+      (is ∙ ap (λ c. c ∷ tags) same ∙ ap (λ r. tag ∷ r) (ap (λ (m : Lists). m.tags) e))
+      (b ∙ ap (λ r. bytes ++ r) (ap (λ (m : Lists). m.bytes) e))
+      (u ∙ ap (λ r. uses ++ r) (ap (λ (m : Lists). m.uses) e)),
+)
+
+-- with the tag alone, a position goes on as it is
+pub tag_behind : (tag first : ItemTag) (tags : List ItemTag) (bytes uses : List ℕ) → first ≡ tag
+    → IsBehind (with_tag tag) (record { tags = first ∷ tags; bytes = bytes; uses = uses }) (record { tags = tags; bytes = bytes; uses = uses })
+tag_behind tag first tags bytes uses same = all_behind tag first [] [] (record { tags = first ∷ tags; bytes = bytes; uses = uses }) tags bytes uses same refl refl refl
+
+pub cut_not : (run bytes text rest : List ℕ) → text ≡ run ++ rest → ((more : List ℕ) → rest ≢ bytes ++ more) → (more : List ℕ) → text ≢ run ++ (bytes ++ more)
+cut_not run bytes text rest is differ more e = differ more (append_cancel_left run rest (bytes ++ more) (sym is ∙ e))
+
+-- an item of one byte, behind which no range is left
+pub byte_cut : (tag : ItemTag) (byte : ℕ) (run next : List ℕ) → next ≡ []
+    → (more : Lists) → with_bytes run (with_byte tag byte more) ≡ with_all tag (run ++ byte ∷ []) [] (with_bytes next more)
+byte_cut tag byte run next none more =
+    ap (λ b. record { tags = tag ∷ more.tags; bytes = b; uses = more.uses })
+    (sym (append_assoc run (byte ∷ []) more.bytes) ∙ ap (λ n. (run ++ byte ∷ []) ++ (n ++ more.bytes)) (sym none))
+
+-- texts and items behind the bytes of a range
+
+module _ (texts : List (List ℕ)) where
+  -- a text that a longer range ends with
+  pub text_joined : (run next : List ℕ) (kind : ItemKind) (s : Span) → run ++ span_text texts s ≡ next
+      → (more : Lists) → with_bytes run (with_text texts kind s more) ≡ with_tag (record { kind = kind; size = s.end - s.start }) (with_bytes next more)
+  text_joined run next kind s is more =
+      ap (λ b. record { tags = record { kind = kind; size = s.end - s.start } ∷ more.tags; bytes = b; uses = more.uses })
+      (sym (append_assoc run (span_text texts s) more.bytes) ∙ ap (λ b. b ++ more.bytes) is)
+
+  -- a text that begins another range
+  pub text_cut : (run next : List ℕ) (kind : ItemKind) (s : Span) → next ≡ span_text texts s
+      → (more : Lists) → with_bytes run (with_text texts kind s more) ≡ with_tag (record { kind = kind; size = s.end - s.start }) (with_bytes run (with_bytes next more))
+  text_cut run next kind s is more =
+      ap (λ b. record { tags = record { kind = kind; size = s.end - s.start } ∷ more.tags; bytes = run ++ (b ++ more.bytes); uses = more.uses }) (sym is)
+
+module _ (texts : List (List ℕ)) (table : TableRead) where
+  -- an item that is its text
+  pub item_is_text : (x : Item) (kind : ItemKind) (s : Span) → IsTextOf x kind s → (more : Lists) → with_item texts table x more ≡ with_text texts kind s more
+  item_is_text x kind s is more =
+      lists_same (with_item texts table x more) (with_text texts kind s more)
+      (ap (λ c. c ∷ more.tags) (is.tag table)) (ap (λ b. b ++ more.bytes) (is.bytes texts)) (ap (λ u. u ++ more.uses) (is.no_use table))
+
+  -- white space that a longer range ends with
+  pub space_joined : (x : Item) (tag : ItemTag) (run next : List ℕ) → tag_in table x ≡ tag → run ++ bytes_in texts x ≡ next → names_in table x ≡ []
+      → (more : Lists) → with_bytes run (with_item texts table x more) ≡ with_tag tag (with_bytes next more)
+  space_joined x tag run next is longer none more =
+      lists_same (with_bytes run (with_item texts table x more)) (with_tag tag (with_bytes next more))
+      (ap (λ c. c ∷ more.tags) is) (sym (append_assoc run (bytes_in texts x) more.bytes) ∙ ap (λ b. b ++ more.bytes) longer) (ap (λ u. u ++ more.uses) none)
+
+  -- another item, behind which no range is left
+  pub item_cut : (x : Item) (run next : List ℕ) → next ≡ []
+      → (more : Lists) → with_bytes run (with_item texts table x more) ≡ with_all (tag_in table x) (run ++ bytes_in texts x) (names_in table x) (with_bytes next more)
+  item_cut x run next none more =
+      ap (λ b. record { tags = tag_in table x ∷ more.tags; bytes = b; uses = names_in table x ++ more.uses })
+      (sym (append_assoc run (bytes_in texts x) more.bytes) ∙ ap (λ n. (run ++ bytes_in texts x) ++ (n ++ more.bytes)) (sym none))
+
+  -- what is said of a text is said of the item
+  pub position_of_item : (x : Item) (kind : ItemKind) (s : Span) (tag : ItemTag) (position : Position) (r : Option Position) → IsTextOf x kind s
+      → GoesBehind (with_text texts kind s) tag position r → GoesBehind (with_item texts table x) tag position r
+  position_of_item x kind s tag position None is p =
+      λ tags more e. p tags more (e ∙ ap (with_range position) (item_is_text x kind s is more))
+  position_of_item x kind s tag position (Some next) is p =
+      λ tags. front_same (lists_at (tag ∷ tags) position) (lists_at tags next) (λ more. with_range position (with_text texts kind s more))
+      (λ more. with_range position (with_item texts table x more)) (with_range next) (λ more. ap (with_range position) (item_is_text x kind s is more)) (p tags)
+
+  -- the items of a piece, one by one
+  pub items_on : (items : List Item) (i : ℕ) (x : Item) → i < length items → x ≡ get_or items i x
+      → (more : Lists) → with_items texts table (drop i items) more ≡ with_item texts table x (with_items texts table (drop (i + 1) items) more)
+  items_on items i x h is more =
+      let rest = drop (i + 1) items in
+      let next : drop i items ≡ x ∷ rest = drop-cons items i x h ∙ ap (λ y. y ∷ drop (suc i) items) (sym is) ∙ ap (λ j. x ∷ drop j items) (sym (add-one i)) in
+      ap (λ l. with_items texts table l more) next
+      ∙ lists_same (with_items texts table (x ∷ rest) more) (with_item texts table x (with_items texts table rest more))
+      refl (append_assoc (bytes_in texts x) (flat_map (bytes_in texts) rest) more.bytes) (append_assoc (names_in table x) (flat_map (names_in table) rest) more.uses)
+
+  -- one of them at a position, with its tag
+  tags_on : (tags : List ItemTag) (i : ℕ) (tag d : ItemTag) → i < length tags → tag ≡ get_or tags i d → drop i tags ≡ tag ∷ drop (i + 1) tags
+  tags_on tags i tag d h is = drop-cons tags i d h ∙ ap (λ c. c ∷ drop (suc i) tags) (sym is) ∙ ap (λ j. tag ∷ drop j tags) (sym (add-one i))
+
+  pub item_not_next : (tags : List ItemTag) (i : ℕ) (tag d : ItemTag) (items : List Item) (x : Item) (position : Position)
+      → i < length tags → tag ≡ get_or tags i d → i < length items → x ≡ get_or items i x → IsNotBehindPosition (with_item texts table x) tag position
+      → IsNotBehind (λ more. with_range position (with_items texts table (drop i items) more)) (lists_at (drop i tags) position)
+  item_not_next tags i tag d items x position low is low' is' p =
+      λ more e. p (drop (i + 1) tags) (with_items texts table (drop (i + 1) items) more)
+      (ap (λ l. lists_at l position) (sym (tags_on tags i tag d low is)) ∙ e ∙ ap (with_range position) (items_on items i x low' is' more))
+
+  pub item_next : (tags : List ItemTag) (i : ℕ) (tag d : ItemTag) (items : List Item) (x : Item) (position next : Position)
+      → i < length tags → tag ≡ get_or tags i d → i < length items → x ≡ get_or items i x → IsBehindPosition (with_item texts table x) tag position next
+      → GoOnAs (lists_at (drop i tags) position) (λ more. with_range position (with_items texts table (drop i items) more))
+      (lists_at (drop (i + 1) tags) next) (λ more. with_range next (with_items texts table (drop (i + 1) items) more))
+  item_next tags i tag d items x position next low is low' is' p = λ more.
+      let rest = with_items texts table (drop (i + 1) items) more in
+      let goes = p (drop (i + 1) tags) rest in
+      let tags_next = ap (λ l. lists_at l position) (tags_on tags i tag d low is) in
+      let items_next = ap (with_range position) (items_on items i x low' is' more) in
+      ((λ e. goes.0 (sym tags_next ∙ e ∙ items_next)), λ e. tags_next ∙ goes.1 e ∙ sym items_next)
+
+  pub items_over : (items : List Item) (i : ℕ) → length items ≤ i → (more : Lists) → with_items texts table (drop i items) more ≡ with_tag piece_end more
+  items_over items i h more = ap (λ l. with_items texts table l more) (drop_all items i h)
+
+  -- the end of a piece
+  pub end_behind : (tags : List ItemTag) (i : ℕ) (tag d : ItemTag) (run text : List ℕ) (position : Position) → i < length tags → tag ≡ get_or tags i d → tag ≡ piece_end
+      → run ≡ run_bytes position.run → position.text.now ≡ run ++ text
+      → GoOnAs (lists_at (drop i tags) position) (λ more. with_range position (with_tag piece_end more)) (record { tags = drop (i + 1) tags; bytes = text; uses = position.uses.now }) (λ more. more)
+  end_behind tags i tag d run text position low is same ours text_is =
+      all_behind piece_end tag (run_bytes position.run) [] (lists_at (drop i tags) position) (drop (i + 1) tags) text position.uses.now
+      same (tags_on tags i tag d low is) (text_is ∙ ap (λ r. r ++ text) ours) refl
+
+  -- the pieces, one by one
+  pub pieces_on : (pieces : List PieceRead) (numbers : List ℕ) (i n : ℕ) (p : PieceRead) (items : List Item) → i < length numbers → n ≡ get_or numbers i 0 → n < length pieces → p ≡ get_or pieces n p → items ≡ p.items
+      → (more : Lists) → with_pieces texts table (pieces_at pieces (drop i numbers)) more
+      ≡ with_items texts table items (with_pieces texts table (pieces_at pieces (drop (i + 1) numbers)) more)
+  pieces_on pieces numbers i n p items h is low at ours more =
+      let found : get_or pieces n no_piece ≡ p = sym (at ∙ get_or_default pieces n p no_piece low) in
+      let rest = drop (i + 1) numbers in
+      let next : drop i numbers ≡ n ∷ rest = drop-cons numbers i 0 h ∙ ap (λ m. m ∷ drop (suc i) numbers) (sym is) ∙ ap (λ j. n ∷ drop j numbers) (sym (add-one i)) in
+      let others = pieces_at pieces rest in
+      ap (λ l. with_pieces texts table (pieces_at pieces l) more) next
+      ∙ ap (λ q. with_pieces texts table (q ∷ others) more) found
+      ∙ lists_same (with_pieces texts table (p ∷ others) more) (with_items texts table p.items (with_pieces texts table others more))
+      (append_assoc (piece_tags table p.items) (pieces_tags table others) more.tags)
+      (append_assoc (flat_map (bytes_in texts) p.items) (pieces_bytes texts others) more.bytes)
+      (append_assoc (flat_map (names_in table) p.items) (pieces_names table others) more.uses)
+      ∙ ap (λ l. with_items texts table l (with_pieces texts table others more)) (sym ours)
+
+  pub pieces_over : (pieces : List PieceRead) (numbers : List ℕ) (i : ℕ) → length numbers ≤ i → (more : Lists) → with_pieces texts table (pieces_at pieces (drop i numbers)) more ≡ more
+  pieces_over pieces numbers i h more = ap (λ l. with_pieces texts table (pieces_at pieces l) more) (drop_all numbers i h)
+
+  -- what is said of all of them, and of their shape
+  pub shape_in_front : (pieces : List PieceRead) → All (λ (p : PieceRead). All (IsInRange texts) p.items) pieces
+      → (more : Lists) → with_shape texts table pieces more ≡ with_pieces texts table pieces more
+  shape_in_front pieces spans more =
+      lists_same (with_shape texts table pieces more) (with_pieces texts table pieces more)
+      (ap (λ l. l ++ more.tags) (sym (tags_held texts table pieces spans))) (ap (λ l. l ++ more.bytes) (sym (bytes_held texts table pieces))) refl
+
+  -- with nothing behind
+  pub has_items : (pieces : List PieceRead) (node : NodeBody) → lists_of node ≡ with_shape texts table pieces no_lists → HasItemsOf texts table pieces node
+  has_items pieces node e = record {
+    tags = ap (λ (m : Lists). m.tags) e ∙ append-nil (shape_tags (shape_of texts table pieces));
+    bytes = ap (λ (m : Lists). m.bytes) e ∙ append-nil (shape_bytes (shape_of texts table pieces));
+    uses = ap (λ (m : Lists). m.uses) e ∙ append-nil (pieces_names table pieces);
+  }
+
+  pub items_had : (pieces : List PieceRead) (node : NodeBody) → HasItemsOf texts table pieces node → lists_of node ≡ with_shape texts table pieces no_lists
+  items_had pieces node h =
+      lists_same (lists_of node) (with_shape texts table pieces no_lists)
+      (h.tags ∙ sym (append-nil (shape_tags (shape_of texts table pieces))))
+      (h.bytes ∙ sym (append-nil (shape_bytes (shape_of texts table pieces))))
+      (h.uses ∙ sym (append-nil (pieces_names table pieces)))
+
+  pub shape_had : (pieces : List PieceRead) (node : NodeBody) → HasItemsOf texts table pieces node → HoldsShape table.names (shape_of texts table pieces) node
+  shape_had pieces node h = record {
+    tags = h.tags;
+    bytes = h.bytes;
+    names_used = ap (texts_at table.names) h.uses ∙ names_held texts table pieces;
+  }

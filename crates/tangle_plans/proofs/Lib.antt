@@ -1,0 +1,12 @@
+pub mod InsideLemmas
+pub mod SlotIds
+pub mod ShapeLemmas
+pub mod SameNames
+pub mod DropLemmas
+pub mod PlanningLemmas
+pub mod RunLemmas
+pub mod TagLemmas
+pub mod CountLemmas
+pub mod HeldLemmas
+pub mod NumberedShapes
+pub mod ComparingLemmas

@@ -1,0 +1,11 @@
+use Rattle.std.proofs.Common.{drop}
+use Rattle.tangle_plans.specs.Fronts.{GoOnAs, lists_at, lists_left, with_items, with_range}
+use Rattle.tangle_plans.specs.Runs.{IsKept}
+use Rattle.tangle_plans.proofs.comparing.behind_items.Given as goal
+
+abbrev pub invariant-loop-i : goal.invariant-loop-i
+invariant-loop-i l = record {
+  run : IsKept l.web.texts l.position.run;
+  position : GoOnAs (lists_left l.fn.left) (with_items l.web.texts l.table l.items) (lists_at (drop l.i l.tags) l.position)
+      (λ more. with_range l.position (with_items l.web.texts l.table (drop l.i l.items) more));
+}

@@ -1,0 +1,126 @@
+-- The tags, bytes and uses of a node, compared from their fronts.
+use Rattle.std.specs.Prelude.{◌≡◌, ◌≢◌, ◌-◌, ℕ, List, [], ◌∷◌, ◌++◌, flat_map, length, Option, IfSome, MatchOption}
+use Rattle.tangle_text.specs.declared.spans.Span.{Span}
+use Rattle.tangle_scan.specs.declared.items.Item.{Item}
+use Rattle.tangle_scan.specs.Rules.{span_text}
+use Rattle.tangle_scan.specs.SourceOrder.{IsInRange}
+use Rattle.tangle_scan.specs.WellFormed.{IsUseBelow}
+use Rattle.tangle_scan.specs.Web.{PieceRead}
+use Rattle.tangle_names.specs.NameTable.{TableRead}
+use Rattle.tangle_plans.specs.Tags.{shape_tags, shape_bytes}
+use Rattle.tangle_plans.specs.ItemTags.{bytes_in, tag_in, names_in, piece_tags, pieces_tags, pieces_bytes, pieces_names, shape_of}
+use Rattle.tangle_plans.specs.NodeBodies.{node_bytes, node_tags, node_uses}
+use Rattle.tangle_plans.specs.Runs.{IsKept, run_bytes}
+use Rattle.tangle_plans.specs.declared.tags.ItemTag.{ItemTag}
+use Rattle.tangle_plans.specs.declared.tags.ItemKind.{ItemKind}
+use Rattle.tangle_plans.specs.declared.comparing.Left.{Left}
+use Rattle.tangle_plans.specs.declared.comparing.Position.{Position}
+use Rattle.tangle_plans.specs.declared.nodes.NodeBody.{NodeBody}
+
+-- tags, bytes and uses of a node, or the last of them
+pub record Lists : Type 0 where
+  pub tags : List ItemTag
+  pub bytes : List ℕ
+  pub uses : List ℕ
+
+-- those that are still to be compared
+abbrev pub lists_left : Left → Lists
+lists_left left = record { tags = left.tags.now; bytes = left.text.now; uses = left.uses.now }
+
+abbrev pub lists_of : NodeBody → Lists
+lists_of node = record { tags = node_tags node; bytes = node_bytes node; uses = node_uses node }
+
+abbrev pub no_lists : Lists
+no_lists = record { tags = []; bytes = []; uses = [] }
+
+-- other lists with something in front of them
+
+abbrev pub with_tag : ItemTag → Lists → Lists
+with_tag tag more = record { tags = tag ∷ more.tags; bytes = more.bytes; uses = more.uses }
+
+abbrev pub with_bytes : List ℕ → Lists → Lists
+with_bytes bytes more = record { tags = more.tags; bytes = bytes ++ more.bytes; uses = more.uses }
+
+abbrev pub with_uses : List ℕ → Lists → Lists
+with_uses uses more = record { tags = more.tags; bytes = more.bytes; uses = uses ++ more.uses }
+
+-- an item of one byte
+abbrev pub with_byte : ItemTag → ℕ → Lists → Lists
+with_byte tag byte more = record { tags = tag ∷ more.tags; bytes = byte ∷ more.bytes; uses = more.uses }
+
+abbrev pub with_text : List (List ℕ) → ItemKind → Span → Lists → Lists
+with_text texts kind s more = record { tags = record { kind = kind; size = s.end - s.start } ∷ more.tags; bytes = span_text texts s ++ more.bytes; uses = more.uses }
+
+module _ (texts : List (List ℕ)) (table : TableRead) where
+  abbrev pub with_item : Item → Lists → Lists
+  with_item x more = record { tags = tag_in table x ∷ more.tags; bytes = bytes_in texts x ++ more.bytes; uses = names_in table x ++ more.uses }
+
+  -- the items of a piece, and its end
+  abbrev pub with_items : List Item → Lists → Lists
+  with_items items more = record {
+    tags = piece_tags table items ++ more.tags;
+    bytes = flat_map (bytes_in texts) items ++ more.bytes;
+    uses = flat_map (names_in table) items ++ more.uses;
+  }
+
+  abbrev pub with_pieces : List PieceRead → Lists → Lists
+  with_pieces pieces more = record {
+    tags = pieces_tags table pieces ++ more.tags;
+    bytes = pieces_bytes texts pieces ++ more.bytes;
+    uses = pieces_names table pieces ++ more.uses;
+  }
+
+  -- the same, as it is said of a shape
+  abbrev pub with_shape : List PieceRead → Lists → Lists
+  with_shape pieces more = record {
+    tags = shape_tags (shape_of texts table pieces) ++ more.tags;
+    bytes = shape_bytes (shape_of texts table pieces) ++ more.bytes;
+    uses = pieces_names table pieces ++ more.uses;
+  }
+
+-- the lists begin with this front just where the others do with theirs, and what is behind the two is the same
+abbrev pub GoOnAs : Lists → (Lists → Lists) → Lists → (Lists → Lists) → Type 0
+GoOnAs lists front others front' = (more : Lists) → (lists ≡ front more → others ≡ front' more) × (others ≡ front' more → lists ≡ front more)
+
+-- behind this front, the lists go on with what is left
+abbrev pub IsBehind : (Lists → Lists) → Lists → Lists → Type 0
+IsBehind front lists left = GoOnAs lists front left (λ more. more)
+
+-- they do not begin with it
+abbrev pub IsNotBehind : (Lists → Lists) → Lists → Type 0
+IsNotBehind front lists = (more : Lists) → lists ≢ front more
+
+-- what is left behind this front was found, or that the lists do not begin with it
+abbrev pub LeavesBehind : (Lists → Lists) → Left → Option Left → Type 0
+LeavesBehind front left found = MatchOption found (IsNotBehind front (lists_left left)) (λ next. IsBehind front (lists_left left) (lists_left next))
+
+-- the lists at a position within a piece, with these tags; of its bytes, those of its range come first
+abbrev pub lists_at : List ItemTag → Position → Lists
+lists_at tags position = record { tags = tags; bytes = position.text.now; uses = position.uses.now }
+
+abbrev pub with_range : Position → Lists → Lists
+with_range position more = with_bytes (run_bytes position.run) more
+
+-- with this tag next, the lists begin with this front, and behind it they are those at another position
+abbrev pub IsBehindPosition : (Lists → Lists) → ItemTag → Position → Position → Type 0
+IsBehindPosition front tag position next =
+    (tags : List ItemTag) → GoOnAs (lists_at (tag ∷ tags) position) (λ more. with_range position (front more)) (lists_at tags next) (with_range next)
+
+-- they do not begin with it
+abbrev pub IsNotBehindPosition : (Lists → Lists) → ItemTag → Position → Type 0
+IsNotBehindPosition front tag position = (tags : List ItemTag) → IsNotBehind (λ more. with_range position (front more)) (lists_at (tag ∷ tags) position)
+
+-- the position behind this front was found, or that the lists do not begin with it
+abbrev pub GoesBehind : (Lists → Lists) → ItemTag → Position → Option Position → Type 0
+GoesBehind front tag position found = MatchOption found (IsNotBehindPosition front tag position) (λ next. IsBehindPosition front tag position next)
+
+-- an item that can come next at a position: their ranges are of the source, and the name that it uses is one of the table's
+pub record CanComeNext (texts : List (List ℕ)) (table : TableRead) (position : Position) (x : Item) : Type 0 where
+  pub span : IsInRange texts x
+  pub name : IsUseBelow (length table.resolved) x
+  pub run : IsKept texts position.run
+
+-- the position behind an item was found, with a range of the source too, or that it does not come next
+pub record GoesBehindItem (texts : List (List ℕ)) (table : TableRead) (x : Item) (tag : ItemTag) (here : Position) (found : Option Position) : Type 0 where
+  pub run : IfSome found (λ next. IsKept texts next.run)
+  pub position : GoesBehind (with_item texts table x) tag here found

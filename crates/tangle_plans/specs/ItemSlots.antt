@@ -1,0 +1,67 @@
+-- What the pieces of a web put into a plan.
+use Rattle.std.specs.Prelude.{ℕ, ◌+◌, Bool, if◌then◌else◌, List, [], ◌∷◌, ◌++◌, decimal, map, slice_index_or, None}
+use Rattle.tangle_files.specs.Bytes.{space, line_feed}
+use Rattle.tangle_scan.specs.declared.items.Item.{Item}
+use Rattle.tangle_scan.specs.declared.items.Item.TheVariants as item
+use Rattle.tangle_scan.specs.Rules.{span_text}
+use Rattle.tangle_scan.specs.Web.{PieceRead}
+use Rattle.tangle_names.specs.declared.Resolved.{Resolved}
+use Rattle.tangle_names.specs.declared.Resolved.TheVariants.{Name, NoFullName, Ambiguous}
+use Rattle.tangle_names.specs.NameTable.{TableRead}
+use Rattle.tangle_plans.specs.Shapes.{Title}
+use Rattle.tangle_plans.specs.Flat.{Byte, Opening, MarkOf, Closing, AllMacros}
+use Rattle.tangle_plans.specs.WebShapes.{resolved_at}
+use Rattle.tangle_plans.specs.Slots.{Slot, Own, Used, byte_slots}
+
+-- how many marks there are behind an item
+abbrev pub marks_behind_item : ℕ → Item → ℕ
+marks_behind_item marks (item.LineMark origin) = marks + 1
+marks_behind_item marks (item.Word span) = marks
+marks_behind_item marks (item.Sign span) = marks
+marks_behind_item marks (item.Quoted span) = marks
+marks_behind_item marks item.QuoteBreak = marks
+marks_behind_item marks (item.Verbatim span) = marks
+marks_behind_item marks (item.Code value) = marks
+marks_behind_item marks item.Blank = marks
+marks_behind_item marks item.LineEnd = marks
+marks_behind_item marks (item.UseOf occurrence) = marks
+marks_behind_item marks item.Defs = marks
+
+-- a name with a piece is used by its number, and any other use is a space
+abbrev pub name_slots : (ℕ → Bool) → Resolved → List Slot
+name_slots has_piece (Name id) = if has_piece id then Used id ∷ [] else Own (Byte space) ∷ []
+name_slots has_piece NoFullName = Own (Byte space) ∷ []
+name_slots has_piece Ambiguous = Own (Byte space) ∷ []
+
+module _ (texts : List (List ℕ)) (table : TableRead) (has_piece : ℕ → Bool) (node : Title) where
+  abbrev pub item_slots : ℕ → ℕ → Item → List Slot
+  item_slots piece marks (item.Word span) = byte_slots (span_text texts span)
+  item_slots piece marks (item.Sign span) = byte_slots (span_text texts span)
+  item_slots piece marks (item.Quoted span) = byte_slots (span_text texts span)
+  item_slots piece marks item.QuoteBreak = byte_slots (line_feed ∷ [])
+  item_slots piece marks (item.Verbatim span) = byte_slots (span_text texts span)
+  item_slots piece marks (item.Code value) = byte_slots (decimal value)
+  item_slots piece marks item.Blank = byte_slots (space ∷ [])
+  item_slots piece marks item.LineEnd = byte_slots (line_feed ∷ [])
+  item_slots piece marks (item.LineMark origin) = Own (MarkOf node piece (marks + 1)) ∷ []
+  item_slots piece marks (item.UseOf occurrence) = name_slots has_piece (resolved_at table occurrence)
+  item_slots piece marks item.Defs = Own AllMacros ∷ []
+
+  -- the items of a piece, and its closing
+  abbrev pub items_slots : ℕ → ℕ → List Item → List Slot
+  items_slots piece marks [] = Own (Closing node piece) ∷ []
+  items_slots piece marks (x ∷ items) = item_slots piece marks x ++ items_slots piece (marks_behind_item marks x) items
+
+  abbrev pub piece_slots : ℕ → List Item → List Slot
+  piece_slots piece items = Own (Opening node piece) ∷ Own (MarkOf node piece 0) ∷ items_slots piece 0 items
+
+  abbrev pub pieces_slots : ℕ → List PieceRead → List Slot
+  pieces_slots piece [] = []
+  pieces_slots piece (p ∷ pieces) = piece_slots piece p.items ++ pieces_slots (piece + 1) pieces
+
+abbrev pub no_piece : PieceRead
+no_piece = record { section = 0; origin = record { file = 0; line = 0 }; occurrence = None; items = [] }
+
+-- the pieces with these numbers
+abbrev pub pieces_at : List PieceRead → List ℕ → List PieceRead
+pieces_at pieces numbers = map (λ n. slice_index_or pieces n no_piece) numbers

@@ -1,0 +1,76 @@
+-- The tags of a web's items, their bytes and the numbers of the names that they use.
+use Rattle.std.specs.Prelude.{ℕ, ◌-◌, List, [], ◌∷◌, ◌++◌, length, map, flat_map, decimal}
+use Rattle.tangle_files.specs.Bytes.{space, line_feed}
+use Rattle.tangle_scan.specs.declared.items.Item.{Item}
+use Rattle.tangle_scan.specs.declared.items.Item.TheVariants as item
+use Rattle.tangle_scan.specs.Rules.{span_text}
+use Rattle.tangle_scan.specs.Web.{PieceRead}
+use Rattle.tangle_names.specs.declared.Resolved.{Resolved}
+use Rattle.tangle_names.specs.declared.Resolved.TheVariants.{Name, NoFullName, Ambiguous}
+use Rattle.tangle_names.specs.NameTable.{TableRead}
+use Rattle.tangle_plans.specs.WebShapes.{resolved_at, shape_item}
+use Rattle.tangle_plans.specs.Shapes.{Shape}
+use Rattle.tangle_plans.specs.Tags.{piece_end}
+use Rattle.tangle_plans.specs.declared.tags.ItemKind.TheVariants as tag
+use Rattle.tangle_plans.specs.declared.tags.ItemTag.{ItemTag}
+
+abbrev pub use_tag : Resolved → ItemTag
+use_tag (Name id) = record { kind = tag.Use; size = 0 }
+use_tag NoFullName = record { kind = tag.NoUse; size = 0 }
+use_tag Ambiguous = record { kind = tag.NoUse; size = 0 }
+
+abbrev pub names_resolved : Resolved → List ℕ
+names_resolved (Name id) = id ∷ []
+names_resolved NoFullName = []
+names_resolved Ambiguous = []
+
+module _ (table : TableRead) where
+  -- the tag of an item, whose text is as long as its range of the source
+  abbrev pub tag_in : Item → ItemTag
+  tag_in (item.Word span) = record { kind = tag.Word; size = span.end - span.start }
+  tag_in (item.Sign span) = record { kind = tag.Sign; size = span.end - span.start }
+  tag_in (item.Quoted span) = record { kind = tag.Quoted; size = span.end - span.start }
+  tag_in item.QuoteBreak = record { kind = tag.QuoteBreak; size = 1 }
+  tag_in (item.Verbatim span) = record { kind = tag.Verbatim; size = span.end - span.start }
+  tag_in (item.Code value) = record { kind = tag.AsciiConstant; size = length (decimal value) }
+  tag_in item.Blank = record { kind = tag.Blank; size = 1 }
+  tag_in item.LineEnd = record { kind = tag.LineEnd; size = 1 }
+  tag_in (item.LineMark origin) = record { kind = tag.Mark; size = 0 }
+  tag_in (item.UseOf occurrence) = use_tag (resolved_at table occurrence)
+  tag_in item.Defs = record { kind = tag.AllMacros; size = 0 }
+
+  abbrev pub piece_tags : List Item → List ItemTag
+  piece_tags items = map tag_in items ++ piece_end ∷ []
+
+  abbrev pub pieces_tags : List PieceRead → List ItemTag
+  pieces_tags pieces = flat_map (λ (p : PieceRead). piece_tags p.items) pieces
+
+  -- the number of the name that an item uses, if it uses one
+  abbrev pub names_in : Item → List ℕ
+  names_in (item.UseOf occurrence) = names_resolved (resolved_at table occurrence)
+  names_in _ = []
+
+  abbrev pub pieces_names : List PieceRead → List ℕ
+  pieces_names pieces = flat_map (λ (p : PieceRead). flat_map names_in p.items) pieces
+
+module _ (texts : List (List ℕ)) where
+  -- the bytes of an item; a use, a mark and the macros have none
+  abbrev pub bytes_in : Item → List ℕ
+  bytes_in (item.Word span) = span_text texts span
+  bytes_in (item.Sign span) = span_text texts span
+  bytes_in (item.Quoted span) = span_text texts span
+  bytes_in item.QuoteBreak = line_feed ∷ []
+  bytes_in (item.Verbatim span) = span_text texts span
+  bytes_in (item.Code value) = decimal value
+  bytes_in item.Blank = space ∷ []
+  bytes_in item.LineEnd = line_feed ∷ []
+  bytes_in (item.LineMark origin) = []
+  bytes_in (item.UseOf occurrence) = []
+  bytes_in item.Defs = []
+
+  abbrev pub pieces_bytes : List PieceRead → List ℕ
+  pieces_bytes pieces = flat_map (λ (p : PieceRead). flat_map bytes_in p.items) pieces
+
+-- the shape of a node with these pieces
+abbrev pub shape_of : List (List ℕ) → TableRead → List PieceRead → Shape
+shape_of texts table pieces = map (λ (p : PieceRead). map (shape_item texts table) p.items) pieces

@@ -1,0 +1,14 @@
+pub mod Shapes
+pub mod Flat
+pub mod WebShapes
+pub mod Meaning
+pub mod Nodes
+pub mod Slots
+pub mod Planned
+pub mod ItemSlots
+pub mod Tags
+pub mod ItemTags
+pub mod Runs
+pub mod NodeBodies
+pub mod Comparing
+pub mod Fronts

@@ -1,0 +1,75 @@
+-- The shapes of a web: of each node its pieces, with section numbers and origins struck out and each use resolved.
+use Rattle.std.specs.Prelude.{◌⊎◌, ◌≡◌, ℕ, Bool, true, false, List, [], ◌∷◌}
+use Rattle.std.specs.Str.{bytes_eq}
+
+-- a node: the unnamed program, or a full name by its text
+pub data Title : Type 0 where
+  Program : Title
+  Named : List ℕ → Title
+
+abbrev pub title_eq : Title → Title → Bool
+title_eq Program Program = true
+title_eq Program (Named name) = false
+title_eq (Named name) Program = false
+title_eq (Named name) (Named other) = bytes_eq name other
+
+-- what an item is that is written as it is
+pub data Kind : Type 0 where
+  Word : Kind
+  Sign : Kind
+  Quoted : Kind
+  QuoteBreak : Kind
+  Verbatim : Kind
+  AsciiConstant : Kind
+  Blank : Kind
+  LineEnd : Kind
+
+-- an item, as far as a shape has it
+pub data ShapeItem : Type 0 where
+  -- of this kind, with the bytes that are written
+  Written : Kind → List ℕ → ShapeItem
+  -- a line mark, whose origin is struck out
+  Mark : ShapeItem
+  -- all macros of the web
+  AllMacros : ShapeItem
+  -- a use that resolves to this name
+  Use : List ℕ → ShapeItem
+  -- a use that is not resolved
+  NoUse : ShapeItem
+
+abbrev pub Shape : Type 0
+Shape = List (List ShapeItem)
+
+-- the shape of each node; a node without a piece has the empty one
+abbrev pub Shapes : Type 0
+Shapes = Title → Shape
+
+-- the item is a use of the name
+abbrev pub IsUseOf : ShapeItem → List ℕ → Type 0
+IsUseOf (Written kind bytes) name = ⊥
+IsUseOf Mark name = ⊥
+IsUseOf AllMacros name = ⊥
+IsUseOf (Use other) name = other ≡ name
+IsUseOf NoUse name = ⊥
+
+-- a use of the name is in the piece
+abbrev pub UsesInPiece : List ShapeItem → List ℕ → Type 0
+UsesInPiece [] name = ⊥
+UsesInPiece (item ∷ items) name = IsUseOf item name ⊎ UsesInPiece items name
+
+abbrev pub UsesInShape : Shape → List ℕ → Type 0
+UsesInShape [] name = ⊥
+UsesInShape (piece ∷ pieces) name = UsesInPiece piece name ⊎ UsesInShape pieces name
+
+-- the node uses the name
+abbrev pub Uses : Shapes → Title → List ℕ → Type 0
+Uses shapes node name = UsesInShape (shapes node) name
+
+-- from the node the other one is reached in no step, one step or more
+pub data Reaches (shapes : Shapes) : Title → Title → Type 0 where
+  here : {node : Title} → Reaches shapes node node
+  on : {node other : Title} {name : List ℕ} → Uses shapes node name → Reaches shapes (Named name) other → Reaches shapes node other
+
+-- the node reaches itself in one step or more
+abbrev pub ContainsItself : Shapes → Title → Type 0
+ContainsItself shapes node = (name : List ℕ) × (Uses shapes node name) × Reaches shapes (Named name) node

@@ -1,0 +1,101 @@
+-- What a plan says of a node by itself: its own symbols, and where it uses which names.
+use Rattle.std.specs.Prelude.{◌≡◌, ◌≤◌, ℕ, ◌+◌, Bool, true, false, nat_lt, if◌then◌else◌, List, [], ◌∷◌, ◌++◌, length, map, flat_map}
+use Rattle.std.specs.List.{AllByRecursion}
+use Rattle.tangle_files.specs.Bytes.{space}
+use Rattle.tangle_plans.specs.Shapes.{Title}
+use Rattle.tangle_plans.specs.Flat.{Symbol, Byte, Opening, MarkOf, Closing, AllMacros}
+use Rattle.tangle_plans.specs.Meaning.{bytes_between, pieces_passed, marks_passed, bytes_passed}
+use Rattle.tangle_plans.specs.declared.steps.Step.{Step}
+use Rattle.tangle_plans.specs.declared.steps.Step.TheVariants as step
+
+-- a symbol of its own, or a use of the name with this number
+pub data Slot : Type 0 where
+  Own : Symbol → Slot
+  Used : ℕ → Slot
+
+module _ (node : Title) (text : List ℕ) where
+  abbrev pub step_slots : ℕ → ℕ → ℕ → Step → List Slot
+  step_slots piece marks start step.Open = Own (Opening node piece) ∷ Own (MarkOf node piece 0) ∷ []
+  step_slots piece marks start (step.Run end) = map (λ b. Own (Byte b)) (bytes_between text start end)
+  step_slots piece marks start step.Mark = Own (MarkOf node piece (marks + 1)) ∷ []
+  step_slots piece marks start step.AllMacros = Own AllMacros ∷ []
+  step_slots piece marks start step.Space = Own (Byte space) ∷ []
+  step_slots piece marks start (step.Use id) = Used id ∷ []
+  step_slots piece marks start step.Close = Own (Closing node piece) ∷ []
+
+  abbrev pub slots : ℕ → ℕ → ℕ → List Step → List Slot
+  slots piece marks start [] = []
+  slots piece marks start (s ∷ plan) =
+      step_slots piece marks start s ++ slots (pieces_passed piece s) (marks_passed marks s) (bytes_passed start s) plan
+
+-- a slot with the symbols of the names
+abbrev pub filled_slot : (ℕ → List Symbol) → Slot → List Symbol
+filled_slot symbols (Own symbol) = symbol ∷ []
+filled_slot symbols (Used id) = Byte space ∷ symbols id
+
+abbrev pub filled : (ℕ → List Symbol) → List Slot → List Symbol
+filled symbols ss = flat_map (filled_slot symbols) ss
+
+-- the names that a step uses
+abbrev pub step_uses : Step → List ℕ
+step_uses (step.Use id) = id ∷ []
+step_uses step.Open = []
+step_uses (step.Run end) = []
+step_uses step.Mark = []
+step_uses step.AllMacros = []
+step_uses step.Space = []
+step_uses step.Close = []
+
+abbrev pub uses_of : List Step → List ℕ
+uses_of [] = []
+uses_of (s ∷ plan) = step_uses s ++ uses_of plan
+
+-- where a plan is at its end
+
+abbrev pub pieces_after : ℕ → List Step → ℕ
+pieces_after piece [] = piece
+pieces_after piece (s ∷ plan) = pieces_after (pieces_passed piece s) plan
+
+abbrev pub marks_after : ℕ → List Step → ℕ
+marks_after marks [] = marks
+marks_after marks (s ∷ plan) = marks_after (marks_passed marks s) plan
+
+abbrev pub bytes_after : ℕ → List Step → ℕ
+bytes_after start [] = start
+bytes_after start (s ∷ plan) = bytes_after (bytes_passed start s) plan
+
+-- no run ends behind this position
+abbrev pub EndsWithin : ℕ → Step → Type 0
+EndsWithin most (step.Run end) = end ≤ most
+EndsWithin most step.Open = Unit {0}
+EndsWithin most step.Mark = Unit {0}
+EndsWithin most step.AllMacros = Unit {0}
+EndsWithin most step.Space = Unit {0}
+EndsWithin most (step.Use id) = Unit {0}
+EndsWithin most step.Close = Unit {0}
+
+abbrev pub is_run : Step → Bool
+is_run (step.Run end) = true
+is_run step.Open = false
+is_run step.Mark = false
+is_run step.AllMacros = false
+is_run step.Space = false
+is_run (step.Use id) = false
+is_run step.Close = false
+
+-- the run up to a position, if it is not empty
+abbrev pub last_run : ℕ → ℕ → List Step
+last_run start end = if nat_lt start end then step.Run end ∷ [] else []
+
+-- a text and a plan that are being made: all runs end where the last one does, which is within the text
+pub record IsMade (text : List ℕ) (plan : List Step) (piece marks start : ℕ) : Type 0 where
+  pub pieces : piece ≡ pieces_after 0 plan
+  pub marks_of_piece : marks ≡ marks_after 0 plan
+  pub runs : start ≡ bytes_after 0 plan
+  pub within : start ≤ length text
+  pub pieces_few : piece ≤ length plan
+  pub marks_few : marks ≤ length plan
+  pub ends : AllByRecursion (EndsWithin (length text)) plan
+
+abbrev pub byte_slots : List ℕ → List Slot
+byte_slots bytes = map (λ b. Own (Byte b)) bytes

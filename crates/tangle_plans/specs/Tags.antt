@@ -1,0 +1,56 @@
+-- What two shapes are compared by: for each item a small tag, all bytes of the items, and the names of the uses.
+use Rattle.std.specs.Prelude.{ℕ, List, [], ◌∷◌, ◌++◌, length, map, flat_map}
+use Rattle.tangle_plans.specs.Shapes.{Kind, ShapeItem, Written, Mark, AllMacros, Use, NoUse, Shape}
+use Rattle.tangle_plans.specs.Shapes as kind
+use Rattle.tangle_plans.specs.declared.tags.ItemKind.{ItemKind}
+use Rattle.tangle_plans.specs.declared.tags.ItemKind.TheVariants as tag
+use Rattle.tangle_plans.specs.declared.tags.ItemTag.{ItemTag}
+
+abbrev pub text_kind : Kind → ItemKind
+text_kind kind.Word = tag.Word
+text_kind kind.Sign = tag.Sign
+text_kind kind.Quoted = tag.Quoted
+text_kind kind.QuoteBreak = tag.QuoteBreak
+text_kind kind.Verbatim = tag.Verbatim
+text_kind kind.AsciiConstant = tag.AsciiConstant
+text_kind kind.Blank = tag.Blank
+text_kind kind.LineEnd = tag.LineEnd
+
+-- the tag of an item: its kind, and how many bytes its text has
+abbrev pub item_tag : ShapeItem → ItemTag
+item_tag (Written k bytes) = record { kind = text_kind k; size = length bytes }
+item_tag Mark = record { kind = tag.Mark; size = 0 }
+item_tag AllMacros = record { kind = tag.AllMacros; size = 0 }
+item_tag (Use name) = record { kind = tag.Use; size = 0 }
+item_tag NoUse = record { kind = tag.NoUse; size = 0 }
+
+-- white space
+abbrev pub blank_tag : ItemTag
+blank_tag = record { kind = tag.Blank; size = 1 }
+
+-- the end of a piece
+abbrev pub piece_end : ItemTag
+piece_end = record { kind = tag.PieceEnd; size = 0 }
+
+abbrev pub item_bytes : ShapeItem → List ℕ
+item_bytes (Written k bytes) = bytes
+item_bytes Mark = []
+item_bytes AllMacros = []
+item_bytes (Use name) = []
+item_bytes NoUse = []
+
+abbrev pub item_names : ShapeItem → List (List ℕ)
+item_names (Written k bytes) = []
+item_names Mark = []
+item_names AllMacros = []
+item_names (Use name) = name ∷ []
+item_names NoUse = []
+
+abbrev pub shape_tags : Shape → List ItemTag
+shape_tags shape = flat_map (λ items. map item_tag items ++ piece_end ∷ []) shape
+
+abbrev pub shape_bytes : Shape → List ℕ
+shape_bytes shape = flat_map (λ items. flat_map item_bytes items) shape
+
+abbrev pub shape_names : Shape → List (List ℕ)
+shape_names shape = flat_map (λ items. flat_map item_names items) shape

@@ -1,0 +1,74 @@
+-- The shapes of a web with its table of names.
+use Rattle.std.specs.Prelude.{ℕ, ◌<◌, length, Bool, false, List, [], ◌∷◌, map, filter, slice_index_or, decimal, Option, Some, None}
+use Rattle.tangle_files.specs.Bytes.{space, line_feed}
+use Rattle.tangle_scan.specs.declared.items.Item.{Item}
+use Rattle.tangle_scan.specs.declared.items.Item.TheVariants as item
+use Rattle.tangle_scan.specs.Rules.{span_text}
+use Rattle.tangle_scan.specs.Web.{WebRead, PieceRead}
+use Rattle.tangle_names.specs.declared.Resolved.{Resolved}
+use Rattle.tangle_names.specs.declared.Resolved.TheVariants.{Name, NoFullName, Ambiguous}
+use Rattle.tangle_names.specs.NameTable.{TableRead}
+use Rattle.tangle_plans.specs.Shapes.{Title, Program, Named, title_eq, Kind, ShapeItem, Written, Mark, AllMacros, Use, NoUse, Shape, Shapes}
+use Rattle.tangle_plans.specs.Shapes as kind
+
+module _ (table : TableRead) where
+  -- what the occurrence with this number resolves to
+  abbrev pub resolved_at : ℕ → Resolved
+  resolved_at occurrence = slice_index_or table.resolved occurrence NoFullName
+
+  -- a use of what is resolved to
+  abbrev pub use_of : Resolved → ShapeItem
+  use_of (Name id) = Use (slice_index_or table.names id [])
+  use_of NoFullName = NoUse
+  use_of Ambiguous = NoUse
+
+  -- the node that is resolved to
+  abbrev pub node_of : Resolved → Option Title
+  node_of (Name id) = Some (Named (slice_index_or table.names id []))
+  node_of NoFullName = None
+  node_of Ambiguous = None
+
+  -- the node of a piece with this name, or of an unnamed one; a piece whose name is not resolved has none and is dropped
+  abbrev pub node_of_name : Option ℕ → Option Title
+  node_of_name None = Some Program
+  node_of_name (Some occurrence) = node_of (resolved_at occurrence)
+
+  abbrev pub is_node : Title → Option Title → Bool
+  is_node node None = false
+  is_node node (Some other) = title_eq node other
+
+  abbrev pub is_piece_of : Title → PieceRead → Bool
+  is_piece_of node piece = is_node node (node_of_name piece.occurrence)
+
+-- what is resolved to is one of so many names
+abbrev pub IsNameBelow : ℕ → Resolved → Type 0
+IsNameBelow count (Name id) = id < count
+IsNameBelow count NoFullName = Unit {0}
+IsNameBelow count Ambiguous = Unit {0}
+
+-- all occurrences resolve to names of the table, if to any
+abbrev pub ResolvesInside : TableRead → Type 0
+ResolvesInside table = (occurrence : ℕ) → IsNameBelow (length table.names) (resolved_at table occurrence)
+
+module _ (texts : List (List ℕ)) (table : TableRead) where
+  -- an item of a shape: kinds and texts as they are cut, without origins
+  abbrev pub shape_item : Item → ShapeItem
+  shape_item (item.Word span) = Written kind.Word (span_text texts span)
+  shape_item (item.Sign span) = Written kind.Sign (span_text texts span)
+  shape_item (item.Quoted span) = Written kind.Quoted (span_text texts span)
+  shape_item item.QuoteBreak = Written kind.QuoteBreak (line_feed ∷ [])
+  shape_item (item.Verbatim span) = Written kind.Verbatim (span_text texts span)
+  shape_item (item.Code value) = Written kind.AsciiConstant (decimal value)
+  shape_item item.Blank = Written kind.Blank (space ∷ [])
+  shape_item item.LineEnd = Written kind.LineEnd (line_feed ∷ [])
+  shape_item (item.LineMark origin) = Mark
+  shape_item (item.UseOf occurrence) = use_of table (resolved_at table occurrence)
+  shape_item item.Defs = AllMacros
+
+module _ (web : WebRead) (table : TableRead) where
+  -- the pieces of a node, in the order of the source
+  abbrev pub pieces_of : Title → List PieceRead
+  pieces_of node = filter (is_piece_of table node) web.pieces
+
+  abbrev pub shapes : Shapes
+  shapes node = map (λ piece. map (shape_item web.texts table) piece.items) (pieces_of node)

@@ -1,0 +1,58 @@
+//! How many pieces, marks and bytes of a plan are behind a step.
+ghost use Rattle.std.specs.Prelude.{◌≡◌, ◌+◌, ◌^◌, ◌<◌};
+ghost use Rattle.tangle_plans.specs.Meaning.{pieces_passed, marks_passed, bytes_passed};
+
+/// A step of a plan.
+#[derive(Clone, Copy, Debug, PartialEq, Eq)]
+pub enum Step {
+    /// A piece begins, with its opening and its opening mark.
+    Open,
+    /// The bytes of the text up to this position.
+    Run(usize),
+    /// A line mark.
+    Mark,
+    /// All macros.
+    AllMacros,
+    /// A use without a text: a space.
+    Space,
+    /// A use of the name with this number, which has a piece: a space and the name's symbols.
+    Use(usize),
+    /// A piece ends, with its closing.
+    Close,
+}
+
+/// How many pieces have ended behind a step, with so many before it.
+pub fn pieces_behind(piece: usize, step: Step) -> usize
+    requires { piece + 1 < 2 ^ 64 }
+    ensures { result ≡ pieces_passed piece step }
+{
+    match step {
+        Step::Close => piece + 1,
+        Step::Open | Step::Run(_) | Step::Mark | Step::AllMacros | Step::Space | Step::Use(_) =>
+            piece,
+    }
+}
+
+/// How many marks of its piece are behind a step, with so many before it. The opening mark is none
+/// of them.
+pub fn marks_behind(marks: usize, step: Step) -> usize
+    requires { marks + 1 < 2 ^ 64 }
+    ensures { result ≡ marks_passed marks step }
+{
+    match step {
+        Step::Open | Step::Close => 0,
+        Step::Mark => marks + 1,
+        Step::Run(_) | Step::AllMacros | Step::Space | Step::Use(_) => marks,
+    }
+}
+
+/// How many bytes of the text are behind a step, with so many before it.
+pub fn bytes_behind(start: usize, step: Step) -> usize
+    ensures { result ≡ bytes_passed start step }
+{
+    match step {
+        Step::Run(end) => end,
+        Step::Open | Step::Mark | Step::AllMacros | Step::Space | Step::Use(_) | Step::Close =>
+            start,
+    }
+}

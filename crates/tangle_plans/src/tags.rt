@@ -1,0 +1,160 @@
+//! What two shapes are compared by, beside the bytes of their items: tags of the items, and the
+//! names that they use.
+ghost use Rattle.std.specs.Prelude.{◌≡◌, ◌↔◌, true, ◌++◌, ◌-◌, ◌<◌, ◌≤◌, length, OnOk, decimal};
+ghost use Rattle.std.specs.List.{All};
+ghost use Rattle.tangle_scan.specs.WellFormed.{IsUseBelow};
+ghost use Rattle.tangle_plans.specs.ItemTags.{use_tag as tag_of_use, tag_in, names_resolved};
+ghost use Rattle.tangle_plans.specs.Tags.{blank_tag, piece_end};
+
+use itoa::Buffer;
+use tangle_lines::NoMemory;
+use tangle_names::{NameTable, Resolved};
+use tangle_scan::{Item, Piece, Span};
+
+/// The kind of an item of a shape, or the end of a piece.
+#[derive(Clone, Copy, Debug, PartialEq, Eq)]
+pub(crate) enum ItemKind {
+    Word,
+    Sign,
+    Quoted,
+    QuoteBreak,
+    Verbatim,
+    AsciiConstant,
+    Blank,
+    LineEnd,
+    Mark,
+    AllMacros,
+    Use,
+    NoUse,
+    PieceEnd,
+}
+
+/// An item in four bytes: its kind, and how many bytes its text has.
+#[derive(Clone, Copy, Debug, PartialEq, Eq)]
+pub(crate) struct ItemTag {
+    kind: ItemKind,
+    size: u16,
+}
+
+/// The tag of an item whose text is a range of the source.
+pub(crate) fn text_tag(kind: ItemKind, span: Span) -> ItemTag
+    ensures { result ≡ record { kind = kind; size = span.end - span.start } }
+{
+    ItemTag {
+        kind,
+        size: span.end.saturating_sub(span.start),
+    }
+}
+
+/// The same tag, where the range does not end before it starts.
+pub(crate) fn tag_of_span(kind: ItemKind, span: Span) -> ItemTag
+    requires { span.start ≤ span.end }
+    ensures { result ≡ record { kind = kind; size = span.end - span.start } }
+{
+    ItemTag {
+        kind,
+        size: span.end - span.start,
+    }
+}
+
+/// The tag of an item whose text has so many bytes.
+fn fixed_tag(kind: ItemKind, size: u16) -> ItemTag
+    ensures { result ≡ record { kind = kind; size = size } }
+{
+    ItemTag { kind, size }
+}
+
+/// How many decimal digits the value has.
+fn digit_count(value: u8) -> u16
+    ensures { result ≡ length (decimal value) }
+{
+    let mut digits = Buffer::new();
+    digits.format(value).as_bytes().len() as u16
+}
+
+/// The tag of a use of what is resolved to.
+fn use_tag(resolved: Resolved) -> ItemTag
+    ensures { result ≡ tag_of_use resolved }
+{
+    match resolved {
+        Resolved::Name(_) => fixed_tag(ItemKind::Use, 0),
+        Resolved::NoFullName | Resolved::Ambiguous => fixed_tag(ItemKind::NoUse, 0),
+    }
+}
+
+/// The tag of an item.
+pub(crate) fn tag_of(item: &Item, table: &NameTable) -> ItemTag
+    requires { IsUseBelow (length table.now.resolved) item.now }
+    ensures { result ≡ tag_in table.now item.now }
+{
+    match item {
+        Item::Word(span) => text_tag(ItemKind::Word, *span),
+        Item::Sign(span) => text_tag(ItemKind::Sign, *span),
+        Item::Quoted(span) => text_tag(ItemKind::Quoted, *span),
+        Item::Verbatim(span) => text_tag(ItemKind::Verbatim, *span),
+        Item::QuoteBreak => fixed_tag(ItemKind::QuoteBreak, 1),
+        Item::Code(value) => fixed_tag(ItemKind::AsciiConstant, digit_count(*value)),
+        Item::Blank => fixed_tag(ItemKind::Blank, 1),
+        Item::LineEnd => fixed_tag(ItemKind::LineEnd, 1),
+        Item::LineMark(_) => fixed_tag(ItemKind::Mark, 0),
+        Item::UseOf(occurrence) => use_tag(table.resolve(occurrence.number())),
+        Item::Defs => fixed_tag(ItemKind::AllMacros, 0),
+    }
+}
+
+/// The tag of white space.
+pub(crate) fn tag_of_blank() -> ItemTag
+    ensures { result ≡ blank_tag }
+{
+    fixed_tag(ItemKind::Blank, 1)
+}
+
+/// The tag of the end of a piece.
+pub(crate) fn end_of_piece() -> ItemTag
+    ensures { result ≡ piece_end }
+{
+    fixed_tag(ItemKind::PieceEnd, 0)
+}
+
+/// How many tags the pieces with these numbers have, for the memory that they take.
+pub(crate) fn tag_count(pieces: &[Piece], numbers: &[usize]) -> usize
+    requires { All (λ n. n < length pieces.now) numbers.now }
+{
+    let mut count = numbers.len();
+    for number in numbers {
+        count = count.saturating_add(pieces[*number].items().len());
+    }
+    count
+}
+
+/// Whether two tags are the same.
+pub(crate) fn same_tag(tag: ItemTag, other: ItemTag) -> bool
+    ensures { (result ≡ true) ↔ (tag ≡ other) }
+{
+    tag == other
+}
+
+/// Whether two lists of tags are the same.
+pub(crate) fn same_tags(tags: &[ItemTag], others: &[ItemTag]) -> bool
+    ensures { (result ≡ true) ↔ (tags.now ≡ others.now) }
+{
+    if tags.len() != others.len() {
+        return false;
+    }
+    for i in 0..tags.len() {
+        if !same_tag(tags[i], others[i]) {
+            return false;
+        }
+    }
+    true
+}
+
+/// Adds the number of the name that is resolved to, if there is one.
+pub(crate) fn add_name(names: &mut Vec<usize>, resolved: Resolved) -> Result<(), NoMemory>
+    ensures { OnOk result (names.new.items ≡ names.old.items ++ names_resolved resolved) }
+{
+    if let Resolved::Name(id) = resolved {
+        names.push(id)?;
+    }
+    Ok(())
+}

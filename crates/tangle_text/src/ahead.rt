@@ -1,0 +1,440 @@
+//! The text that is still ahead.
+ghost use Rattle.std.specs.Prelude.{◌≡◌, ◌≤◌, ◌<◌, ◌+◌, ℕ, List, [], length, take, drop};
+ghost use Rattle.std.specs.Prelude.{get_or, Option, Some, None, slice_get, IsSome, IfSome, IfNone};
+ghost use Rattle.std.specs.Prelude.{true, false};
+ghost use Rattle.tangle_lines.specs.Bytes as lines;
+ghost use Rattle.tangle_text.specs.Ahead.{IsFront, run_length};
+ghost use Rattle.tangle_text.specs.Bytes as byte;
+ghost use Rattle.tangle_text.specs.NameBytes.{BeginsName};
+ghost use Rattle.tangle_text.specs.declared.regions.Region.TheVariants as region;
+ghost use Rattle.tangle_text.specs.Words.{word_more, is_include_word};
+ghost use Rattle.tangle_text.specs.Text.{text_from, byte_at, bytes_of, line_at, column_at};
+ghost use Rattle.tangle_text.specs.Text.{span_at};
+ghost use Rattle.tangle_text.specs.Regions as regions;
+ghost use Rattle.tangle_text.specs.Regions.{count_before, more_by, region_end};
+
+use crate::bytes::{holds, is_white, is_word_byte};
+use crate::regions::{Region, Unit, is_text, unit_of};
+use crate::spans::Span;
+use memchr::memchr;
+use std::marker::Model;
+use tangle_lines::Source;
+
+/// What is at a position and behind it: bytes, or line ends.
+#[derive(Clone, Copy)]
+pub struct Front {
+    pub byte: Option<u8>,
+    pub next: Option<u8>,
+}
+
+/// The text of a source from a position on.
+#[derive(Drop)]
+pub struct Reader<'s, 'a> {
+    source: &'s Source<'a>,
+    /// The bytes of the line.
+    text: &'a [u8],
+    line: usize,
+    column: usize,
+    /// The last line was read.
+    is_done: bool,
+}
+
+impl<'s, 'a> Model for Reader<'s, 'a> {
+    ghost use Rattle.std.specs.Prelude.{List, length, ◌≤◌, ◌<◌, ◌≡◌, false};
+    ghost use Rattle.tangle_text.specs.Text.{Cell};
+    ghost use Rattle.tangle_text.specs.Ahead.{rest_of};
+
+    ghost Value = { List Cell };
+
+    ghost view = { λ r. rest_of r.source.now.lines r.text.now r.line r.column r.is_done };
+
+    ghost invariant = { λ r. (r.column ≤ length r.text.now)
+        × ((r.is_done ≡ false → r.line < length r.source.now.lines)
+        × ((r.line ≤ 2000000) × (length r.text.now ≤ 65535))) };
+}
+
+/// The byte at a column of a line, or none at its end.
+#[inline(always)]
+fn byte_of(text: &[u8], column: usize) -> Option<u8>
+    ensures { result ≡ slice_get text.now column }
+{
+    text.get(column).copied()
+}
+
+/// The column of the next `@` of a line, or its length.
+fn at_sign_from(text: &[u8], column: usize) -> usize
+    requires { column ≤ length text.now }
+    ensures low { column ≤ result }
+    ensures high { result ≤ length text.now }
+    ensures before { (k : ℕ) → column + k < result → get_or text.now (column + k) 0 ≡ 64 → ⊥ }
+{
+    match memchr(b'@', &text[column..]) {
+        Some(count) => column + count,
+        None => text.len(),
+    }
+}
+
+/// The column where the bytes that pass end, from this column on.
+// Four bytes are looked at in a turn, since most words have as many.
+macro_rules! run_end {
+    ($passes:ident, $text:ident, $from:ident) => {{
+        let mut end = $from;
+        while $text.len() - end >= 4 {
+            if !$passes($text[end]) {
+                return end;
+            }
+            if !$passes($text[end + 1]) {
+                return end + 1;
+            }
+            if !$passes($text[end + 2]) {
+                return end + 2;
+            }
+            if !$passes($text[end + 3]) {
+                return end + 3;
+            }
+            end += 4;
+        }
+        while end < $text.len() && $passes($text[end]) {
+            end += 1;
+        }
+        end
+    }};
+}
+
+/// The column where the word bytes from this column on end.
+#[inline(always)]
+fn word_end(text: &[u8], from: usize) -> usize
+    requires { from ≤ length text.now }
+    ensures end { result ≡ from + run_length byte.is_word_byte (drop from text.now) }
+    ensures inside { result ≤ length text.now }
+{
+    run_end!(is_word_byte, text, from)
+}
+
+/// Whether each byte has no meaning in comments, control texts, quoted and verbatim texts.
+const ORDINARY_BYTES: [bool; 256] = [
+    true, true, true, true, true, true, true, true, true, true, true, true, true, true, true, true,
+    true, true, true, true, true, true, true, true, true, true, true, true, true, true, true, true,
+    true, true, false, true, true, true, true, false, true, true, false, true, true, true, true,
+    true, true, true, true, true, true, true, true, true, true, true, true, true, true, true,
+    false, true, false, true, true, true, true, true, true, true, true, true, true, true, true,
+    true, true, true, true, true, true, true, true, true, true, true, true, true, true, true,
+    false, true, true, true, true, true, true, true, true, true, true, true, true, true, true,
+    true, true, true, true, true, true, true, true, true, true, true, true, true, true, true, true,
+    true, true, true, true, true, true, true, true, true, true, true, true, true, true, true, true,
+    true, true, true, true, true, true, true, true, true, true, true, true, true, true, true, true,
+    true, true, true, true, true, true, true, true, true, true, true, true, true, true, true, true,
+    true, true, true, true, true, true, true, true, true, true, true, true, true, true, true, true,
+    true, true, true, true, true, true, true, true, true, true, true, true, true, true, true, true,
+    true, true, true, true, true, true, true, true, true, true, true, true, true, true, true, true,
+    true, true, true, true, true, true, true, true, true, true, true, true, true, true, true, true,
+    true, true, true, true, true, true, true, true, true, true, true, true, true, true, true, true,
+    true, true, true, true, true,
+];
+
+/// A byte without a meaning in comments, control texts, quoted and verbatim texts.
+fn is_ordinary(byte: u8) -> bool
+    ensures { result ≡ regions.is_ordinary byte }
+{
+    ORDINARY_BYTES[byte as usize]
+}
+
+/// The column where such bytes from this column on end.
+fn ordinary_end(text: &[u8], from: usize) -> usize
+    requires { from ≤ length text.now }
+    ensures end { result ≡ from + run_length regions.is_ordinary (drop from text.now) }
+    ensures inside { result ≤ length text.now }
+{
+    run_end!(is_ordinary, text, from)
+}
+
+/// The column where the white space from this column on ends.
+#[inline(always)]
+fn white_end(text: &[u8], from: usize) -> usize
+    requires { from ≤ length text.now }
+    ensures end { result ≡ from + run_length lines.is_white (drop from text.now) }
+    ensures inside { result ≤ length text.now }
+{
+    let mut end = from;
+    while end < text.len() && is_white(text[end]) {
+        end += 1;
+    }
+    end
+}
+
+/// The first byte of a line, or none at its end; none either where there is no such line.
+fn first_byte(source: &Source, line: usize) -> Option<u8>
+    ensures { result ≡ byte_at 0 (text_from line (drop line source.now.lines)) }
+{
+    if line < source.count() {
+        byte_of(source.line(line), 0)
+    } else {
+        None
+    }
+}
+
+impl<'s, 'a> Reader<'s, 'a> {
+    /// The whole text of a source.
+    pub fn new(source: &'s Source<'a>) -> Self
+        ensures { result ≡ text_from 0 source.now.lines }
+    {
+        if source.count() == 0 {
+            return Reader {
+                source,
+                text: b"",
+                line: 0,
+                column: 0,
+                is_done: true,
+            };
+        }
+        Reader {
+            source,
+            text: source.line(0),
+            line: 0,
+            column: 0,
+            is_done: false,
+        }
+    }
+
+    /// What is here, unless the text is at its end.
+    pub fn front(&self) -> Option<Front>
+        ensures front { IfSome result (λ front. IsFront self.now front) }
+        ensures end { IfNone result (self.now ≡ []) }
+    {
+        if self.is_done {
+            return None;
+        }
+        let byte = byte_of(self.text, self.column);
+        let next = if self.column < self.text.len() {
+            byte_of(self.text, self.column + 1)
+        } else {
+            first_byte(self.source, self.line + 1)
+        };
+        Some(Front { byte, next })
+    }
+
+    /// The byte that is here; none at a line end, and none behind the last line.
+    #[inline(always)]
+    pub fn byte(&self) -> Option<u8>
+        ensures { result ≡ byte_at 0 self.now }
+    {
+        if self.is_done {
+            return None;
+        }
+        byte_of(self.text, self.column)
+    }
+
+    /// Nothing is ahead any more.
+    #[inline(always)]
+    pub fn is_at_end(&self) -> bool
+        ensures end { result ≡ true → self.now ≡ [] }
+        ensures inside { result ≡ false → 0 < length self.now }
+    {
+        self.is_done
+    }
+
+    /// Goes on by one byte or line end.
+    #[inline(always)]
+    pub fn advance(&mut self)
+        ensures { self.new ≡ drop 1 self.old }
+    {
+        if self.column < self.text.len() {
+            self.column += 1;
+            return;
+        }
+        let next = self.line + 1;
+        self.column = 0;
+        if next < self.source.count() {
+            self.line = next;
+            self.text = self.source.line(next);
+        } else {
+            self.is_done = true;
+        }
+    }
+
+    /// The number of the line; behind the last line, the number passed in.
+    #[inline(always)]
+    pub fn line(&self, last: u32) -> u32
+        ensures { result ≡ line_at last self.now }
+    {
+        if self.is_done { last } else { self.line as u32 }
+    }
+
+    /// The column.
+    pub fn column(&self) -> usize
+        ensures column { result ≡ column_at self.now }
+        ensures short { result ≤ 65535 }
+    {
+        if self.is_done { 0 } else { self.column }
+    }
+
+    /// The column behind the byte that is here.
+    pub fn column_behind(&self) -> usize
+        requires { IsSome (byte_at 0 self.now) }
+        ensures column { result ≡ column_at self.now + 1 }
+        ensures short { result ≤ 65535 }
+    {
+        self.column + 1
+    }
+
+    /// The span of the byte that is here.
+    #[inline(always)]
+    pub fn sign_span(&self) -> Span
+        requires { IsSome (byte_at 0 self.now) }
+        ensures { result ≡ span_at 1 self.now }
+    {
+        Span {
+            line: self.line as u32,
+            start: self.column as u16,
+            end: (self.column + 1) as u16,
+        }
+    }
+
+    /// Goes on by a unit.
+    pub fn pass(&mut self, unit: Unit)
+        ensures { self.new ≡ drop (more_by unit) (drop 1 self.old) }
+    {
+        self.advance();
+        if let Unit::Two = unit {
+            self.advance();
+        }
+    }
+
+    /// Goes on to the first position where a region ends.
+    pub fn skip_to_end(&mut self, region: Region)
+        ensures { self.new ≡ region_end region self.old }
+    {
+        while let Some(front) = self.front() {
+            let unit = unit_of(region, front.byte, front.next);
+            if let Unit::Stop = unit {
+                return;
+            }
+            self.pass(unit);
+            self.skip_inside(region);
+        }
+    }
+
+    /// Goes on inside a region, where that is quick.
+    fn skip_inside(&mut self, region: Region)
+        ensures same { region_end region self.new ≡ region_end region self.old }
+        ensures shorter { length self.new ≤ length self.old }
+    {
+        if is_text(region) {
+            self.skip_ordinary();
+        }
+    }
+
+    /// The same text, to look further on.
+    #[inline(always)]
+    pub fn copy(&self) -> Self
+        ensures { result ≡ self.now }
+    {
+        Reader {
+            source: self.source,
+            text: self.text,
+            line: self.line,
+            column: self.column,
+            is_done: self.is_done,
+        }
+    }
+
+    /// Goes on by so many bytes or line ends.
+    pub fn skip(&mut self, count: usize)
+        ensures { self.new ≡ drop count self.old }
+    {
+        let mut left = count;
+        while left > 0 {
+            self.advance();
+            left -= 1;
+        }
+    }
+
+    /// The byte at a distance; none at a line end.
+    pub fn peek(&self, distance: usize) -> Option<u8>
+        ensures { result ≡ byte_at distance self.now }
+    {
+        let mut further = self.copy();
+        further.skip(distance);
+        further.byte()
+    }
+
+    /// Whether the word that begins here is `include`.
+    #[inline(always)]
+    pub fn begins_include(&self) -> bool
+        requires { IsSome (byte_at 0 self.now) }
+        ensures { result ≡ is_include_word (bytes_of (take (1 + word_more self.now) self.now)) }
+    {
+        let end = word_end(self.text, self.column + 1);
+        &self.text[self.column..end] == b"include".as_slice()
+    }
+
+    /// Takes the word that begins here, and answers its span.
+    #[inline(always)]
+    pub fn take_word(&mut self) -> Span
+        requires { IsSome (byte_at 0 self.old) }
+        ensures span { result ≡ span_at (1 + word_more self.old) self.old }
+        ensures ahead { self.new ≡ drop (word_more self.old) (drop 1 self.old) }
+    {
+        let start = self.column;
+        let end = word_end(self.text, start + 1);
+        self.column = end;
+        Span {
+            line: self.line as u32,
+            start: start as u16,
+            end: end as u16,
+        }
+    }
+
+    /// Goes on behind the white space that begins here.
+    #[inline(always)]
+    pub fn skip_white(&mut self)
+        requires { IsSome (byte_at 0 self.old) }
+        ensures { self.new ≡ drop (count_before region.White 0 (drop 1 self.old))
+            (drop 1 self.old) }
+    {
+        self.column = white_end(self.text, self.column + 1);
+    }
+
+    /// Goes on in this line over bytes without a meaning in comments, control texts, quoted and
+    /// verbatim texts.
+    pub fn skip_ordinary(&mut self)
+        ensures { (n : ℕ) × (self.new ≡ drop n self.old) × regions.AreOrdinary n self.old }
+    {
+        self.column = ordinary_end(self.text, self.column);
+    }
+
+    /// Takes the bytes of this line up to the next `@`, or to its end, which are bytes of a name
+    /// where one is read.
+    pub fn take_name_bytes(&mut self) -> &'a [u8]
+        ensures { BeginsName result.now self.old self.new }
+    {
+        if self.is_done {
+            return &[];
+        }
+        let start = self.column;
+        let end = at_sign_from(self.text, start);
+        self.column = end;
+        &self.text[start..end]
+    }
+
+    /// Goes on in this line to the next `@`, or to its end.
+    fn skip_in_line(&mut self)
+        ensures same { region_end region.Prose self.new ≡ region_end region.Prose self.old }
+        ensures shorter { length self.new ≤ length self.old }
+    {
+        self.column = at_sign_from(self.text, self.column);
+    }
+
+    /// Goes on to the next `@`.
+    pub fn skip_prose(&mut self)
+        ensures { self.new ≡ region_end region.Prose self.old }
+    {
+        while let Some(front) = self.front() {
+            if holds(b'@', front.byte) {
+                return;
+            }
+            self.advance();
+            self.skip_in_line();
+        }
+    }
+}

@@ -1,0 +1,15 @@
+//! Reading the text of a web byte by byte: the source lines, each followed by a line end.
+//!
+//! A [`Reader`] is at a position of the text, and goes on from it: over a byte, a word, white space,
+//! or a [`Region`] up to the position where it ends. A [`Span`] is a range of a line.
+#![tactic(auto)]
+
+mod ahead;
+mod bytes;
+mod regions;
+mod spans;
+
+pub use ahead::{Front, Reader};
+pub use bytes::{holds, is_end_code, is_octal, is_section_start, is_white, is_word_byte, lower};
+pub use regions::{Region, Unit, unit_of};
+pub use spans::Span;
