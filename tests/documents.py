@@ -5,7 +5,7 @@ usage: documents.py [FOLDER]      the folder of the repository
 - docs/definitions.md: each definition is in the file beside it, each file of code is there, and
   each promise is a function of the file beside it, with that clause; each file of specs/ is in the
   map, and each page of docs/ that names it has a part there.
-- docs/DECISIONS.md: each crate hands on what the table of the surface says.
+- docs/DECISIONS.md: each crate re-exports what the table of the surface says.
 - docs/promises.md: each public call of a crate that has a table there is in it.
 - docs/sessions.md, where it is: the reference answers its conversation so; each line of a script is
   in its table and in docs/retangle.1. README.md names each page of docs/.
@@ -243,25 +243,25 @@ def functions_of(here):
 
 def surface_of(here, functions):
     """The public functions that the crate passes on, and the methods of the types that it passes on."""
-    handed_on = set(re.findall(r'\w+', ' '.join(re.findall(r'^pub use ([^;]*);', here.code['lib.rt'], re.M))))
-    handed_on |= set(re.findall(r'^pub (?:struct|enum|trait|fn) (\w+)', here.code['lib.rt'], re.M))
-    return [one for one in functions if one[4] and (one[2] or one[3]) in handed_on]
+    exported = set(re.findall(r'\w+', ' '.join(re.findall(r'^pub use ([^;]*);', here.code['lib.rt'], re.M))))
+    exported |= set(re.findall(r'^pub (?:struct|enum|trait|fn) (\w+)', here.code['lib.rt'], re.M))
+    return [one for one in functions if one[4] and (one[2] or one[3]) in exported]
 
 
 def check_surface(crates, top):
-    """Each name in the table of docs/DECISIONS.md, CRATE | of its own | handed on, is handed on by the crate."""
+    """Each name in the table of docs/DECISIONS.md, CRATE | of its own | re-exported, is re-exported by the crate."""
     name = 'docs/DECISIONS.md'
     with open(os.path.join(top, name), encoding='utf-8') as source:
-        table = re.search(r'^\| Crate \| Of its own \| Handed on \|\n.*\n((?:\|.*\n)*)', source.read(), re.M)
+        table = re.search(r'^\| Crate \| Of its own \| Re-exported \|\n.*\n((?:\|.*\n)*)', source.read(), re.M)
     check(table, name, 'no table of the surface')
     for row in table.group(1).splitlines() if table else []:
         crate, *words = CODED.findall(row)
         check(crate in crates and words, name, 'no row: %s' % row)
         root = crates[crate].code['lib.rt'] if crate in crates else ''
-        handed_on = set(re.findall(r'\w+', ' '.join(re.findall(r'^pub use ([^;]*);', root, re.M))))
-        handed_on |= set(re.findall(r'^pub (?:struct|enum|trait|fn) (\w+)', root, re.M))
+        exported = set(re.findall(r'\w+', ' '.join(re.findall(r'^pub use ([^;]*);', root, re.M))))
+        exported |= set(re.findall(r'^pub (?:struct|enum|trait|fn) (\w+)', root, re.M))
         for word in words:
-            check(word in handed_on, name, '%s does not hand on %s' % (crate, word))
+            check(word in exported, name, '%s does not re-export %s' % (crate, word))
 
 
 def check_promises(crate, here, part):

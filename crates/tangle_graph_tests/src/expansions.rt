@@ -20,9 +20,9 @@ fn expansion_of(alloc: Global, text: &[u8], node: Node) -> Result<Expansion, Fai
 fn written_size(alloc: Global, text: &[u8], node: Node) -> Result<(u128, usize), Fail> {
     let expansion = expansion_of(alloc, text, node)?;
     // Of a web without pieces: each section has the number 0, and each mark is at line 0 of a.w.
-    let numbers = tangle(alloc, b"")?.numbers;
+    let empty = tangle(alloc, b"")?;
     let mut sink = MemorySink::new(alloc, 1_000_000);
-    match expansion.put_text(&numbers, &mut sink, Ok(0)) {
+    match expansion.put_text(&empty.numbers, &mut sink, Ok(0)) {
         Ok(size) => Ok((size, sink.bytes().len())),
         Err(_) => Err(Fail::from("the text is not written")),
     }
