@@ -17,27 +17,13 @@ fn lines_asked(alloc: Global, folder: &MemoryFolder) -> Result<Vec<u8>, Fail> {
     Ok(lines)
 }
 
-// A run over these files asks for these names, each on a line.
-fn check_asked(
-    rt: &impl Abort,
-    alloc: Global,
-    arguments: &[u8],
-    files: &[(&[u8], &[u8])],
-    names: &[u8],
-) -> Result<(), Fail> {
-    let mut folder = folder_with(alloc, files)?;
-    run(alloc, arguments, &mut folder)?;
-    assert!(rt; lines_asked(alloc, &folder)?.as_slice() == names);
-    Ok(())
-}
+// The files of a folder.
+type InFolder = &'static [(&'static [u8], &'static [u8])];
 
-#[test]
-fn files_are_asked_for_round_by_round(rt: HostRuntime) -> Result<(), Fail> {
-    let alloc = rt.alloc();
+// Of the arguments of a run and the files of its folder, the names that it asks for, each on a line.
+const ASKED: [(&[u8], InFolder, &[u8]); 4] = [
     // The web and the change file first, then what they include, round by round.
-    check_asked(
-        &rt,
-        alloc,
+    (
         b"a a",
         &[
             (b"a.w", b"@i b.w\n"),
@@ -47,16 +33,9 @@ fn files_are_asked_for_round_by_round(rt: HostRuntime) -> Result<(), Fail> {
             (b"d.w", b""),
         ],
         b"a.w\na.ch\nb.w\nc.w\nd.w\n",
-    )
-}
-
-#[test]
-fn each_name_is_asked_for_once(rt: HostRuntime) -> Result<(), Fail> {
-    let alloc = rt.alloc();
+    ),
     // A name that stays missing is not tried again in the next rounds.
-    check_asked(
-        &rt,
-        alloc,
+    (
         b"a",
         &[
             (b"a.w", b"@i none.w\n@i b.w\n@i none.w\n"),
@@ -64,23 +43,26 @@ fn each_name_is_asked_for_once(rt: HostRuntime) -> Result<(), Fail> {
             (b"c.w", b""),
         ],
         b"a.w\nnone.w\nb.w\nc.w\n",
-    )?;
+    ),
     // A file that the table has is not loaded again: one that includes itself, a web that is its
     // own change file.
-    check_asked(
-        &rt,
-        alloc,
+    (
         b"a",
         &[(b"a.w", b"@i b.w\n@i b.w\n"), (b"b.w", b"@i a.w\n@i b.w\n")],
         b"a.w\nb.w\n",
-    )?;
-    check_asked(
-        &rt,
-        alloc,
-        b"a a.w",
-        &[(b"a.w", b"@x\ny\n@y\n@z\n")],
-        b"a.w\n",
-    )
+    ),
+    (b"a a.w", &[(b"a.w", b"@x\ny\n@y\n@z\n")], b"a.w\n"),
+];
+
+#[test]
+fn files_are_asked_for_in_order_and_once(rt: HostRuntime) -> Result<(), Fail> {
+    let alloc = rt.alloc();
+    for (arguments, files, names) in &ASKED {
+        let mut folder = folder_with(alloc, files)?;
+        run(alloc, arguments, &mut folder)?;
+        assert!(rt; lines_asked(alloc, &folder)?.as_slice() == *names);
+    }
+    Ok(())
 }
 
 // A run over a web that includes a name of so many bytes: its status, and how many names the folder

@@ -15,7 +15,7 @@ use std::alloc::{AllocError, Global};
 ///
 /// # Errors
 ///
-/// `AllocError` where memory is refused.
+/// `AllocError`, where an allocation failed.
 pub fn self_containing(
     alloc: Global,
     uses: &[Vec<usize>],
@@ -41,7 +41,7 @@ pub fn self_containing(
 ///
 /// # Errors
 ///
-/// `AllocError` where memory is refused.
+/// `AllocError`, where an allocation failed.
 pub fn reaching_cycles(
     alloc: Global,
     uses: &[Vec<usize>],

@@ -14,7 +14,7 @@ use std::alloc::{AllocError, Global};
 ///
 /// # Errors
 ///
-/// `AllocError` where memory is refused.
+/// `AllocError`, where an allocation failed.
 pub fn order(
     alloc: Global,
     uses: &[Vec<usize>],

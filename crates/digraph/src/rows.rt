@@ -13,7 +13,7 @@ use std::alloc::{AllocError, Global};
 ///
 /// # Errors
 ///
-/// `AllocError` where memory is refused.
+/// `AllocError`, where an allocation failed.
 pub fn empty_rows(alloc: Global, count: usize) -> Result<Vec<Vec<usize>>, AllocError>
     ensures { IfOk result (λ rows. IsRowsOf count (λ _. []) (rows_of rows.items)) }
 {
@@ -28,7 +28,7 @@ pub fn empty_rows(alloc: Global, count: usize) -> Result<Vec<Vec<usize>>, AllocE
 ///
 /// # Errors
 ///
-/// `AllocError` where memory is refused.
+/// `AllocError`, where an allocation failed.
 pub fn push_to(rows: &mut Vec<Vec<usize>>, n: usize, number: usize) -> Result<(), AllocError>
     requires { n < length rows.old.items }
     ensures { OnOk result (GrowsBy (λ m. if n == m then number ∷ [] else [])
@@ -64,7 +64,7 @@ pub fn all_once(rows: &mut Vec<Vec<usize>>)
 ///
 /// # Errors
 ///
-/// `AllocError` where memory is refused.
+/// `AllocError`, where an allocation failed.
 pub fn users(alloc: Global, uses: &[Vec<usize>]) -> Result<Vec<Vec<usize>>, AllocError>
     requires range { InRange uses.now }
     requires increasing { All (λ row. IsStrictlyIncreasing row.items) uses.now }

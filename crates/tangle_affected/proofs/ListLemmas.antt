@@ -1,5 +1,5 @@
 -- What is listed along the order is what is affected.
-use Rattle.std.proofs.Common.{◌≡◌, ◌≢◌, ◌∙◌, ◌<◌, ℕ, zero, Bool, true, false, List, [], ◌∷◌, length, take, get_or, refl, sym, subst, arith, Contains}
+use Rattle.std.proofs.Common.{◌≡◌, ◌≢◌, ◌<◌, ℕ, zero, Bool, true, List, [], ◌∷◌, length, take, get_or, refl, sym, subst, arith, Contains}
 use Rattle.std.specs.List.{filter}
 use Rattle.std.proofs.lemmas.Bool.{and_parts, and_from}
 use Rattle.std.proofs.lemmas.List.Kept.{AllPairs-filter}

@@ -5,12 +5,12 @@ ghost use Rattle.tangle_plans.specs.Shapes.{Shapes};
 ghost use Rattle.tangle_plans.specs.declared.nodes.Node.{Node};
 ghost use Rattle.tangle_graph.specs.Nodes.{IsNodeOf, title_of_node};
 ghost use Rattle.tangle_graph.specs.Ordering.{IsOrderIn};
-ghost use Rattle.tangle_graph.specs.Stores.{IsStoreOf, IsNodeIn, title_in_store};
+ghost use Rattle.tangle_graph.specs.Stores.{IsStoreOf, IsNodeIn, KeepsBodies, title_in_store};
 ghost use Rattle.tangle_affected.specs.Affected.{ListsAffected};
 ghost use Rattle.tangle_affected.specs.Flags.{number_of_node, flag_of_node, AreFlagged, is_listed};
 
 use std::alloc::Global;
-use tangle_graph::{Store, same_shape};
+use tangle_graph::{Store, keeps_shape, same_shape};
 use tangle_lines::NoMemory;
 use tangle_names::NameTable;
 use tangle_plans::{Node, PiecesByNode};
@@ -35,8 +35,28 @@ pub fn affected(
         → IsStoreOf new_shapes new.now
         → IfOk result (λ nodes. ListsAffected old_shapes new_shapes new.now nodes.items) }
 {
+    affected_over(alloc, old, old_names, new, new_names, &[])
+}
+
+/// The same nodes, where the flags say which nodes have the bodies of before, and use names as
+/// before. Of these nothing is compared.
+pub(crate) fn affected_over(
+    alloc: Global,
+    old: &Store,
+    old_names: &NameTable,
+    new: &Store,
+    new_names: &NameTable,
+    are_kept: &[bool],
+) -> Result<Vec<Node>, NoMemory>
+    requires old_table { old_names.now.names ≡ old.now.names }
+    requires new_table { new_names.now.names ≡ new.now.names }
+    requires kept { KeepsBodies old.now new.now are_kept.now }
+    ensures { (old_shapes new_shapes : Shapes) → IsStoreOf old_shapes old.now
+        → IsStoreOf new_shapes new.now
+        → IfOk result (λ nodes. ListsAffected old_shapes new_shapes new.now nodes.items) }
+{
     let order = new.order();
-    let flags = reaching_changed(alloc, old, old_names, new, new_names, order)?;
+    let flags = reaching_changed(alloc, old, old_names, new, new_names, are_kept, order)?;
     listed_nodes(alloc, new, &flags, order)
 }
 
@@ -47,10 +67,12 @@ fn reaching_changed(
     old_names: &NameTable,
     new: &Store,
     new_names: &NameTable,
+    are_kept: &[bool],
     order: &[Node],
 ) -> Result<Vec<bool>, NoMemory>
     requires old_table { old_names.now.names ≡ old.now.names }
     requires new_table { new_names.now.names ≡ new.now.names }
+    requires kept { KeepsBodies old.now new.now are_kept.now }
     requires order { IsOrderIn new.now order.now }
     ensures { (old_shapes new_shapes : Shapes) → IsStoreOf old_shapes old.now
         → IsStoreOf new_shapes new.now
@@ -60,7 +82,7 @@ fn reaching_changed(
     let mut flags = vec![in alloc; false; count]?;
     flags.push(false)?;
     for node in order {
-        let is_flagged = is_changed(old, old_names, new, new_names, *node)
+        let is_flagged = is_changed(old, old_names, new, new_names, are_kept, *node)
             || any_flagged(count, &flags, new.uses(*node));
         flags[number_of(count, *node)] = is_flagged;
     }
@@ -73,16 +95,21 @@ fn is_changed(
     old_names: &NameTable,
     new: &Store,
     new_names: &NameTable,
+    are_kept: &[bool],
     node: Node,
 ) -> bool
     requires old_table { old_names.now.names ≡ old.now.names }
     requires new_table { new_names.now.names ≡ new.now.names }
+    requires kept { KeepsBodies old.now new.now are_kept.now }
     requires node { IsNodeIn new.now node }
     ensures { (old_shapes new_shapes : Shapes) → IsStoreOf old_shapes old.now
         → IsStoreOf new_shapes new.now
         → ((result ≡ true) ↔ (new_shapes (title_in_store new.now node) ≢ old_shapes
         (title_in_store new.now node))) }
 {
+    if keeps_shape(old, new, are_kept, node) {
+        return false;
+    }
     match node_before(old_names, new_names, node) {
         Some(before) => !same_shape(old, before, new, node),
         None => new.has_piece(node),

@@ -6,14 +6,14 @@ ghost use Rattle.tangle_expansion.specs.Kept.{kept_at, PutsKept};
 ghost use Rattle.tangle_expansion.specs.Limits.{flat_of};
 ghost use Rattle.tangle_plans.specs.Shapes.{Shapes};
 ghost use Rattle.tangle_graph.specs.Ordering.{IsOrderIn};
-ghost use Rattle.tangle_graph.specs.Stores.{IsStoreOf, IsNodeIn, KeepsUsed, is_expandable_at};
-ghost use Rattle.tangle_graph.specs.Stores.{title_in_store};
+ghost use Rattle.tangle_graph.specs.Stores.{IsStoreOf, IsNodeIn, KeepsBodies, KeepsUsed};
+ghost use Rattle.tangle_graph.specs.Stores.{is_expandable_at, title_in_store};
 ghost use Rattle.tangle_affected.specs.Affected.{EditedShapes, ListsAffectedBehind};
 ghost use Rattle.tangle_affected.specs.Keeping.{KeepsJust, KeepsUnflagged, ListsExpandableBehind};
 ghost use Rattle.tangle_affected.specs.Keeping.{IsEditOf, IsUnaffected, CanExpand};
 ghost use Rattle.tangle_affected.specs.Flags.{AreListed, FlagsAffected, flag_of_node};
 
-use crate::edits::{affected, is_flagged, node_before, number_of};
+use crate::edits::{affected_over, is_flagged, node_before, number_of};
 use std::alloc::Global;
 use tangle_expansion::{Expansion, Kept, Work, unaffected_nodes_stay, used_names_are_expandable};
 use tangle_graph::{Store, expand_one};
@@ -40,7 +40,8 @@ pub fn expand_all(alloc: Global, store: &Store, work: &mut Work) -> Result<Kept,
 }
 
 /// Shares the old expansion of each expandable node that the edit doesn't affect, and expands the
-/// affected ones, each after those that it uses. The affected nodes go last in the work's list.
+/// affected ones, each after those that it uses. The affected nodes go last in the work's list. The
+/// flags say which nodes have the bodies of before, and use names as before.
 ///
 /// # Errors
 ///
@@ -52,17 +53,19 @@ pub fn expand_again(
     old_kept: &Kept,
     new: &Store,
     new_names: &NameTable,
+    are_kept: &[bool],
     work: &mut Work,
 ) -> Result<Kept, NoMemory>
     requires old_table { old_names.now.names ≡ old.now.names }
     requires new_table { new_names.now.names ≡ new.now.names }
+    requires bodies { KeepsBodies old.now new.now are_kept.now }
     requires change { (change : EditedShapes) × IsEditOf old.now new.now old_kept.now change }
     ensures kept { (change : EditedShapes) → IsEditOf old.now new.now old_kept.now change
         → IfOk result (λ kept. KeepsJust change.new new.now kept) }
     ensures work { (change : EditedShapes) → IsEditOf old.now new.now old_kept.now change
         → OnOk result (ListsAffectedBehind change.old change.new new.now work.old work.new) }
 {
-    let list = affected(alloc, old, old_names, new, new_names)?;
+    let list = affected_over(alloc, old, old_names, new, new_names, are_kept)?;
     let flags = flags_of(alloc, new, &list)?;
     let order = new.order();
     let mut kept = Kept::new(alloc);

@@ -7,7 +7,7 @@ use Rattle.std.specs.declared.rc.Rc.{Rc}
 use Rattle.std.specs.Slice.{IsItemAt}
 use Rattle.std.proofs.lemmas.Bool.Decides.{nat_tests}
 use Rattle.std.proofs.lemmas.List.{get_or-map, length-map}
-use Rattle.std.proofs.lemmas.Option.{get_or_from_slice_get, slice_get_past}
+use Rattle.std.proofs.lemmas.Option.{get_or_from_slice_get, slice_get-get_or, slice_get_past}
 use Rattle.tangle_scan.specs.Web.{WebRead}
 use Rattle.tangle_names.specs.NameTable.{TableRead}
 use Rattle.tangle_plans.specs.ItemTags.{pieces_names, shape_of}
@@ -105,6 +105,14 @@ module _ (names : List (List ℕ)) (has : ℕ → Bool) (before : List (Rc NodeB
   planned_read (Some x) h =
       let low = below h.0 in
       subst (IsPlanned has) (same_read x.now low h.1) (is.planned n x.now.value (mapped low))
+
+-- the body that is read at a number is there
+pub place_read : (before : List (Rc NodeBody Global)) (n : ℕ) (o : Option (Bor (Rc NodeBody Global))) → IsItemAt before n o → IfSome o (λ body. slice_get (node_bodies before) n ≡ Some body.now.value)
+place_read before n None h = tt
+place_read before n (Some x) h =
+    let low : n < length before = (let t = sym h.0 in grind (arith, nat_tests)) in
+    slice_get-get_or (node_bodies before) n x.now.value (omega (arith, low, length-map before (λ (t : Rc NodeBody Global). t.value)))
+    ∙ ap Some (get_or-map (λ (t : Rc NodeBody Global). t.value) before n x.now x.now.value low ∙ ap (λ (t : Rc NodeBody Global). t.value) (sym h.1))
 
 -- the name with a number that is read has this title
 pub name_read : (names : List (Vec ℕ Global)) (n : ℕ) (body : List ℕ) (o : Option (Bor (Vec ℕ Global))) (x : Bor (Vec ℕ Global)) → o ≡ Some x → IsItemAt names n o

@@ -79,3 +79,11 @@ numbered names Program h = (length names, omega arith, node_past (length names) 
 numbered names (Name id) h =
     let test : nat_lt id (length names) ≡ true = grind (arith, nat_tests) in
     (id, omega (arith, h), node_below (length names) id h, ap (λ b. if b then Some id else None) test)
+
+pub number_at : (names : List (List ℕ)) (n : ℕ) → n ≤ length names → number_in (length names) (node_at (length names) n) ≡ Some n
+number_at names n h = elim (dec_lt n (length names)) [
+  | yes low ↦ (let test : nat_lt n (length names) ≡ true = grind (arith, nat_tests) in
+      ap (number_in (length names)) (node_below (length names) n low) ∙ ap (λ b. if b then Some n else None) test)
+  | no past ↦ (let end : length names ≡ n = omega (arith, past, h) in
+      ap (number_in (length names)) (node_past (length names) n (omega (arith, past))) ∙ ap Some end)
+]

@@ -1,12 +1,13 @@
 -- One row more, with its flag or its plan.
-use Rattle.std.proofs.Common.{◌≡◌, ◌∙◌, ◌<◌, ◌+◌, ℕ, Bool, false, List, [], ◌∷◌, ◌++◌, length, length-append, filter, take, get_or, ap, sym, subst, arith, Vec}
+use Rattle.std.proofs.Common.{◌≡◌, ◌∙◌, ◌<◌, ◌+◌, ℕ, Bool, true, false, true≢false, List, [], ◌∷◌, ◌++◌, length, length-append, filter, take, get_or, ap, sym, subst, arith, Vec}
 use Rattle.std.specs.Global.{Global}
 use Rattle.std.specs.declared.rc.Rc.{Rc}
 use Rattle.std.proofs.Math.Decide.{dec_lt}
-use Rattle.std.specs.Prelude.{slice_get, Some}
+use Rattle.std.specs.Borrow.{Bor}
+use Rattle.std.specs.Prelude.{slice_get, IfSome, MatchOption, None, Option, Some}
 use Rattle.std.proofs.lemmas.Option.{slice_get-get_or, get_or_from_slice_get}
 use Rattle.std.proofs.lemmas.List.Elements.{All-append, All-cons, All-nil}
-use Rattle.std.proofs.lemmas.List.{take_more, map-append, get_or_append_left, get_or_push, length-take-le, length-map}
+use Rattle.std.proofs.lemmas.List.{take_more, map-append, get_or_append_left, get_or_past, get_or_push, length-take-le, length-map}
 use Rattle.tangle_scan.specs.Web.{WebRead}
 use Rattle.tangle_names.specs.NameTable.{TableRead}
 use Rattle.tangle_plans.specs.Comparing.{IsPlanned}
@@ -120,3 +121,46 @@ module _ (names : List (List ℕ)) (has : ℕ → Bool) where
   planned_more rows bodies i body h size is e p =
       let count : length (node_bodies bodies) ≡ i = size ∙ length-map (take i rows) (λ (v : Vec ℕ Global). v.items) ∙ length-take-le i rows (omega (arith, h)) in
       subst (ArePlanned names has) (sym (map-append (λ (t : Rc NodeBody Global). t.value) bodies (body ∷ []))) (planned_push (node_bodies bodies) body.value i count is e p)
+
+-- there are as many bodies as rows
+pub bodies_count : (rows : Graph) (bodies : List (Rc NodeBody Global)) (i : ℕ) → i < length rows → length (node_bodies bodies) ≡ length (rows_of (take i rows)) → length bodies ≡ i
+bodies_count rows bodies i h size =
+    sym (length-map bodies (λ (t : Rc NodeBody Global). t.value)) ∙ size ∙ length-map (take i rows) (λ (v : Vec ℕ Global). v.items) ∙ length-take-le i rows (omega (arith, h))
+
+-- what is so of the body of before is so of the one that is kept
+pub kept_there : (before : Option (Bor (Rc NodeBody Global))) (Q : NodeBody → Type 0) (body : NodeBody) → MatchOption before ⊥ (λ old. body ≡ old.now.value)
+    → IfSome before (λ old. Q old.now.value) → Q body
+kept_there None Q body same at = absurd same
+kept_there (Some old) Q body same at = subst Q (sym same) at
+
+-- one body more, with its flag
+pub kept_more : (R : ℕ → NodeBody → Type 0) (bodies : List (Rc NodeBody Global)) (flags : List Bool) (i : ℕ) (body : Rc NodeBody Global) (flag : Bool)
+    → length bodies ≡ i → length flags ≡ length bodies
+    → ((n : ℕ) → get_or flags n false ≡ true → (b : NodeBody) × (slice_get (node_bodies bodies) n ≡ Some b) × R n b)
+    → (flag ≡ true → R i body.value)
+    → (n : ℕ) → get_or (flags ++ flag ∷ []) n false ≡ true → (b : NodeBody) × (slice_get (node_bodies (bodies ++ body ∷ [])) n ≡ Some b) × R n b
+kept_more R bodies flags i body flag at size are one n e =
+    let all = node_bodies bodies in
+    let more : node_bodies (bodies ++ body ∷ []) ≡ all ++ body.value ∷ [] = map-append (λ (t : Rc NodeBody Global). t.value) bodies (body ∷ []) in
+    let count : length (node_bodies bodies) ≡ length flags = length-map bodies (λ (t : Rc NodeBody Global). t.value) ∙ sym size in
+    let read : n < length (all ++ body.value ∷ []) → slice_get (node_bodies (bodies ++ body ∷ [])) n ≡ Some (get_or (all ++ body.value ∷ []) n body.value)
+    = (λ within. ap (λ l. slice_get l n) more ∙ slice_get-get_or (all ++ body.value ∷ []) n body.value within) in
+    elim (dec_lt n (length flags)) [
+      | yes low ↦ (let held = are n (sym (get_or_append_left flags (flag ∷ []) false n low) ∙ e) in
+          let room : n < length all = omega (arith, low, count) in (
+            held.0,
+            read (omega (arith, room, length-append all (body.value ∷ [])))
+                ∙ ap Some (get_or_append_left all (body.value ∷ []) body.value n room)
+                ∙ sym (slice_get-get_or all n body.value room) ∙ held.1,
+            held.2,
+          ))
+      | no past ↦ elim (dec_lt (length flags) n) [
+        | yes beyond ↦ (let none : get_or (flags ++ flag ∷ []) n false ≡ false = get_or_past (flags ++ flag ∷ []) n false (omega (arith, beyond, length-append flags (flag ∷ []))) in
+            absurd (true≢false (sym e ∙ none)))
+        | no other ↦ (let end : length flags ≡ n = omega (arith, past, other) in (
+          body.value,
+          read (omega (arith, end, count, length-append all (body.value ∷ []))) ∙ ap Some (get_or_push all body.value body.value n (count ∙ end)),
+          subst (λ k. R k body.value) (sym at ∙ sym size ∙ end) (one (sym (get_or_push flags flag false n end) ∙ e)),
+        ))
+      ]
+    ]

@@ -9,8 +9,10 @@ use Rattle.tangle_plans.specs.NodeBodies.{HoldsShape}
 use Rattle.tangle_plans.specs.declared.nodes.NodeBody.{NodeBody}
 use Rattle.tangle_plans.specs.declared.nodes.Node.{Node}
 use Rattle.tangle_plans.specs.declared.nodes.Node.TheVariants.{Program, Name}
-use Rattle.tangle_graph.specs.Nodes.{title_of_name, title_of_node, IsNodeOf, number_in, entry, entry_if, shape_of_name, shape_of_node}
-use Rattle.tangle_graph.specs.Stores.{StoreRead, IsStoreOf, is_filled, has_piece_at, body_at, shape_in_store}
+use Rattle.tangle_graph.specs.Nodes.{title_at, title_of_name, title_of_node, IsNodeOf, node_at, number_in, entry, entry_if, shape_of_name, shape_of_node}
+use Rattle.tangle_graph.specs.Stores.{StoreRead, IsNodeIn, IsStoreOf, KeepsBodies, is_filled, has_piece_at, body_at, shape_in_store, title_in_store}
+use Rattle.tangle_graph.proofs.NodeLemmas.{node_is, number_at, numbered, title-node}
+use Rattle.tangle_plans.proofs.ShapeLemmas.{names_decide}
 
 -- a node is one of these or it has no number
 data IsKnown (names : List (List ℕ)) (a : Node) : Type 0 where
@@ -88,3 +90,26 @@ module _ (shapes : Shapes) (store : StoreRead) (is : IsStoreOf shapes store) whe
     ((λ t. piece_none a (sym e) ∙ sym empty), (λ same. er)),
     ((λ t. empty ∙ sym (piece_none a (sym e))), (λ same. er)),
   )
+
+some_same : {X : Type 0} (x y : X) → Some x ≡ Some y → x ≡ y
+some_same x y e = cc
+
+-- a node that has the body of before, and uses names as before, has the shape of before
+pub shape_kept : (old new : StoreRead) (flags : List Bool) (node : Node) → KeepsBodies old new flags → entry false flags (number_in (length new.names) node) ≡ true
+    → (old_shapes new_shapes : Shapes) → IsStoreOf old_shapes old → IsStoreOf new_shapes new → IsNodeIn new node
+    → new_shapes (title_in_store new node) ≡ old_shapes (title_in_store new node)
+shape_kept old new flags node keeps flag old_shapes new_shapes old_is new_is h =
+    let ours = numbered new.names node h in
+    let number = ours.3 in
+    let kept = keeps ours.0 (sym (ap (entry false flags) number) ∙ flag) in
+    let title = ap (title_of_node new.names) (sym ours.2) ∙ title-node new.names ours.0 ours.1 in
+    let a = node_at (length old.names) kept.before in
+    let title_before : title_in_store old (node_at (length old.names) kept.before) ≡ title_at old.names kept.before = title-node old.names kept.before kept.inside in
+    let before = old_is.shape_held a (node_is old.names kept.before kept.inside) in
+    let after = new_is.shape_held node h in
+    let has : after.0 ≡ kept.body = some_same after.0 kept.body (sym after.1 ∙ ap (entry_if new.bodies) number ∙ kept.has) in
+    let had : before.0 ≡ kept.body = some_same before.0 kept.body (sym before.1 ∙ ap (entry_if old.bodies) (number_at old.names kept.before kept.inside) ∙ kept.had) in
+    (names_decide new.names old.names kept.body kept.body true (refl, refl) ((λ _. sym kept.uses), (λ _. refl))
+    (new_shapes (title_in_store new node)) (old_shapes (title_in_store old a))
+    (subst (HoldsShape new.names (new_shapes (title_in_store new node))) has after.2) (subst (HoldsShape old.names (old_shapes (title_in_store old a))) had before.2)).0 refl
+    ∙ ap old_shapes (title_before ∙ kept.title ∙ sym title)

@@ -1,5 +1,5 @@
 -- The plans of the nodes of a web.
-use Rattle.std.specs.Prelude.{◌≡◌, ◌<◌, ◌+◌, ℕ, Bool, false, List, [], length, map, filter, sum_by, All, slice_get, slice_index_or, Some, Vec}
+use Rattle.std.specs.Prelude.{◌≡◌, ◌<◌, ◌≤◌, ◌+◌, ℕ, Bool, true, false, List, [], length, map, filter, sum_by, All, slice_get, slice_index_or, Some, Vec}
 use Rattle.std.specs.Global.{Global}
 use Rattle.std.specs.declared.rc.Rc.{Rc}
 use Rattle.tangle_scan.specs.Web.{WebRead}
@@ -7,7 +7,7 @@ use Rattle.tangle_names.specs.NameTable.{TableRead}
 use Rattle.tangle_plans.specs.ItemTags.{pieces_names, shape_of}
 use Rattle.tangle_plans.specs.ItemSlots.{pieces_at, pieces_slots}
 use Rattle.tangle_plans.specs.Comparing.{IsPlanned}
-use Rattle.tangle_plans.specs.NodeBodies.{HoldsShape, node_title, node_uses, plan_slots, plan_uses}
+use Rattle.tangle_plans.specs.NodeBodies.{HoldsShape, node_title, node_uses, plan_slots, plan_uses, texts_at}
 use Rattle.tangle_plans.specs.Slots.{Slot}
 use Rattle.tangle_plans.specs.declared.nodes.NodeBody.{NodeBody}
 use Rattle.tangle_graph.specs.Measures.{weight_of_pieces}
@@ -72,3 +72,25 @@ pub record ArePlanned (names : List (List ℕ)) (has_piece : ℕ → Bool) (bodi
 -- the bodies of a store were planned under its names, where its flags say which names have a piece
 abbrev pub AreBodiesBefore : OldBodies → Type 0
 AreBodiesBefore old = ArePlanned (bytes_of_names old.names.now) (λ id. slice_index_or old.filled.now id false) (node_bodies old.bodies.now)
+
+-- they are those of a store with these names, in which these flags say which names have a piece
+pub record AreInPlace (old : OldBodies) (texts : List (List ℕ)) (has_piece : List Bool) : Type 0 where
+  pub names : bytes_of_names old.names.now ≡ texts
+  pub flags : old.filled.now ≡ has_piece
+
+-- it is the body that the node with the title of this number had, where these are the names now
+pub record IsBodyOfBefore (old : OldBodies) (texts : List (List ℕ)) (n : ℕ) (body : NodeBody) : Type 0 where
+  pub before : ℕ
+  pub inside : before ≤ length old.names.now
+  pub title : title_at (bytes_of_names old.names.now) before ≡ title_at texts n
+  pub had : slice_get (node_bodies old.bodies.now) before ≡ Some body
+
+-- and the names that it uses are as before
+abbrev pub IsAsBefore : OldBodies → List (List ℕ) → ℕ → NodeBody → Type 0
+IsAsBefore old texts n body =
+    IsBodyOfBefore old texts n body × (texts_at (bytes_of_names old.names.now) (node_uses body) ≡ texts_at texts (node_uses body))
+
+-- so it is of each of these bodies with a flag
+abbrev pub AreAsBefore : OldBodies → List (List ℕ) → List NodeBody → List Bool → Type 0
+AreAsBefore old texts bodies flags =
+    (n : ℕ) → slice_index_or flags n false ≡ true → (body : NodeBody) × (slice_get bodies n ≡ Some body) × (IsAsBefore old texts n body)

@@ -1,10 +1,10 @@
 -- What a store says of a web: of each node its pieces, its uses and users, its weight and depth, and whether it contains itself.
-use Rattle.std.specs.Prelude.{◌≡◌, ◌≢◌, ◌<◌, ◌↔◌, ℕ, Bool, true, false, ◌&&◌, nat_lt, nat_le, slice_index, slice_index_or, List, [], ◌∷◌, length, AllPairs, Contains, Option, Some}
+use Rattle.std.specs.Prelude.{◌≡◌, ◌≢◌, ◌<◌, ◌≤◌, ◌↔◌, ℕ, Bool, true, false, ◌&&◌, nat_lt, nat_le, slice_get, slice_index, slice_index_or, List, [], ◌∷◌, length, AllPairs, Contains, Option, Some}
 use Rattle.tangle_faults.specs.Faults.{FaultRead}
 use Rattle.tangle_plans.specs.Shapes.{Title, Named, Shape, Shapes, Uses, ContainsItself}
 use Rattle.tangle_plans.specs.Flat.{Symbol}
 use Rattle.tangle_expansion.specs.Kept.{kept_at}
-use Rattle.tangle_plans.specs.NodeBodies.{HoldsShape}
+use Rattle.tangle_plans.specs.NodeBodies.{HoldsShape, node_uses, texts_at}
 use Rattle.tangle_plans.specs.Slots.{Slot, filled}
 use Rattle.tangle_expansion.specs.Limits.{levels, heaviest, flat_of, weight_of, depth_of, IsExpandableNode}
 use Rattle.tangle_expansion.specs.Outputs.{OutputRead}
@@ -12,7 +12,7 @@ use Rattle.tangle_plans.specs.declared.nodes.NodeBody.{NodeBody}
 use Rattle.tangle_expansion.specs.declared.kept.Kept.{Kept}
 use Rattle.tangle_plans.specs.declared.nodes.Node.{Node}
 use Rattle.tangle_plans.specs.declared.nodes.Node.TheVariants as node_kind
-use Rattle.tangle_graph.specs.Nodes.{title_of_node, IsNodeOf, number_in, entry, entry_if, shape_of_node, UsesTitle}
+use Rattle.tangle_graph.specs.Nodes.{title_at, title_of_node, IsNodeOf, number_in, entry, entry_if, shape_of_node, UsesTitle}
 
 -- the bytes of the names, and lists with an entry for each node: the names in their order, and then the program
 pub record StoreRead : Type 0 where
@@ -121,3 +121,17 @@ pub record AreWithin (pieces : List (List ℕ)) (weights depths : List ℕ) (fla
   pub size : length flags ≡ length pieces
   pub flag : (n : ℕ) → n < length pieces
       → slice_index_or flags n false ≡ (is_filled (slice_index_or pieces n []) && (nat_lt (slice_index depths n) levels && nat_le (slice_index weights n) heaviest))
+
+-- the node with this number has the body that the node with its title had, and the names that it uses are as before
+pub record KeepsBody (old new : StoreRead) (n : ℕ) : Type 0 where
+  pub before : ℕ
+  pub inside : before ≤ length old.names
+  pub title : title_at old.names before ≡ title_at new.names n
+  pub body : NodeBody
+  pub had : slice_get old.bodies before ≡ Some body
+  pub has : slice_get new.bodies n ≡ Some body
+  pub uses : texts_at old.names (node_uses body) ≡ texts_at new.names (node_uses body)
+
+-- so it is of each node with a flag
+abbrev pub KeepsBodies : StoreRead → StoreRead → List Bool → Type 0
+KeepsBodies old new flags = (n : ℕ) → slice_index_or flags n false ≡ true → KeepsBody old new n

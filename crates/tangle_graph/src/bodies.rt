@@ -1,6 +1,6 @@
 //! The body of each node: its bytes and its plan.
-ghost use Rattle.std.specs.Prelude.{◌≡◌, ◌<◌, IfOk, length, map, All, IfSome};
-ghost use Rattle.std.specs.Prelude.{slice_index_or, true, false};
+ghost use Rattle.std.specs.Prelude.{◌≡◌, ◌<◌, ◌≤◌, ◌⊎◌, [], IfOk, length, map, All, IfSome};
+ghost use Rattle.std.specs.Prelude.{slice_get, slice_index_or, true, false, MatchOption, Some};
 ghost use Rattle.digraph.specs.Graph.{rows_of};
 ghost use Rattle.tangle_plans.specs.Comparing.{IsPlanned};
 ghost use Rattle.tangle_plans.specs.Meaning.{title_of};
@@ -8,7 +8,9 @@ ghost use Rattle.tangle_plans.specs.Shapes.{Named};
 ghost use Rattle.tangle_plans.specs.NodeBodies.{node_title, node_uses};
 ghost use Rattle.tangle_graph.specs.Nodes.{title_at};
 ghost use Rattle.tangle_graph.specs.Plans.{ArePlanned, ArePlans, ArePiecesInside, AreFilled};
-ghost use Rattle.tangle_graph.specs.Plans.{AreBodies, AreBodiesBefore, IsBodyAt, node_bodies};
+ghost use Rattle.tangle_graph.specs.Plans.{AreAsBefore, AreBodies, AreBodiesBefore, AreInPlace};
+ghost use Rattle.tangle_graph.specs.Plans.{IsBodyAt, IsBodyOfBefore};
+ghost use Rattle.tangle_graph.specs.Plans.{node_bodies};
 ghost use Rattle.tangle_graph.specs.Plans.{slots_of, uses_of_plans};
 ghost use Rattle.tangle_graph.specs.Rows.{bytes_of_names};
 
@@ -92,7 +94,8 @@ const LOOKED_AT: usize = 8;
 
 /// Whether the name with this number has this text.
 fn is_name_at(names: &[Vec<u8>], id: usize, text: &[u8]) -> bool
-    ensures { result ≡ true → title_at (bytes_of_names names.now) id ≡ Named text.now }
+    ensures title { result ≡ true → title_at (bytes_of_names names.now) id ≡ Named text.now }
+    ensures within { result ≡ true → id < length names.now }
 {
     match names.get(id) {
         Some(name) => name.as_slice() == text,
@@ -103,7 +106,9 @@ fn is_name_at(names: &[Vec<u8>], id: usize, text: &[u8]) -> bool
 /// The number of the name with this text, if it is this one or one of the next few.
 // Where an edit makes names come or go, the others stay in their order.
 fn number_before(names: &[Vec<u8>], first: usize, text: &[u8]) -> Option<usize>
-    ensures { IfSome result (λ id. title_at (bytes_of_names names.now) id ≡ Named text.now) }
+    ensures title { IfSome result
+        (λ id. title_at (bytes_of_names names.now) id ≡ Named text.now) }
+    ensures within { IfSome result (λ id. id < length names.now) }
 {
     for id in first..first.saturating_add(LOOKED_AT) {
         if is_name_at(names, id, text) {
@@ -117,8 +122,9 @@ fn number_before(names: &[Vec<u8>], first: usize, text: &[u8]) -> Option<usize>
 /// among the next few.
 #[tactic(auto, using(crate::proofs::NodeLemmas::title_inside, crate::proofs::NodeLemmas::title_past))]
 fn node_before(names: &[Vec<u8>], first: usize, table: &NameTable, n: usize) -> Option<usize>
-    ensures { IfSome result (λ m. title_at (bytes_of_names names.now) m
+    ensures title { IfSome result (λ m. title_at (bytes_of_names names.now) m
         ≡ title_at table.now.names n) }
+    ensures within { IfSome result (λ m. m ≤ length names.now) }
 {
     if n < table.count() {
         number_before(names, first, table.text(n))
@@ -158,6 +164,13 @@ fn agree_on(flags: &[bool], others: &[bool], names: &[usize]) -> bool
     true
 }
 
+/// Whether two lists of flags are the same.
+pub(crate) fn are_same_flags(flags: &[bool], others: &[bool]) -> bool
+    ensures { result ≡ true → flags.now ≡ others.now }
+{
+    flags == others
+}
+
 /// The body that was at this number, if as before those names have a piece that it uses.
 fn body_at<'s>(old: OldBodies<'s>, n: usize, has_piece: &[bool]) -> Option<&'s Rc<NodeBody>>
     requires { AreBodiesBefore old }
@@ -165,6 +178,8 @@ fn body_at<'s>(old: OldBodies<'s>, n: usize, has_piece: &[bool]) -> Option<&'s R
         ≡ title_at (bytes_of_names old.entry.names.now) n) }
     ensures planned { IfSome result
         (λ body. IsPlanned (λ id. slice_index_or has_piece.now id false) body.now.value) }
+    ensures place { IfSome result
+        (λ body. slice_get (node_bodies old.entry.bodies.now) n ≡ Some body.now.value) }
 {
     match old.bodies.get(n) {
         Some(body) => {
@@ -178,21 +193,50 @@ fn body_at<'s>(old: OldBodies<'s>, n: usize, has_piece: &[bool]) -> Option<&'s R
     }
 }
 
-/// The body that the node with this number had, if it may be kept. It is looked for from the number
-/// of the first old name on that was not found yet.
+/// The body that was at this number, where the names and what has a piece are as before.
+fn body_in_place<'s>(
+    old: OldBodies<'s>,
+    table: &NameTable,
+    has_piece: &[bool],
+    n: usize,
+) -> Option<&'s Rc<NodeBody>>
+    requires old { AreBodiesBefore old }
+    requires in_place { AreInPlace old table.now.names has_piece.now }
+    ensures title { IfSome result
+        (λ body. node_title body.now.value ≡ title_at table.now.names n) }
+    ensures planned { IfSome result
+        (λ body. IsPlanned (λ id. slice_index_or has_piece.now id false) body.now.value) }
+    ensures place { IfSome result
+        (λ body. IsBodyOfBefore old.entry table.now.names n body.now.value) }
+{
+    if n > old.names.len() {
+        return None;
+    }
+    old.bodies.get(n)
+}
+
+/// The body that the node with this number had, if it may be kept. Where names came or went, it is
+/// looked for from the number of the first old name on that was not found yet.
 fn body_before<'s>(
     old: OldBodies<'s>,
+    are_in_place: bool,
     first: &mut usize,
     table: &NameTable,
     has_piece: &[bool],
     n: usize,
 ) -> Option<&'s Rc<NodeBody>>
-    requires { AreBodiesBefore old }
+    requires old { AreBodiesBefore old }
+    requires in_place { are_in_place ≡ true → AreInPlace old table.now.names has_piece.now }
     ensures title { IfSome result
         (λ body. node_title body.now.value ≡ title_at table.now.names n) }
     ensures planned { IfSome result
         (λ body. IsPlanned (λ id. slice_index_or has_piece.now id false) body.now.value) }
+    ensures place { IfSome result
+        (λ body. IsBodyOfBefore old.entry table.now.names n body.now.value) }
 {
+    if are_in_place {
+        return body_in_place(old, table, has_piece, n);
+    }
     match node_before(old.names, *first, table, n) {
         Some(m) => {
             *first = m.saturating_add(1);
@@ -200,6 +244,13 @@ fn body_before<'s>(
         }
         None => None,
     }
+}
+
+/// The body of a node, and whether it is that of before.
+#[derive(Drop)]
+struct BodyAfter {
+    body: Rc<NodeBody>,
+    is_kept: bool,
 }
 
 /// The body of the node with this number, which has the pieces with these numbers: that of before,
@@ -213,29 +264,53 @@ fn body_after(
     n: usize,
     numbers: &[usize],
     before: Option<&Rc<NodeBody>>,
-) -> Result<Rc<NodeBody>, NoMemory>
+) -> Result<BodyAfter, NoMemory>
     requires numbers { All (λ i. i < length web.now.pieces) numbers.now }
     requires ours { length table.now.resolved ≡ length web.now.occurrences }
     requires title { IfSome before
         (λ body. node_title body.now.value ≡ title_at table.now.names n) }
     requires planned { IfSome before
         (λ body. IsPlanned (λ id. slice_index_or has_piece.now id false) body.now.value) }
-    ensures { IfOk result (λ body. IsBodyAt web.now table.now
-        (λ id. slice_index_or has_piece.now id false) n numbers.now body.value) }
+    ensures body { IfOk result (λ made. IsBodyAt web.now table.now
+        (λ id. slice_index_or has_piece.now id false) n numbers.now made.body.value) }
+    ensures kept { IfOk result (λ made. made.is_kept ≡ true
+        → MatchOption before.entry ⊥ (λ body. made.body.value ≡ body.now.value)) }
 {
     if let Some(body) = before {
         if is_same_node(body, web, table, numbers) {
             return match body.clone() {
-                Ok(body) => Ok(body),
+                Ok(body) => Ok(BodyAfter {
+                    body,
+                    is_kept: true,
+                }),
                 Err(_) => Err(NoMemory),
             };
         }
     }
-    body_of_node(alloc, planning, web, table, has_piece, n, numbers)
+    let body = body_of_node(alloc, planning, web, table, has_piece, n, numbers)?;
+    Ok(BodyAfter {
+        body,
+        is_kept: false,
+    })
+}
+
+/// Whether the names that a body uses are as before: all are, or it uses none.
+fn uses_as_before(are_in_place: bool, body: &NodeBody) -> bool
+    ensures { result ≡ true → (are_in_place ≡ true) ⊎ (node_uses body.now ≡ []) }
+{
+    are_in_place || body.uses().is_empty()
+}
+
+/// The body of each node, and a flag for each: whether it is that of before, and the names that it
+/// uses are as before.
+#[derive(Drop)]
+pub(crate) struct Bodies {
+    pub(crate) bodies: Vec<Rc<NodeBody>>,
+    pub(crate) are_kept: Vec<bool>,
 }
 
 /// The body of each node, by the numbers of its pieces. Where that of before is the same, it is
-/// shared.
+/// shared. The bodies of before are in place where the names and what has a piece are as before.
 pub(crate) fn bodies_by_node(
     alloc: Global,
     web: &Web,
@@ -243,28 +318,35 @@ pub(crate) fn bodies_by_node(
     has_piece: &[bool],
     pieces: &[Vec<usize>],
     old: OldBodies,
-) -> Result<Vec<Rc<NodeBody>>, NoMemory>
+    are_in_place: bool,
+) -> Result<Bodies, NoMemory>
     requires inside { ArePiecesInside (length web.now.pieces) pieces.now }
     requires ours { length table.now.resolved ≡ length web.now.occurrences }
     requires old { AreBodiesBefore old }
-    ensures bodies { IfOk result
-        (λ bodies. AreBodies web.now table.now (rows_of pieces.now) (node_bodies bodies.items)) }
+    requires in_place { are_in_place ≡ true → AreInPlace old table.now.names has_piece.now }
+    ensures bodies { IfOk result (λ made.
+        AreBodies web.now table.now (rows_of pieces.now) (node_bodies made.bodies.items)) }
     ensures plans { IfOk result
-        (λ bodies. ArePlans web.now table.now (λ id. slice_index_or has_piece.now id false)
-        (rows_of pieces.now) (slots_of bodies.items) (uses_of_plans bodies.items)) }
+        (λ made. ArePlans web.now table.now (λ id. slice_index_or has_piece.now id false)
+        (rows_of pieces.now) (slots_of made.bodies.items) (uses_of_plans made.bodies.items)) }
     ensures planned { IfOk result
-        (λ bodies. ArePlanned table.now.names (λ id. slice_index_or has_piece.now id false)
-        (node_bodies bodies.items)) }
+        (λ made. ArePlanned table.now.names (λ id. slice_index_or has_piece.now id false)
+        (node_bodies made.bodies.items)) }
+    ensures kept { IfOk result
+        (λ made. AreAsBefore old.entry table.now.names (node_bodies made.bodies.items)
+        made.are_kept.items) }
 {
     let mut planning = Planning::new(alloc);
     let mut bodies = Vec::with_capacity(alloc, pieces.len())?;
+    let mut are_kept = Vec::with_capacity(alloc, pieces.len())?;
     let mut first = 0;
     for (n, row) in pieces.iter().enumerate() {
-        let before = body_before(old, &mut first, table, has_piece, n);
-        let body = body_after(alloc, &mut planning, web, table, has_piece, n, row, before)?;
-        bodies.push(body)?;
+        let before = body_before(old, are_in_place, &mut first, table, has_piece, n);
+        let made = body_after(alloc, &mut planning, web, table, has_piece, n, row, before)?;
+        are_kept.push(made.is_kept && uses_as_before(are_in_place, &made.body))?;
+        bodies.push(made.body)?;
     }
-    Ok(bodies)
+    Ok(Bodies { bodies, are_kept })
 }
 
 /// The names that the items of each node use, each as often as it is used.

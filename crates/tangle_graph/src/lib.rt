@@ -14,8 +14,8 @@ mod skeleton;
 mod store;
 
 pub use laws::graph_faults_are_one_list;
-pub use shapes::same_shape;
-pub use store::{Store, expand_one};
+pub use shapes::{keeps_shape, same_shape};
+pub use store::{Rebuilt, Store, expand_one};
 pub use tangle_expansion::{
     Expansion, Kept, Numbers, Output, Work, file_size, write_file, write_text,
 };

@@ -1,7 +1,7 @@
 //! Nodes by number: the names in their order, and then the program.
-ghost use Rattle.std.specs.Prelude.{◌≡◌, ◌<◌, IfOk, map};
+ghost use Rattle.std.specs.Prelude.{◌≡◌, ◌<◌, [], IfOk, map};
 ghost use Rattle.digraph.specs.Graph.{rows_of};
-ghost use Rattle.tangle_graph.specs.Nodes.{node_at, number_in};
+ghost use Rattle.tangle_graph.specs.Nodes.{entry, node_at, number_in};
 ghost use Rattle.tangle_graph.specs.Rows.{node_rows};
 
 use std::alloc::{AllocError, Global};
@@ -57,4 +57,32 @@ pub(crate) fn nodes_by_node(
         nodes.push(nodes_of(alloc, names, row)?)?;
     }
     Ok(nodes)
+}
+
+/// What a list with an entry for each node says of the node with this number. Of no node, and of a
+/// node that the list does not have, it says this.
+pub(crate) fn entry<T: Copy>(entries: &[T], number: Option<usize>, none: T) -> T
+    ensures { result ≡ entry none entries.now number }
+{
+    match number {
+        Some(n) => match entries.get(n) {
+            Some(found) => *found,
+            None => none,
+        },
+        None => none,
+    }
+}
+
+/// The row of the node with this number, of rows with one for each node. It is empty for no node,
+/// and for one that is not among them.
+pub(crate) fn row<T>(rows: &[Vec<T>], number: Option<usize>) -> &[T]
+    ensures { result.now ≡ entry [] (map (λ row. row.items) rows.now) number }
+{
+    match number {
+        Some(n) => match rows.get(n) {
+            Some(row) => row.as_slice(),
+            None => &[],
+        },
+        None => &[],
+    }
 }

@@ -19,16 +19,17 @@ ghost use Rattle.tangle_graph.specs.Plans.{AreBodies, AreBodiesBefore, AreFilled
 ghost use Rattle.tangle_graph.specs.Plans.{ArePlans, node_bodies, slots_of, uses_of_plans};
 ghost use Rattle.tangle_graph.specs.Rows.{bytes_of_names};
 ghost use Rattle.tangle_graph.specs.Skeletons.{IsSkeletonOf};
-ghost use Rattle.tangle_graph.specs.Stores.{IsStoreOf, KeepsUsed, plan_uses_at, slots_at};
+ghost use Rattle.tangle_graph.specs.Stores.{IsStoreOf, KeepsBodies, KeepsUsed, plan_uses_at};
+ghost use Rattle.tangle_graph.specs.Stores.{slots_at};
 ghost use Rattle.tangle_graph.specs.Stores.{title_in_store, contains_itself_at, is_expandable_at};
 ghost use Rattle.tangle_graph.specs.Stores.{weight_at, depth_at, uses_at, users_at, has_piece_at};
 ghost use Rattle.tangle_graph.specs.Stores.{body_at};
 ghost use Rattle.tangle_graph.specs.WebStores.{IsStoreOfWeb};
 
-use crate::bodies::{OldBodies, bodies_by_node, filled_rows, no_bodies};
+use crate::bodies::{OldBodies, are_same_flags, bodies_by_node, filled_rows, no_bodies};
 use crate::faults::{NodeFlags, faults};
 use crate::measures::Measures;
-use crate::nodes::number_of;
+use crate::nodes::{entry, number_of, row};
 use crate::outputs::outputs;
 use crate::pieces::pieces_by_node;
 use crate::skeleton::{Skeleton, are_names_of, have_same_uses};
@@ -71,6 +72,14 @@ impl Model for Store {
     ghost invariant = { λ s. IsWellKept s };
 }
 
+/// A store that was built over another one, and a flag for each of its nodes: whether it has the
+/// body that the node with its name had, and the names that it uses are as before.
+#[derive(Drop)]
+pub struct Rebuilt {
+    pub store: Store,
+    pub are_kept: Vec<bool>,
+}
+
 impl Store {
     /// The store of a web with its table of names, for a main file of this name. The faults of the
     /// table are not looked at; they may have been taken.
@@ -87,13 +96,15 @@ impl Store {
         let rows: &[Vec<usize>] = &pieces;
         let filled = filled_rows(alloc, rows)?;
         let flags: &[bool] = &filled;
-        let bodies = bodies_by_node(alloc, web, table, flags, rows, no_bodies())?;
+        let made = bodies_by_node(alloc, web, table, flags, rows, no_bodies(), false)?;
+        let bodies = made.bodies;
         let skeleton = Skeleton::shared(alloc, table, &bodies)?;
         Store::over(alloc, web, table, out, pieces, filled, bodies, skeleton)
     }
 
     /// The same store, for a web that comes after another one: what the edit did not change is
-    /// shared with the store of the web before.
+    /// shared with the store of the web before. The flags say which nodes have the bodies of
+    /// before, and use names as before.
     ///
     /// # Errors
     ///
@@ -104,19 +115,25 @@ impl Store {
         table: &NameTable,
         out: &[u8],
         old: &Store,
-    ) -> Result<Store, NoMemory>
+    ) -> Result<Rebuilt, NoMemory>
         requires { table.now ≡ record (table_of web.now) { faults = table.now.faults } }
-        ensures { IfOk result (IsStoreOfWeb web.now table.now out.now) }
+        ensures store { IfOk result (λ made. IsStoreOfWeb web.now table.now out.now made.store) }
+        ensures kept { IfOk result (λ made. KeepsBodies old.now made.store made.are_kept.items) }
     {
         names_resolve_inside();
         let pieces = pieces_by_node(alloc, web.pieces(), table)?;
         let rows: &[Vec<usize>] = &pieces;
         let filled = filled_rows(alloc, rows)?;
         let flags: &[bool] = &filled;
-        let bodies = bodies_by_node(alloc, web, table, flags, rows, old.bodies())?;
+        let before = old.bodies();
         let same_names = old.has_names_of(table);
+        let in_place = same_names && are_same_flags(before.filled, flags);
+        let made = bodies_by_node(alloc, web, table, flags, rows, before, in_place)?;
+        let are_kept = made.are_kept;
+        let bodies = made.bodies;
         let skeleton = old.skeleton_for(alloc, table, same_names, &bodies)?;
-        Store::over(alloc, web, table, out, pieces, filled, bodies, skeleton)
+        let store = Store::over(alloc, web, table, out, pieces, filled, bodies, skeleton)?;
+        Ok(Rebuilt { store, are_kept })
     }
 
     /// Whether the names are those of the table, each under its number.
@@ -128,7 +145,9 @@ impl Store {
 
     /// The bodies of the nodes, with what they were planned under.
     fn bodies(&self) -> OldBodies<'_>
-        ensures { AreBodiesBefore result }
+        ensures planned { AreBodiesBefore result }
+        ensures names { bytes_of_names result.names.now ≡ self.now.names }
+        ensures bodies { node_bodies result.bodies.now ≡ self.now.bodies }
     {
         let skeleton: &Skeleton = &self.skeleton;
         let names: &[Vec<u8>] = &skeleton.names;
@@ -192,7 +211,8 @@ impl Store {
             (node_bodies bodies.items) }
         requires names { bytes_of_names skeleton.value.names.items ≡ table.now.names }
         requires skeleton { IsSkeletonOf (map node_uses (node_bodies bodies.items)) skeleton.value }
-        ensures { IfOk result (IsStoreOfWeb web.now table.now out.now) }
+        ensures store { IfOk result (IsStoreOfWeb web.now table.now out.now) }
+        ensures bodies { IfOk result (λ store. store.bodies ≡ node_bodies bodies.items) }
     {
         names_resolve_inside();
         names_are_the_full_names();
@@ -254,23 +274,14 @@ impl Store {
     pub fn has_piece(&self, node: Node) -> bool
         ensures { result ≡ has_piece_at self.now node }
     {
-        match self.number(node) {
-            Some(n) => match self.pieces.get(n) {
-                Some(row) => !row.is_empty(),
-                None => false,
-            },
-            None => false,
-        }
+        !row(&self.pieces, self.number(node)).is_empty()
     }
 
     /// Whether the node contains itself: it reaches itself by one use or more.
     pub fn self_containing(&self, node: Node) -> bool
         ensures { result ≡ contains_itself_at self.now node }
     {
-        match self.number(node) {
-            Some(n) => self.skeleton.self_containing.get(n) == Some(&true),
-            None => false,
-        }
+        entry(&self.skeleton.self_containing, self.number(node), false)
     }
 
     /// Whether the node is expandable: it has a piece, reaches no name that contains itself, weighs
@@ -278,10 +289,7 @@ impl Store {
     pub fn expandable(&self, node: Node) -> bool
         ensures { result ≡ is_expandable_at self.now node }
     {
-        match self.number(node) {
-            Some(n) => self.expandable.get(n) == Some(&true),
-            None => false,
-        }
+        entry(&self.expandable, self.number(node), false)
     }
 
     /// The weight of the node: each byte of an item counts 1, and so do an opening, a closing, a
@@ -290,13 +298,7 @@ impl Store {
     pub fn weight(&self, node: Node) -> u32
         ensures { result ≡ weight_at self.now node }
     {
-        match self.number(node) {
-            Some(n) => match self.weights.get(n) {
-                Some(weight) => *weight,
-                None => 0,
-            },
-            None => 0,
-        }
+        entry(&self.weights, self.number(node), 0)
     }
 
     /// The depth of the node: 0 without a piece, else one more than the greatest depth among the
@@ -305,39 +307,21 @@ impl Store {
     pub fn depth(&self, node: Node) -> u16
         ensures { result ≡ depth_at self.now node }
     {
-        match self.number(node) {
-            Some(n) => match self.depths.get(n) {
-                Some(depth) => *depth,
-                None => 0,
-            },
-            None => 0,
-        }
+        entry(&self.depths, self.number(node), 0)
     }
 
     /// The names that the node uses, each once.
     pub fn uses(&self, node: Node) -> &[Node]
         ensures { result.now ≡ uses_at self.now node }
     {
-        match self.number(node) {
-            Some(n) => match self.skeleton.used_nodes.get(n) {
-                Some(row) => row.as_slice(),
-                None => &[],
-            },
-            None => &[],
-        }
+        row(&self.skeleton.used_nodes, self.number(node))
     }
 
     /// The nodes that use this one, each once.
     pub fn users(&self, node: Node) -> &[Node]
         ensures { result.now ≡ users_at self.now node }
     {
-        match self.number(node) {
-            Some(n) => match self.skeleton.user_nodes.get(n) {
-                Some(row) => row.as_slice(),
-                None => &[],
-            },
-            None => &[],
-        }
+        row(&self.skeleton.user_nodes, self.number(node))
     }
 
     /// The output files: the main file first, if the program has no piece or is expandable, and
@@ -396,23 +380,11 @@ impl PiecesByNode for Store {
     }
 
     fn piece_numbers(&self, node: Node) -> &[usize] {
-        match self.number(node) {
-            Some(n) => match self.pieces.get(n) {
-                Some(row) => row.as_slice(),
-                None => &[],
-            },
-            None => &[],
-        }
+        row(&self.pieces, self.number(node))
     }
 
     fn node_body(&self, node: Node) -> Option<&Rc<NodeBody>> {
-        match self.number(node) {
-            Some(n) => match self.bodies.get(n) {
-                Some(body) => Some(body),
-                None => None,
-            },
-            None => None,
-        }
+        self.bodies.get(self.number(node)?)
     }
 }
 

@@ -1,7 +1,8 @@
 -- Comparing lists from their fronts.
-use Rattle.std.proofs.Common.{◌≡◌, ◌≢◌, ◌∙◌, ℕ, ◌+◌, ◌<◌, ◌≤◌, ◌-◌, suc, List, [], ◌∷◌, ◌++◌, length, drop, refl, ap, sym, append_assoc, append-nil, get_or, drop-cons, add-one, All}
-use Rattle.std.specs.Prelude.{flat_map, Option, Some, None, IfSome}
-use Rattle.std.proofs.lemmas.List.{append_cancel_left, get_or_default}
+use Rattle.std.proofs.Common.{◌≡◌, ◌≢◌, ◌∙◌, ℕ, ◌+◌, ◌<◌, ◌≤◌, ◌-◌, suc, List, [], ◌∷◌, ◌++◌, length, map, take, drop, arith, refl, ap, sym, append_assoc, append-nil, get_or, drop-cons, add-one, All}
+use Rattle.std.specs.Prelude.{flat_map, Option, Some, None}
+use Rattle.std.proofs.lemmas.Grind.{flat_map-append}
+use Rattle.std.proofs.lemmas.List.{append_cancel_left, drop-drop, get_or_default, map-append, take-append-drop}
 use Rattle.tangle_text.specs.declared.spans.Span.{Span}
 use Rattle.tangle_scan.specs.declared.items.Item.{Item}
 use Rattle.tangle_scan.specs.Rules.{span_text}
@@ -12,13 +13,14 @@ use Rattle.tangle_plans.specs.Tags.{piece_end, shape_tags, shape_bytes}
 use Rattle.tangle_plans.specs.ItemTags.{bytes_in, tag_in, names_in, piece_tags, pieces_tags, pieces_bytes, pieces_names, shape_of}
 use Rattle.tangle_plans.specs.ItemSlots.{pieces_at, no_piece}
 use Rattle.tangle_plans.specs.NodeBodies.{HoldsShape, texts_at}
-use Rattle.tangle_plans.specs.Runs.{IsKept, IsTextOf, run_bytes}
+use Rattle.tangle_plans.specs.Runs.{IsRunOver, IsTextOf, run_bytes}
 use Rattle.tangle_plans.specs.Comparing.{HasItemsOf}
-use Rattle.tangle_plans.specs.Fronts.{Lists, GoOnAs, IsBehind, IsNotBehind, with_tag, with_byte, with_bytes, with_text, with_item, with_items, with_pieces, with_shape, with_range, lists_at, no_lists, lists_of, IsBehindPosition, IsNotBehindPosition, GoesBehind}
+use Rattle.tangle_plans.specs.Fronts.{Lists, GoOnAs, IsBehind, IsNotBehind, with_tag, with_bytes, with_text, with_item, with_items, with_pieces, with_shape, with_range, lists_at, no_lists, lists_of, IsBehindPosition, IsNotBehindPosition, GoesBehind}
 use Rattle.tangle_plans.specs.declared.tags.ItemTag.{ItemTag}
 use Rattle.tangle_plans.specs.declared.tags.ItemKind.{ItemKind}
 use Rattle.tangle_plans.specs.declared.comparing.Position.{Position}
 use Rattle.tangle_plans.specs.declared.nodes.NodeBody.{NodeBody}
+use Rattle.tangle_plans.specs.declared.runs.Run.{Run}
 use Rattle.tangle_plans.proofs.DropLemmas.{drop_all}
 use Rattle.tangle_plans.proofs.HeldLemmas.{tags_held, bytes_held, names_held}
 
@@ -27,13 +29,6 @@ lists_same a b tags bytes uses =
     ap (λ l. record { tags = l; bytes = a.bytes; uses = a.uses }) tags
     ∙ ap (λ l. record { tags = b.tags; bytes = l; uses = a.uses }) bytes
     ∙ ap (λ l. record { tags = b.tags; bytes = b.bytes; uses = l }) uses
-
--- the range at a position that was found
-pub still_kept : (texts : List (List ℕ)) (position : Position) (found : Option Position) → IsKept texts position.run
-    → IfSome found (λ next. (texts : List (List ℕ)) → IsKept texts position.run → IsKept texts next.run)
-    → IfSome found (λ next. IsKept texts next.run)
-still_kept texts position None kept is = tt
-still_kept texts position (Some next) kept is = is texts kept
 
 -- one step behind another
 
@@ -88,31 +83,13 @@ all_behind tag first bytes uses l tags text rest same is b u = λ more. (
       (u ∙ ap (λ r. uses ++ r) (ap (λ (m : Lists). m.uses) e)),
 )
 
--- with the tag alone, a position goes on as it is
-pub tag_behind : (tag first : ItemTag) (tags : List ItemTag) (bytes uses : List ℕ) → first ≡ tag
-    → IsBehind (with_tag tag) (record { tags = first ∷ tags; bytes = bytes; uses = uses }) (record { tags = tags; bytes = bytes; uses = uses })
-tag_behind tag first tags bytes uses same = all_behind tag first [] [] (record { tags = first ∷ tags; bytes = bytes; uses = uses }) tags bytes uses same refl refl refl
-
 pub cut_not : (run bytes text rest : List ℕ) → text ≡ run ++ rest → ((more : List ℕ) → rest ≢ bytes ++ more) → (more : List ℕ) → text ≢ run ++ (bytes ++ more)
 cut_not run bytes text rest is differ more e = differ more (append_cancel_left run rest (bytes ++ more) (sym is ∙ e))
 
 -- an item of one byte, behind which no range is left
-pub byte_cut : (tag : ItemTag) (byte : ℕ) (run next : List ℕ) → next ≡ []
-    → (more : Lists) → with_bytes run (with_byte tag byte more) ≡ with_all tag (run ++ byte ∷ []) [] (with_bytes next more)
-byte_cut tag byte run next none more =
-    ap (λ b. record { tags = tag ∷ more.tags; bytes = b; uses = more.uses })
-    (sym (append_assoc run (byte ∷ []) more.bytes) ∙ ap (λ n. (run ++ byte ∷ []) ++ (n ++ more.bytes)) (sym none))
-
 -- texts and items behind the bytes of a range
 
 module _ (texts : List (List ℕ)) where
-  -- a text that a longer range ends with
-  pub text_joined : (run next : List ℕ) (kind : ItemKind) (s : Span) → run ++ span_text texts s ≡ next
-      → (more : Lists) → with_bytes run (with_text texts kind s more) ≡ with_tag (record { kind = kind; size = s.end - s.start }) (with_bytes next more)
-  text_joined run next kind s is more =
-      ap (λ b. record { tags = record { kind = kind; size = s.end - s.start } ∷ more.tags; bytes = b; uses = more.uses })
-      (sym (append_assoc run (span_text texts s) more.bytes) ∙ ap (λ b. b ++ more.bytes) is)
-
   -- a text that begins another range
   pub text_cut : (run next : List ℕ) (kind : ItemKind) (s : Span) → next ≡ span_text texts s
       → (more : Lists) → with_bytes run (with_text texts kind s more) ≡ with_tag (record { kind = kind; size = s.end - s.start }) (with_bytes run (with_bytes next more))
@@ -125,13 +102,6 @@ module _ (texts : List (List ℕ)) (table : TableRead) where
   item_is_text x kind s is more =
       lists_same (with_item texts table x more) (with_text texts kind s more)
       (ap (λ c. c ∷ more.tags) (is.tag table)) (ap (λ b. b ++ more.bytes) (is.bytes texts)) (ap (λ u. u ++ more.uses) (is.no_use table))
-
-  -- white space that a longer range ends with
-  pub space_joined : (x : Item) (tag : ItemTag) (run next : List ℕ) → tag_in table x ≡ tag → run ++ bytes_in texts x ≡ next → names_in table x ≡ []
-      → (more : Lists) → with_bytes run (with_item texts table x more) ≡ with_tag tag (with_bytes next more)
-  space_joined x tag run next is longer none more =
-      lists_same (with_bytes run (with_item texts table x more)) (with_tag tag (with_bytes next more))
-      (ap (λ c. c ∷ more.tags) is) (sym (append_assoc run (bytes_in texts x) more.bytes) ∙ ap (λ b. b ++ more.bytes) longer) (ap (λ u. u ++ more.uses) none)
 
   -- another item, behind which no range is left
   pub item_cut : (x : Item) (run next : List ℕ) → next ≡ []
@@ -183,6 +153,46 @@ module _ (texts : List (List ℕ)) (table : TableRead) where
 
   pub items_over : (items : List Item) (i : ℕ) → length items ≤ i → (more : Lists) → with_items texts table (drop i items) more ≡ with_tag piece_end more
   items_over items i h more = ap (λ l. with_items texts table l more) (drop_all items i h)
+
+  -- items that are passed at once, with their tags
+  pub items_passed : (tags slice : List ItemTag) (items rest : List Item) (k n : ℕ) (position : Position) (more : Run) → slice ≡ drop k tags → rest ≡ drop k items
+      → take n slice ≡ map (tag_in table) (take n rest) → IsRunOver texts position.run (take n rest) more
+      → GoOnAs (lists_at (drop k tags) position) (λ l. with_range position (with_items texts table (drop k items) l))
+      (lists_at (drop (k + n) tags) (record position { run = more })) (λ l. with_range (record position { run = more }) (with_items texts table (drop (k + n) items) l))
+  items_passed tags slice items rest k n position more tags_same items_same tagged over = λ l.
+      let passed = take n rest in
+      let behind = drop (k + n) items in
+      let next = record position { run = more } in
+      let bytes = flat_map (bytes_in texts) in
+      let names = flat_map (names_in table) in
+      let all : drop k items ≡ passed ++ behind
+      = sym items_same ∙ sym (take-append-drop n rest) ∙ ap (λ r. passed ++ r) (ap (drop n) items_same ∙ drop-drop n k items ∙ ap (λ j. drop j items) (omega arith)) in
+      let tags_all : drop k tags ≡ map (tag_in table) passed ++ drop (k + n) tags
+      = sym tags_same ∙ sym (take-append-drop n slice) ∙ ap (λ r. r ++ drop n slice) tagged ∙ ap (λ r. map (tag_in table) passed ++ r) (ap (drop n) tags_same ∙ drop-drop n k tags ∙ ap (λ j. drop j tags) (omega arith)) in
+      let left = with_range position (with_items texts table (drop k items) l) in
+      let right = with_range next (with_items texts table behind l) in
+      let tags_is : left.tags ≡ map (tag_in table) passed ++ right.tags
+      = ap (λ r. piece_tags table r ++ l.tags) all
+      ∙ ap (λ r. (r ++ piece_end ∷ []) ++ l.tags) (map-append (tag_in table) passed behind)
+      ∙ ap (λ r. r ++ l.tags) (append_assoc (map (tag_in table) passed) (map (tag_in table) behind) (piece_end ∷ []))
+      ∙ append_assoc (map (tag_in table) passed) (piece_tags table behind) l.tags in
+      let bytes_is : left.bytes ≡ right.bytes
+      = ap (λ r. run_bytes position.run ++ (bytes r ++ l.bytes)) all
+      ∙ ap (λ r. run_bytes position.run ++ (r ++ l.bytes)) (flat_map-append (bytes_in texts) passed behind)
+      ∙ ap (λ r. run_bytes position.run ++ r) (append_assoc (bytes passed) (bytes behind) l.bytes)
+      ∙ sym (append_assoc (run_bytes position.run) (bytes passed) (bytes behind ++ l.bytes))
+      ∙ ap (λ r. r ++ (bytes behind ++ l.bytes)) over.bytes in
+      let uses_is : left.uses ≡ right.uses
+      = ap (λ r. names r ++ l.uses) all
+      ∙ ap (λ r. r ++ l.uses) (flat_map-append (names_in table) passed behind)
+      ∙ ap (λ r. (r ++ names behind) ++ l.uses) (over.no_uses table) in (
+        (λ e. lists_same (lists_at (drop (k + n) tags) next) right
+            (append_cancel_left (map (tag_in table) passed) (drop (k + n) tags) right.tags (sym tags_all ∙ ap (λ (m : Lists). m.tags) e ∙ tags_is))
+            (ap (λ (m : Lists). m.bytes) e ∙ bytes_is) (ap (λ (m : Lists). m.uses) e ∙ uses_is)),
+        λ e. lists_same (lists_at (drop k tags) position) left
+            (tags_all ∙ ap (λ r. map (tag_in table) passed ++ r) (ap (λ (m : Lists). m.tags) e) ∙ sym tags_is)
+            (ap (λ (m : Lists). m.bytes) e ∙ sym bytes_is) (ap (λ (m : Lists). m.uses) e ∙ sym uses_is),
+      )
 
   -- the end of a piece
   pub end_behind : (tags : List ItemTag) (i : ℕ) (tag d : ItemTag) (run text : List ℕ) (position : Position) → i < length tags → tag ≡ get_or tags i d → tag ≡ piece_end

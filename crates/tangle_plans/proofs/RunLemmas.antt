@@ -8,8 +8,7 @@ use Rattle.tangle_files.specs.Bytes.{space}
 use Rattle.tangle_scan.specs.declared.items.Item.{Item}
 use Rattle.tangle_scan.specs.declared.items.Item.TheVariants as item
 use Rattle.tangle_text.specs.declared.spans.Span.{Span}
-use Rattle.tangle_scan.specs.Rules.{span_text}
-use Rattle.tangle_scan.specs.SourceOrder.{IsInRange, IsSpan}
+use Rattle.tangle_scan.specs.SourceOrder.{IsInRange}
 use Rattle.tangle_names.specs.NameTable.{TableRead}
 use Rattle.tangle_plans.specs.Slots.{Own, byte_slots}
 use Rattle.tangle_plans.specs.Flat.{Byte}

@@ -44,10 +44,6 @@ with_bytes bytes more = record { tags = more.tags; bytes = bytes ++ more.bytes; 
 abbrev pub with_uses : List ℕ → Lists → Lists
 with_uses uses more = record { tags = more.tags; bytes = more.bytes; uses = uses ++ more.uses }
 
--- an item of one byte
-abbrev pub with_byte : ItemTag → ℕ → Lists → Lists
-with_byte tag byte more = record { tags = tag ∷ more.tags; bytes = byte ∷ more.bytes; uses = more.uses }
-
 abbrev pub with_text : List (List ℕ) → ItemKind → Span → Lists → Lists
 with_text texts kind s more = record { tags = record { kind = kind; size = s.end - s.start } ∷ more.tags; bytes = span_text texts s ++ more.bytes; uses = more.uses }
 

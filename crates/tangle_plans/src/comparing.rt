@@ -8,7 +8,7 @@ ghost use Rattle.tangle_scan.specs.WellFormed.{IsUseBelow};
 ghost use Rattle.tangle_plans.specs.Comparing.{HasItemsOf, IsPlanned};
 ghost use Rattle.tangle_plans.specs.Fronts.{CanComeNext, GoesBehind, GoesBehindItem, GoOnAs};
 ghost use Rattle.tangle_plans.specs.Fronts.{IsNotBehind, LeavesBehind, lists_left, lists_at};
-ghost use Rattle.tangle_plans.specs.Fronts.{no_lists, with_range, with_byte, with_tag};
+ghost use Rattle.tangle_plans.specs.Fronts.{no_lists, with_range, with_tag};
 ghost use Rattle.tangle_plans.specs.Fronts.{with_text, with_items, with_shape};
 ghost use Rattle.tangle_plans.specs.ItemTags.{bytes_in, names_in, names_resolved, pieces_names};
 ghost use Rattle.tangle_plans.specs.ItemTags.{shape_of};
@@ -18,8 +18,8 @@ ghost use Rattle.tangle_plans.specs.NodeBodies.{node_title, plan_slots, plan_use
 ghost use Rattle.tangle_plans.specs.Runs.{IsKept, run_bytes};
 
 use crate::nodes::NodeBody;
-use crate::runs::{Run, end_of, joined, no_run, run_of, text_of, with_space};
-use crate::tags::{ItemKind, ItemTag, end_of_piece, same_tag, tag_of, tag_of_blank, tag_of_span};
+use crate::runs::{Run, end_of, no_run, pass_same, run_of, text_of};
+use crate::tags::{ItemKind, ItemTag, end_of_piece, same_tag, tag_of, tag_of_span};
 use itoa::Buffer;
 use tangle_names::{NameTable, Resolved};
 use tangle_scan::{Item, Span, Web};
@@ -124,8 +124,8 @@ fn behind_use<'o>(uses: &'o [usize], table: &NameTable, item: &Item) -> Option<&
     }
 }
 
-/// The position behind a text of this kind, if it comes next, with this tag. One that begins where
-/// the range ends makes that longer.
+/// The position behind a text of this kind, if it comes next, with this tag. It begins a range: one
+/// that comes next in the source is passed with the others.
 #[inline(always)]
 fn behind_text<'w, 'o>(
     position: Position<'w, 'o>,
@@ -142,13 +142,6 @@ fn behind_text<'w, 'o>(
     if !same_tag(tag, tag_of_span(kind, span)) {
         return None;
     }
-    if let Some(end) = joined(position.run, span) {
-        let run = Run {
-            end,
-            ..position.run
-        };
-        return Some(Position { run, ..position });
-    }
     let text = behind_run(position.text, position.run)?;
     let run = run_of(web, span);
     Some(Position {
@@ -158,89 +151,8 @@ fn behind_text<'w, 'o>(
     })
 }
 
-/// The position behind an item of one byte, if it comes next: the tag that is there has to be the
-/// expected one.
-#[inline(always)]
-fn behind_one_byte<'w, 'o>(
-    position: Position<'w, 'o>,
-    tag: ItemTag,
-    expected: ItemTag,
-    byte: u8,
-) -> Option<Position<'w, 'o>>
-    requires start { position.run.start ≤ position.run.end }
-    requires end { position.run.end ≤ length position.run.line.now }
-    ensures run { IfSome result (λ next. (texts : List (List ℕ)) → IsKept texts position.entry.run
-        → IsKept texts next.run) }
-    ensures position { GoesBehind (with_byte expected byte) tag position.entry result }
-{
-    if !same_tag(tag, expected) {
-        return None;
-    }
-    let text = behind_run(position.text, position.run)?;
-    let text = behind_byte(text, byte)?;
-    let run = end_of(position.run);
-    Some(Position {
-        run,
-        text,
-        ..position
-    })
-}
-
-/// The position behind an item, if it comes next, with this tag. No range is made longer.
-#[inline(always)]
-fn behind_rare<'w, 'o>(
-    position: Position<'w, 'o>,
-    tag: ItemTag,
-    web: &'w Web,
-    table: &NameTable,
-    item: &Item,
-) -> Option<Position<'w, 'o>>
-    requires { CanComeNext web.now.texts table.now position item.now }
-    ensures { GoesBehindItem web.now.texts table.now item.now tag position.entry result }
-{
-    if !same_tag(tag, tag_of(item, table)) {
-        return None;
-    }
-    let text = behind_run(position.text, position.run)?;
-    let text = behind_bytes_of(text, web, item)?;
-    let uses = behind_use(position.uses, table, item)?;
-    let run = end_of(position.run);
-    Some(Position { run, text, uses })
-}
-
-/// The position behind an item without a text, if it comes next, with this tag. White space and
-/// line ends are common, so they have their own ways.
-#[inline(always)]
-fn behind_other<'w, 'o>(
-    position: Position<'w, 'o>,
-    tag: ItemTag,
-    web: &'w Web,
-    table: &NameTable,
-    item: &Item,
-) -> Option<Position<'w, 'o>>
-    requires { CanComeNext web.now.texts table.now position item.now }
-    ensures { GoesBehindItem web.now.texts table.now item.now tag position.entry result }
-{
-    match *item {
-        Item::Blank => {
-            if let Some(end) = with_space(position.run, item) {
-                if !same_tag(tag, tag_of_blank()) {
-                    return None;
-                }
-                let run = Run {
-                    end,
-                    ..position.run
-                };
-                return Some(Position { run, ..position });
-            }
-            behind_one_byte(position, tag, tag_of_blank(), b' ')
-        }
-        Item::LineEnd => behind_one_byte(position, tag, tag_of(item, table), b'\n'),
-        _ => behind_rare(position, tag, web, table, item),
-    }
-}
-
-/// The position behind an item, if it comes next, with this tag.
+/// The position behind an item, if it comes next, with this tag. A text begins a range; behind any
+/// other item there is none.
 #[inline(always)]
 fn behind_item<'w, 'o>(
     position: Position<'w, 'o>,
@@ -252,10 +164,17 @@ fn behind_item<'w, 'o>(
     requires { CanComeNext web.now.texts table.now position item.now }
     ensures { GoesBehindItem web.now.texts table.now item.now tag position.entry result }
 {
-    match text_of(item) {
-        Some((kind, span)) => behind_text(position, tag, web, kind, span),
-        None => behind_other(position, tag, web, table, item),
+    if let Some((kind, span)) = text_of(item) {
+        return behind_text(position, tag, web, kind, span);
     }
+    if !same_tag(tag, tag_of(item, table)) {
+        return None;
+    }
+    let text = behind_run(position.text, position.run)?;
+    let text = behind_bytes_of(text, web, item)?;
+    let uses = behind_use(position.uses, table, item)?;
+    let run = end_of(position.run);
+    Some(Position { run, text, uses })
 }
 
 /// The position behind these items, if they come next, with these tags. Texts of items that are
@@ -282,8 +201,16 @@ fn behind_items<'w, 'o>(
         text: left.text,
         uses: left.uses,
     };
-    for (i, item) in items.iter().enumerate() {
-        position = behind_item(position, tags[i], web, table, item)?;
+    let mut i = 0;
+    while i < items.len() {
+        let next = behind_item(position, tags[i], web, table, &items[i])?;
+        i += 1;
+        let (end, passed) = pass_same(&tags[i..], web, next.run, &items[i..]);
+        i += passed;
+        position = Position {
+            run: Run { end, ..next.run },
+            ..next
+        };
     }
     Some(position)
 }

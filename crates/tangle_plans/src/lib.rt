@@ -1,4 +1,5 @@
-//! What is kept of the nodes of a web: their bodies with the plans of their symbols, and their shapes.
+//! What is kept of the nodes of a web: their bodies with the plans of their symbols, and their
+//! shapes.
 //!
 //! A node is a full name or the unnamed program. [`plan_node`] makes what is kept of one, its
 //! [`NodeBody`], [`is_same_node`] compares it with pieces, and [`same_shape`] two of them.

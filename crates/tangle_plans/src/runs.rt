@@ -10,7 +10,7 @@ ghost use Rattle.tangle_plans.specs.Tags.{blank_tag};
 ghost use Rattle.tangle_plans.specs.Runs.{IsJoined, IsKept, IsRunOver, IsRunWith, IsTextOf};
 ghost use Rattle.tangle_plans.specs.Runs.{run_bytes};
 
-use crate::tags::{ItemKind, ItemTag, tag_of_blank, tag_of_span};
+use crate::tags::{ItemKind, ItemTag, same_tag, tag_of_blank, tag_of_span};
 use tangle_scan::{Item, Span, Web};
 
 /// The kind and the range of an item with a text.
@@ -164,6 +164,33 @@ pub(crate) fn pass_items(
                 passed += 1;
             }
             None => return (end, passed),
+        }
+    }
+    (end, passed)
+}
+
+/// Where a range ends with the items behind it that have these tags, one after the other, and whose
+/// texts come next in the source; and how many these are.
+pub(crate) fn pass_same(tags: &[ItemTag], web: &Web, run: Run, items: &[Item]) -> (usize, usize)
+    requires run { IsKept web.now.texts run }
+    requires spans { All (IsInRange web.now.texts) items.now }
+    ensures few { result.1 ≤ length items.now }
+    ensures range { IsRunOver web.now.texts run.entry (take result.1 items.now)
+        (record run.entry { end = result.0 }) }
+    ensures tags { (table : TableRead) → take result.1 tags.now
+        ≡ map (tag_in table) (take result.1 items.now) }
+    ensures tagged { result.1 ≤ length tags.now }
+{
+    let most = items.len().min(tags.len());
+    let mut end = run.end;
+    let mut passed = 0;
+    while passed < most {
+        match with_item(web, Run { end, ..run }, &items[passed]) {
+            Some((more, tag)) if same_tag(tags[passed], tag) => {
+                end = more;
+                passed += 1;
+            }
+            _ => return (end, passed),
         }
     }
     (end, passed)

@@ -55,16 +55,23 @@ fn lines_with_a_text(rt: HostRuntime) -> Result<(), Fail> {
     Ok(())
 }
 
+// Malformed lines that take a text.
+const MALFORMED: [&[u8]; 8] = [
+    b"insert 1234567890 a.w",
+    b"insert 9",
+    b"insert ",
+    b"replace  1 a.w",
+    b"replace -1 a.w",
+    b"replace 1x a.w",
+    b"replace 1\ta.w",
+    b"replace a.w",
+];
+
 #[test]
 fn malformed_lines_that_take_a_text(rt: HostRuntime) -> Result<(), Fail> {
-    check_with_text(&rt, b"insert 1234567890 a.w", Request::BadCommand);
-    check_with_text(&rt, b"insert 9", Request::BadCommand);
-    check_with_text(&rt, b"insert ", Request::BadCommand);
-    check_with_text(&rt, b"replace  1 a.w", Request::BadCommand);
-    check_with_text(&rt, b"replace -1 a.w", Request::BadCommand);
-    check_with_text(&rt, b"replace 1x a.w", Request::BadCommand);
-    check_with_text(&rt, b"replace 1\ta.w", Request::BadCommand);
-    check_with_text(&rt, b"replace a.w", Request::BadCommand);
+    for line in &MALFORMED {
+        check_with_text(&rt, line, Request::BadCommand);
+    }
     Ok(())
 }
 

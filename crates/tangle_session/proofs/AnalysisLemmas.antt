@@ -1,5 +1,5 @@
 -- The analysis of a web is what the files make.
-use Rattle.std.proofs.Common.{◌≡◌, ◌∙◌, ◌++◌, ℕ, List, [], ap, sym, subst, append_assoc}
+use Rattle.std.proofs.Common.{◌≡◌, ◌∙◌, ◌++◌, ℕ, Bool, List, [], ap, sym, subst, append_assoc}
 use Rattle.tangle_faults.specs.Faults.{FaultRead}
 use Rattle.tangle_files.specs.Lines.{FileTable}
 use Rattle.tangle_lines.specs.Reading.{SourceRead, source_of}
@@ -12,10 +12,24 @@ use Rattle.tangle_expansion.specs.Numbers.{numbers_of}
 use Rattle.tangle_plans.specs.Shapes.{Shapes}
 use Rattle.tangle_graph.specs.Faults.{AreGraphFaults}
 use Rattle.tangle_graph.specs.Outputs.{outputs}
-use Rattle.tangle_graph.specs.Stores.{StoreRead, IsStoreOf}
+use Rattle.tangle_graph.specs.Stores.{StoreRead, IsStoreOf, KeepsBodies}
 use Rattle.tangle_session.specs.Files.{shapes_of, source_at, web_at}
 use Rattle.tangle_session.specs.Sessions.{IsGround, IsAnalysisOf, IsAnalysisAt}
 use Rattle.tangle_session.specs.declared.analysis.Analysis.{Analysis}
+
+-- bodies that are kept stay so, where the store's faults are taken
+pub kept_apart : (old store : StoreRead) (faults : List FaultRead) (flags : List Bool) → KeepsBodies old store flags → KeepsBodies old (record store { faults = faults }) flags
+kept_apart old store faults flags keeps = λ n e.
+    let kept = keeps n e in
+    record {
+      before = kept.before;
+      inside = kept.inside;
+      title = kept.title;
+      body = kept.body;
+      had = kept.had;
+      has = kept.has;
+      uses = kept.uses;
+    }
 
 -- what a store says of its nodes stays, where its faults are taken
 pub faults_apart : (p : Shapes) (store : StoreRead) (faults : List FaultRead) → IsStoreOf p store → IsStoreOf p (record store { faults = faults })

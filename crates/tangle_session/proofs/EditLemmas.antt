@@ -16,7 +16,7 @@ use Rattle.tangle_files.specs.declared.edits.Edit.TheVariants.{Insert, Remove, R
 use Rattle.tangle_files.specs.declared.marks.MarkMode.{MarkMode}
 use Rattle.tangle_files.specs.declared.refusal.Refusal.{Refusal}
 use Rattle.tangle_files.specs.declared.refusal.Refusal.TheVariants.{RoleFile}
-use Rattle.tangle_session.specs.Edits.{first_refused, has_role, list_refusal, of_first, one_later, role_refusal, session_refusal}
+use Rattle.tangle_session.specs.Edits.{first_refused, has_role, list_refusal, of_first, role_refusal, session_refusal}
 use Rattle.tangle_session.specs.declared.refusing.ListRefusal.{ListRefusal}
 
 -- where neither of two refusals applies

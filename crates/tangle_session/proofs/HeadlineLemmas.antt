@@ -13,7 +13,6 @@ use Rattle.tangle_session.specs.Edits.{list_memory, list_refusal, of_first, sess
 use Rattle.tangle_lines.specs.Reading.{source_of}
 use Rattle.tangle_scan.specs.Web.{web_of}
 use Rattle.tangle_names.specs.NameTable.{table_of}
-use Rattle.tangle_plans.specs.declared.nodes.Node.{Node}
 use Rattle.tangle_session.specs.Files.{source_at, web_at}
 use Rattle.tangle_session.specs.Headline.{Call, EditsRead, OneEdit, ListOf, History, Started, Edited, IsAnswered, ListsLastExpanded, ByStart, ByLast, IsPlainTangling}
 use Rattle.tangle_session.specs.Headline.{NoOutputReachesACycle, EachCycleIsReported, ShowsPlainTangling, ShowsLastWork}

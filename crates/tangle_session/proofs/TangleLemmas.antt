@@ -1,10 +1,9 @@
 -- What a session holds of the files, by the parts that are made one after another.
-use Rattle.std.proofs.Common.{◌≡◌, ◌∙◌, ◌+◌, ◌≤◌, ◌&&◌, suc, arith, not, ℕ, Bool, true, false, List, [], ◌∷◌, length, refl, ap, sym, subst, cond, Bor, Contains, map}
-use Rattle.std.specs.List.{IsDistinct, position_or_len}
+use Rattle.std.proofs.Common.{◌≡◌, ◌∙◌, ◌≤◌, ◌&&◌, arith, ℕ, Bool, true, false, List, [], ◌∷◌, length, refl, ap, sym, subst, Bor, Contains, map}
+use Rattle.std.specs.List.{IsDistinct}
 use Rattle.std.specs.Option.{option_copied, option_map}
 use Rattle.std.specs.Str.{bytes_eq}
-use Rattle.std.proofs.lemmas.Bool.Decides.{nat_tests}
-use Rattle.std.specs.Prelude.{if◌then◌else◌, nat_lt, Option, Some, None, is_some, Ok, Err, find}
+use Rattle.std.specs.Prelude.{if◌then◌else◌, Option, Some, None, is_some, Ok, Err, find}
 use Rattle.tangle_streams.specs.Streams.{Stream, IsWritten}
 use Rattle.tangle_files.specs.Lines.{FileTable, lines_of}
 use Rattle.tangle_lines.specs.Reading.{SourceRead}

@@ -5,14 +5,14 @@ ghost use Rattle.tangle_names.specs.NameTable.{table_of, table_over};
 ghost use Rattle.tangle_expansion.specs.Numbers.{numbers_of};
 ghost use Rattle.tangle_graph.specs.Faults.{AreGraphFaults};
 ghost use Rattle.tangle_graph.specs.Outputs.{outputs};
-ghost use Rattle.tangle_graph.specs.Stores.{IsStoreOf};
+ghost use Rattle.tangle_graph.specs.Stores.{IsStoreOf, KeepsBodies};
 ghost use Rattle.tangle_graph.specs.WebStores.{IsStoreOfWeb};
 ghost use Rattle.tangle_session.specs.Files.{shapes_of};
 ghost use Rattle.tangle_session.specs.Sessions.{IsGround, IsAnalysisAt};
 
 use std::alloc::Global;
 use tangle_expansion::Numbers;
-use tangle_graph::Store;
+use tangle_graph::{Rebuilt, Store};
 use tangle_lines::{Fault, Files, MarkMode, NoMemory, Roles, read_source};
 use tangle_names::NameTable;
 use tangle_scan::{Occurrence, Web, scan};
@@ -25,6 +25,8 @@ pub(crate) struct Analysis {
     pub(crate) occurrences: Vec<Occurrence>,
     pub(crate) table: NameTable,
     pub(crate) store: Store,
+    /// Of each node, whether it has the body of before, and uses names as before.
+    pub(crate) are_kept: Vec<bool>,
     pub(crate) numbers: Numbers,
     pub(crate) faults: Vec<Fault>,
 }
@@ -41,20 +43,26 @@ fn name_table(alloc: Global, web: &Web, old: Option<&Analysis>) -> Result<NameTa
 }
 
 /// The store of a web with its table of names, built over that of the old analysis, if there is
-/// one.
+/// one. Without one no body is kept.
 fn store(
     alloc: Global,
     web: &Web,
     table: &NameTable,
     out: &[u8],
     old: Option<&Analysis>,
-) -> Result<Store, NoMemory>
+) -> Result<Rebuilt, NoMemory>
     requires { table.now ≡ record (table_of web.now) { faults = table.now.faults } }
-    ensures { IfOk result (IsStoreOfWeb web.now table.now out.now) }
+    ensures store { IfOk result (λ made. IsStoreOfWeb web.now table.now out.now made.store) }
+    ensures kept { IfOk result (λ made. IfSome old.entry
+        (λ before. KeepsBodies before.now.store made.store made.are_kept.items)) }
 {
     match old {
         Some(old) => Store::rebuild(alloc, web, table, out, &old.store),
-        None => Store::build(alloc, web, table, out),
+        None => {
+            let store = Store::build(alloc, web, table, out)?;
+            let are_kept = Vec::new(alloc);
+            Ok(Rebuilt { store, are_kept })
+        }
     }
 }
 
@@ -80,15 +88,20 @@ impl Analysis {
         ensures of_names { IfOk result (λ made. made.faults.items ≡ (table_of web.now).faults) }
         ensures of_graph { IfOk result
             (λ made. AreGraphFaults web.now (table_of web.now) out.now made.store.faults) }
+        ensures kept { IfOk result (λ made. IfSome old.entry
+            (λ before. KeepsBodies before.now.store made.store made.are_kept.items)) }
     {
         let mut table = name_table(alloc, web, old)?;
-        let store = store(alloc, web, &table, out, old)?;
+        let made = store(alloc, web, &table, out, old)?;
+        let are_kept = made.are_kept;
+        let store = made.store;
         let numbers = Numbers::build(alloc, web, &store, marks)?;
         let faults = table.take_faults();
         Ok(Analysis {
             occurrences: Vec::new(alloc),
             table,
             store,
+            are_kept,
             numbers,
             faults,
         })
@@ -128,8 +141,10 @@ impl Analysis {
     ) -> Result<Analysis, NoMemory>
         requires fits { fits files.now roles.now ≡ true }
         requires old { IfSome old (λ before. IsGround before.now) }
-        ensures { IfOk result (λ made.
+        ensures made { IfOk result (λ made.
             IsAnalysisAt files.now (record roles.now { marks = marks }) made) }
+        ensures kept { IfOk result (λ made. IfSome old.entry
+            (λ before. KeepsBodies before.now.store made.store made.are_kept.items)) }
     {
         let source = read_source(alloc, files, roles)?;
         let web = scan(alloc, &source)?;

@@ -5,6 +5,7 @@ ghost use Rattle.std.specs.Option.{option_copied};
 ghost use Rattle.std.specs.Str.{bytes_eq};
 ghost use Rattle.tangle_files.specs.Edited.{edited_all, roles_after};
 ghost use Rattle.tangle_files.specs.Roles.{RolesRead, fits};
+ghost use Rattle.tangle_graph.specs.Stores.{KeepsBodies};
 ghost use Rattle.tangle_session.specs.Edits.{list_memory, list_refusal};
 ghost use Rattle.tangle_session.specs.Files.{web_at};
 ghost use Rattle.tangle_session.specs.Sessions.{AgreesWithFiles, IsAnalysisAt, ListsAffectedOfWebs};
@@ -96,6 +97,7 @@ fn expand_over(
 ) -> Result<SessionState, NoMemory>
     requires held { (before after : RolesRead)
         × AgreesWithFiles old.now.files before old.now × IsAnalysisAt files after analysis }
+    requires kept { KeepsBodies old.now.analysis.store analysis.store analysis.are_kept.items }
     requires unbegun { work ≡ [] }
     ensures files { IfOk result (λ new. new.files ≡ files) }
     ensures held { (before after : RolesRead) → AgreesWithFiles old.now.files before old.now
@@ -112,6 +114,7 @@ fn expand_over(
         &old.kept,
         &analysis.store,
         &analysis.table,
+        &analysis.are_kept,
         &mut work,
     )?;
     Ok(SessionState {

@@ -102,51 +102,55 @@ fn refuse_in_steps(rt: &impl Abort, alloc: Global, web: &[u8], steps: &[Step]) -
     refuse_in_each(rt, alloc, &mut session, &EDITS_OF_FILES)
 }
 
-#[test]
-fn edits_of_an_abbreviation(rt: HostRuntime) -> Result<(), Fail> {
-    // It gets a second name, which then goes: the program alone uses another name.
-    let steps: [Step; 3] = [
-        (Kind::Insert, 6, b"@ @<Init table@>=", 2),
-        (Kind::Replace, 6, b"@ @<Init table@>=", 0),
-        (Kind::Remove, 6, b"", 1),
-    ];
-    refuse_in_steps(&rt, rt.alloc(), ABBREVIATION, &steps)
-}
-
-#[test]
-fn edits_of_a_cycle(rt: HostRuntime) -> Result<(), Fail> {
+// Webs, and edits of each that are made one after another.
+const EDITS: [(&[u8], &[Step]); 4] = [
+    // The abbreviation gets a second name, which then goes: the program alone uses another name.
+    (
+        ABBREVIATION,
+        &[
+            (Kind::Insert, 6, b"@ @<Init table@>=", 2),
+            (Kind::Replace, 6, b"@ @<Init table@>=", 0),
+            (Kind::Remove, 6, b"", 1),
+        ],
+    ),
     // It is broken and closed again: then nothing can be expanded of what the edit affects.
-    let steps: [Step; 4] = [
-        (Kind::Replace, 7, b"b;", 3),
-        (Kind::Insert, 8, b"c;", 3),
-        (Kind::Remove, 8, b"", 3),
-        (Kind::Replace, 7, b"@<A@>", 0),
-    ];
-    refuse_in_steps(&rt, rt.alloc(), CYCLE, &steps)
-}
-
-#[test]
-fn edits_of_two_branches(rt: HostRuntime) -> Result<(), Fail> {
+    (
+        CYCLE,
+        &[
+            (Kind::Replace, 7, b"b;", 3),
+            (Kind::Insert, 8, b"c;", 3),
+            (Kind::Remove, 8, b"", 3),
+            (Kind::Replace, 7, b"@<A@>", 0),
+        ],
+    ),
     // The last edit affects the other branch and the program.
-    let steps: [Step; 4] = [
-        (Kind::Replace, 9, b"3", 4),
-        (Kind::Replace, 9, b"3", 0),
-        (Kind::Insert, 10, b"4", 4),
-        (Kind::Remove, 12, b"", 2),
-    ];
-    refuse_in_steps(&rt, rt.alloc(), TWO_BRANCHES, &steps)
-}
+    (
+        TWO_BRANCHES,
+        &[
+            (Kind::Replace, 9, b"3", 4),
+            (Kind::Replace, 9, b"3", 0),
+            (Kind::Insert, 10, b"4", 4),
+            (Kind::Remove, 12, b"", 2),
+        ],
+    ),
+    // Bare, bare again, a line moved down, and full again: nothing is expanded.
+    (
+        TWO_BRANCHES,
+        &[
+            (Kind::BareMarks, 0, b"", 0),
+            (Kind::BareMarks, 0, b"", 0),
+            (Kind::Insert, 1, b"% top", 0),
+            (Kind::FullMarks, 0, b"", 0),
+        ],
+    ),
+];
 
 #[test]
-fn edits_of_the_marks(rt: HostRuntime) -> Result<(), Fail> {
-    // Bare, bare again, a line moved down, and full again: nothing is expanded.
-    let steps: [Step; 4] = [
-        (Kind::BareMarks, 0, b"", 0),
-        (Kind::BareMarks, 0, b"", 0),
-        (Kind::Insert, 1, b"% top", 0),
-        (Kind::FullMarks, 0, b"", 0),
-    ];
-    refuse_in_steps(&rt, rt.alloc(), TWO_BRANCHES, &steps)
+fn edits_of_webs(rt: HostRuntime) -> Result<(), Fail> {
+    for (web, steps) in &EDITS {
+        refuse_in_steps(&rt, rt.alloc(), web, steps)?;
+    }
+    Ok(())
 }
 
 // Makes the same edit twice: first it affects 41 nodes, and then none. It gives the allocations

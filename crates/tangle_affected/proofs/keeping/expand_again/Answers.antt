@@ -1,4 +1,4 @@
-use Rattle.std.proofs.Common.{◌≡◌, ◌∙◌, ◌++◌, ap, length, subst, sym, Contains}
+use Rattle.std.proofs.Common.{◌∙◌, ◌++◌, ap, length, subst, sym, Contains}
 use Rattle.tangle_affected.specs.Affected.{ListsAffected}
 use Rattle.tangle_affected.specs.Keeping.{KeepsUnflagged}
 use Rattle.tangle_affected.specs.Flags.{AreListed, FlagsAffected, flag_of_node}

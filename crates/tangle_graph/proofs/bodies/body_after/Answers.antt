@@ -1,5 +1,5 @@
 use Rattle.std.proofs.Common.{◌≡◌, ◌∙◌, ℕ, Bool, get_or, ap, sym, subst, false}
-use Rattle.std.specs.Prelude.{IfSome}
+use Rattle.std.specs.Prelude.{IfSome, MatchOption}
 use Rattle.tangle_plans.specs.Comparing.{IsPlanned}
 use Rattle.tangle_plans.specs.ItemSlots.{pieces_at, pieces_slots}
 use Rattle.tangle_plans.specs.NodeBodies.{node_title}
@@ -9,8 +9,12 @@ use Rattle.tangle_graph.specs.Plans.{IsBodyAt}
 use Rattle.tangle_graph.proofs.BodyLemmas.{is_body_of}
 use Rattle.tangle_graph.proofs.bodies.body_after.Goals as goal
 
-pub returns-in-Ok : goal.returns-in-Ok
-returns-in-Ok c =
+pub returns-in-Ok-clause-kept : goal.returns-in-Ok-clause-kept
+returns-in-Ok-clause-kept c = λ _.
+    subst (λ o. MatchOption o ⊥ (λ body. c.in-Ok.body.value ≡ body.now.value)) (sym c.in-Some.is) c.in-Ok.ensures.cases
+
+pub returns-in-Ok-clause-body : goal.returns-in-Ok-clause-body
+returns-in-Ok-clause-body c =
     let web = c.args.web.now in
     let table = c.args.table.now in
     let numbers = c.args.numbers.now in

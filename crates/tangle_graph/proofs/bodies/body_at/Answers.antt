@@ -1,11 +1,12 @@
 use Rattle.std.proofs.Common.{◌≡◌, ◌∙◌, ℕ, Bool, All, get_or, ap, subst, false}
-use Rattle.std.specs.Prelude.{IfSome}
+use Rattle.std.specs.Prelude.{IfSome, slice_get, Some}
+use Rattle.tangle_graph.specs.Plans.{node_bodies}
 use Rattle.tangle_plans.specs.Comparing.{IsPlanned}
 use Rattle.tangle_plans.specs.NodeBodies.{node_title, node_uses}
 use Rattle.tangle_graph.specs.Nodes.{title_at}
 use Rattle.tangle_graph.specs.Rows.{bytes_of_names}
 use Rattle.tangle_graph.proofs.PlannedLemmas.{planned_over}
-use Rattle.tangle_graph.proofs.BodyLemmas.{planned_read, title_read}
+use Rattle.tangle_graph.proofs.BodyLemmas.{place_read, planned_read, title_read}
 use Rattle.tangle_graph.proofs.bodies.body_at.Goals as goal
 
 pub returns-then-agree_on-clause-title : goal.returns-then-agree_on-clause-title
@@ -24,3 +25,8 @@ returns-then-agree_on-clause-planned c =
     let planned = subst (λ o. IfSome o (λ body. IsPlanned has body.now.value)) c.in-Some.is
     (planned_read names has c.args.old.bodies.now c.args.n c.requires c.get.result c.get.ensures.lookup) in
     planned_over has has' body (subst (All (λ id. has id ≡ has' id)) (c.uses.ensures ∙ ap node_uses c.deref.ensures) (c.agree_on.ensures c.if-agree_on.true)) planned
+
+pub returns-then-agree_on-clause-place : goal.returns-then-agree_on-clause-place
+returns-then-agree_on-clause-place c =
+    subst (λ o. IfSome o (λ body. slice_get (node_bodies c.args.old.bodies.now) c.args.n ≡ Some body.now.value)) c.in-Some.is
+    (place_read c.args.old.bodies.now c.args.n c.get.result c.get.ensures.lookup)

@@ -1,21 +1,9 @@
 use Rattle.std.proofs.Common.{◌∙◌, ◌-◌, [], ◌∷◌, refl}
 use Rattle.tangle_plans.specs.Runs.{run_bytes}
-use Rattle.tangle_plans.specs.Fronts.{lists_at, with_bytes, with_tag, with_text}
+use Rattle.tangle_plans.specs.Fronts.{lists_at, with_bytes, with_text}
 use Rattle.tangle_plans.specs.declared.tags.ItemTag.{ItemTag}
-use Rattle.tangle_plans.proofs.ComparingLemmas.{all_behind, tag_behind, front_same, text_cut, text_joined, with_all}
+use Rattle.tangle_plans.proofs.ComparingLemmas.{all_behind, front_same, text_cut, with_all}
 use Rattle.tangle_plans.proofs.comparing.behind_text.Goals as goal
-
-pub returns-in-Some-clause-position : goal.returns-in-Some-clause-position
-returns-in-Some-clause-position c =
-    let texts = c.args.web.now.texts in
-    let s = c.args.span in
-    let position = c.args.position in
-    let expected : ItemTag = record { kind = c.args.kind; size = s.end - s.start } in
-    let same = c.same_tag.ensures.0 c.if-not-same_tag.false ∙ c.tag_of_span.ensures in
-    let next = run_bytes (record position.run { end = c.in-Some.end }) in
-    λ tags. front_same _ _ (λ more. with_tag expected (with_bytes next more)) (λ more. with_bytes (run_bytes position.run) (with_text texts c.args.kind s more)) (with_bytes next)
-    (text_joined texts (run_bytes position.run) next c.args.kind s (c.in-Some.ensures.text texts c.requires.run c.requires.span))
-    (λ more. tag_behind expected c.args.tag tags position.text.now position.uses.now same (with_bytes next more))
 
 pub returns-clause-position : goal.returns-clause-position
 returns-clause-position c =

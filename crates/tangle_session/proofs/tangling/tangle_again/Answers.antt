@@ -14,7 +14,7 @@ build-requires-clause-old c = record { files = c.args.old.now.files; roles = c.a
 pub expand_over-requires-clause-held : goal.expand_over-requires-clause-held
 expand_over-requires-clause-held c =
     let after : RolesRead = record c.args.roles.now { marks = c.args.marks } in
-    (c.args.roles.now, after, c.requires.held, c.in_ok-analysis.ensures)
+    (c.args.roles.now, after, c.requires.held, c.in_ok-analysis.ensures.made)
 
 pub returns-clause-files : goal.returns-clause-files
 returns-clause-files c = c.in_ok-next.ensures.files ∙ c.in_ok-files.ensures.made
@@ -22,11 +22,11 @@ returns-clause-files c = c.in_ok-next.ensures.files ∙ c.in_ok-files.ensures.ma
 pub returns-clause-held : goal.returns-clause-held
 returns-clause-held c =
     let after : RolesRead = record c.args.roles.now { marks = c.args.marks } in
-    c.in_ok-next.ensures.held c.args.roles.now after c.requires.held c.in_ok-analysis.ensures
+    c.in_ok-next.ensures.held c.args.roles.now after c.requires.held c.in_ok-analysis.ensures.made
     (subst (λ fs. fits fs c.args.roles.now ≡ true) (sym c.in_ok-files.ensures.made)
     (fits_all c.args.old.now.files c.args.roles.now c.args.edits.now c.requires.held.are_there c.in_ok-files.ensures.taken))
 
 pub returns-clause-work : goal.returns-clause-work
 returns-clause-work c =
     let after : RolesRead = record c.args.roles.now { marks = c.args.marks } in
-    c.in_ok-next.ensures.work c.args.roles.now after c.requires.held c.in_ok-analysis.ensures
+    c.in_ok-next.ensures.work c.args.roles.now after c.requires.held c.in_ok-analysis.ensures.made

@@ -44,8 +44,8 @@ take-requires-clause-order c =
     subst (λ (g : Graph). IsOrder g c.deref-order.result.now) (sym (c.deref-uses.ensures.value ∙ ap (λ (s : Skeleton). s.uses.items) c.deref-shared.ensures))
     (subst (IsOrder c.args.skeleton.value.uses.items) (sym (c.deref-order.ensures.value ∙ ap (λ (s : Skeleton). s.order.items) c.deref-shared.ensures)) c.requires.skeleton.order)
 
-pub returns : goal.returns
-returns c =
+pub returns-clause-store : goal.returns-clause-store
+returns-clause-store c =
     let web = c.args.web.now in
     let table = c.args.table.now in
     let pieces = c.args.pieces.items in

@@ -1,16 +1,19 @@
-use Rattle.std.proofs.Common.{◌<◌, List, Bool, length, map, get_or, sym, subst, false}
+use Rattle.std.proofs.Common.{◌≡◌, ◌∙◌, ◌<◌, ℕ, List, Bool, Vec, arith, length, map, get_or, ap, sym, subst, true, false, true≢false}
 use Rattle.std.specs.Global.{Global}
 use Rattle.std.specs.declared.rc.Rc.{Rc}
-use Rattle.std.specs.Prelude.{All}
+use Rattle.std.specs.Prelude.{All, slice_get}
 use Rattle.digraph.specs.Graph.{Graph, rows_of}
 use Rattle.tangle_scan.specs.Web.{PieceRead}
-use Rattle.tangle_plans.specs.NodeBodies.{node_uses}
+use Rattle.std.proofs.lemmas.List.{length-map}
+use Rattle.tangle_graph.specs.Nodes.{title_at}
+use Rattle.tangle_plans.specs.NodeBodies.{node_uses, texts_at}
 use Rattle.tangle_plans.specs.WebShapes.{ResolvesInside}
 use Rattle.tangle_plans.specs.declared.nodes.NodeBody.{NodeBody}
-use Rattle.tangle_graph.specs.Plans.{ArePiecesInside, ArePlanned, ArePlans, node_bodies, slots_of, uses_of_plans}
+use Rattle.tangle_graph.specs.Plans.{AreInPlace, ArePiecesInside, ArePlanned, ArePlans, node_bodies, slots_of, uses_of_plans}
 use Rattle.tangle_graph.proofs.SkeletonLemmas.{uses_inside}
 use Rattle.tangle_graph.proofs.UsesLemmas.{pieces_inside}
 use Rattle.tangle_graph.proofs.store.Store.rebuild.Goals as goal
+use Rattle.tangle_graph.proofs.store.Store.rebuild.Goals.{then-same_names, else-same_names}
 
 pub bodies_by_node-requires-clause-inside : goal.bodies_by_node-requires-clause-inside
 bodies_by_node-requires-clause-inside c =
@@ -24,16 +27,41 @@ skeleton_for-requires-clause-inside c =
     let table = c.args.table.now in
     let inside = subst ResolvesInside (sym c.requires) (c.names_resolve_inside.ensures c.args.web.now) in
     subst (λ (ts : List (Rc NodeBody Global)). All (λ row. All (λ id. id < length table.names) row) (map node_uses (node_bodies ts))) (sym c.deref.ensures.value)
-    (uses_inside c.args.web.now table (rows_of c.deref-rows.result.now) (node_bodies c.in_ok-bodies.bodies.items) inside c.in_ok-bodies.ensures.bodies)
+    (uses_inside c.args.web.now table (rows_of c.deref-rows.result.now) (node_bodies c.in_ok-made.made.bodies.items) inside c.in_ok-made.ensures.bodies)
 
 pub over-requires-clause-plans : goal.over-requires-clause-plans
 over-requires-clause-plans c =
     let web = c.args.web.now in
     let table = c.args.table.now in
-    let bodies = c.in_ok-bodies.bodies.items in
+    let bodies = c.in_ok-made.made.bodies.items in
     subst (λ (fs : List Bool). ArePlans web table (λ id. get_or fs id false) (rows_of c.in_ok-pieces.pieces.items) (slots_of bodies) (uses_of_plans bodies)) c.deref-flags.ensures.value
-    (subst (λ (g : Graph). ArePlans web table (λ id. get_or c.deref-flags.result.now id false) (rows_of g) (slots_of bodies) (uses_of_plans bodies)) c.deref-rows.ensures.value c.in_ok-bodies.ensures.plans)
+    (subst (λ (g : Graph). ArePlans web table (λ id. get_or c.deref-flags.result.now id false) (rows_of g) (slots_of bodies) (uses_of_plans bodies)) c.deref-rows.ensures.value c.in_ok-made.ensures.plans)
 
 pub over-requires-clause-planned : goal.over-requires-clause-planned
 over-requires-clause-planned c =
-    subst (λ (fs : List Bool). ArePlanned c.args.table.now.names (λ id. get_or fs id false) (node_bodies c.in_ok-bodies.bodies.items)) c.deref-flags.ensures.value c.in_ok-bodies.ensures.planned
+    subst (λ (fs : List Bool). ArePlanned c.args.table.now.names (λ id. get_or fs id false) (node_bodies c.in_ok-made.made.bodies.items)) c.deref-flags.ensures.value c.in_ok-made.ensures.planned
+
+pub bodies_by_node-requires-clause-in_place : goal.bodies_by_node-requires-clause-in_place
+bodies_by_node-requires-clause-in_place c =
+    elim c.if-same_names.branch as (λ _. c.if-same_names.in_place ≡ true → AreInPlace c.bodies-before.result c.args.table.now.names c.deref-flags.result.now) [
+      | then-same_names w ↦ (λ e. record {
+        names = c.bodies-before.ensures.names ∙ c.has_names_of-same_names.ensures w.if-same_names.true;
+        flags = w.are_same_flags-in_place.ensures (sym w.in_place-is ∙ e);
+      })
+      | else-same_names w ↦ (λ e. absurd (true≢false (sym e ∙ w.in_place-is ∙ w.if-same_names.false)))
+    ]
+
+pub returns-clause-kept : goal.returns-clause-kept
+returns-clause-kept c = λ n e.
+    let held = c.in_ok-made.ensures.kept n e in
+    let old = c.bodies-before.ensures in
+    let names = c.in_ok-store.ensures.store.names in
+    record {
+      before = held.2.0.before;
+      inside = omega (arith, held.2.0.inside, ap length old.names, length-map c.bodies-before.result.names.now (λ (v : Vec ℕ Global). v.items));
+      title = ap (λ (ns : List (List ℕ)). title_at ns held.2.0.before) (sym old.names) ∙ held.2.0.title ∙ ap (λ (ns : List (List ℕ)). title_at ns n) (sym names);
+      body = held.0;
+      had = ap (λ (bs : List NodeBody). slice_get bs held.2.0.before) (sym old.bodies) ∙ held.2.0.had;
+      has = ap (λ (bs : List NodeBody). slice_get bs n) c.in_ok-store.ensures.bodies ∙ held.1;
+      uses = ap (λ (ns : List (List ℕ)). texts_at ns (node_uses held.0)) (sym old.names) ∙ held.2.1 ∙ ap (λ (ns : List (List ℕ)). texts_at ns (node_uses held.0)) (sym names);
+    }

@@ -3,7 +3,7 @@ use Rattle.std.proofs.lemmas.Result.{IfOk-weaker}
 use Rattle.tangle_affected.specs.Affected.{ListsAffected}
 use Rattle.tangle_affected.specs.Flags.{is_listed}
 use Rattle.tangle_affected.proofs.ListLemmas.{lists_affected}
-use Rattle.tangle_affected.proofs.edits.affected.Goals as goal
+use Rattle.tangle_affected.proofs.edits.affected_over.Goals as goal
 
 pub returns : goal.returns
 returns c = λ old_shapes new_shapes old_is new_is.

@@ -1,0 +1,33 @@
+use Rattle.std.proofs.Common.{◌≡◌, ℕ, Bool, List, ap, arith, get_or, subst, false}
+use Rattle.std.proofs.lemmas.Option.{IfSome_then}
+use Rattle.std.specs.Prelude.{IfSome}
+use Rattle.tangle_plans.specs.Comparing.{IsPlanned}
+use Rattle.tangle_plans.specs.NodeBodies.{node_title}
+use Rattle.tangle_graph.specs.Nodes.{title_at}
+use Rattle.tangle_graph.specs.Rows.{bytes_of_names}
+use Rattle.tangle_graph.proofs.BodyLemmas.{place_read, planned_read, title_read}
+use Rattle.tangle_graph.proofs.bodies.body_in_place.Goals as goal
+
+pub returns-clause-title : goal.returns-clause-title
+returns-clause-title c =
+    let old = c.args.old in
+    let has : ℕ → Bool = λ id. get_or old.filled.now id false in
+    subst (λ (ns : List (List ℕ)). IfSome c.get.result (λ body. node_title body.now.value ≡ title_at ns c.args.n)) c.requires.in_place.names
+    (title_read (bytes_of_names old.names.now) has old.bodies.now c.args.n c.requires.old c.get.result c.get.ensures.lookup)
+
+pub returns-clause-planned : goal.returns-clause-planned
+returns-clause-planned c =
+    let old = c.args.old in
+    let has : ℕ → Bool = λ id. get_or old.filled.now id false in
+    subst (λ (fs : List Bool). IfSome c.get.result (λ body. IsPlanned (λ id. get_or fs id false) body.now.value)) c.requires.in_place.flags
+    (planned_read (bytes_of_names old.names.now) has old.bodies.now c.args.n c.requires.old c.get.result c.get.ensures.lookup)
+
+pub returns-clause-place : goal.returns-clause-place
+returns-clause-place c =
+    let old = c.args.old in
+    IfSome_then c.get.result (place_read old.bodies.now c.args.n c.get.result c.get.ensures.lookup) (λ body had. record {
+      before = c.args.n;
+      inside = omega arith;
+      title = ap (λ (ns : List (List ℕ)). title_at ns c.args.n) c.requires.in_place.names;
+      had = had;
+    })
