@@ -78,7 +78,7 @@ fn reaching_changed(
         → IsStoreOf new_shapes new.now
         → IfOk result (λ flags. AreFlagged old_shapes new_shapes new.now flags.items order.now) }
 {
-    let count = new.name_count();
+    let count = new.full_names().count();
     let mut flags = vec![in alloc; false; count]?;
     flags.push(false)?;
     for node in order {
@@ -183,7 +183,7 @@ fn listed_nodes(
         ≡ filter (is_listed store.now flags.now) order.now) }
 {
     let mut nodes = Vec::new(alloc);
-    let count = store.name_count();
+    let count = store.full_names().count();
     for node in order {
         if store.expandable(*node) && is_flagged(count, flags, *node) {
             nodes.push(*node)?;

@@ -94,7 +94,7 @@ fn flags_of(alloc: Global, store: &Store, list: &[Node]) -> Result<Vec<bool>, No
     requires { (node : Node) → Contains list.now node → IsNodeIn store.now node }
     ensures { IfOk result (λ flags. AreListed store.now flags.items list.now) }
 {
-    let count = store.name_count();
+    let count = store.full_names().count();
     let mut flags = vec![in alloc; false; count]?;
     flags.push(false)?;
     for node in list {
@@ -173,7 +173,7 @@ fn share_unflagged(
         (flag_of_node (length new.now.names) flags.now)
         order.now kept.new) }
 {
-    let count = new.name_count();
+    let count = new.full_names().count();
     for node in order {
         if new.expandable(*node) && !is_flagged(count, flags, *node) {
             keep_share(old, old_names, old_kept, new, new_names, *node, kept)?;

@@ -1,27 +1,30 @@
 -- The numbers as they lie in memory.
-use Rattle.std.specs.Prelude.{ℕ, List, map}
-use Rattle.std.specs.declared.hash.FoldHasher.{FoldHasher}
-use Rattle.std.specs.declared.hash.BuildHasherDefault.{BuildHasherDefault}
+use Rattle.std.specs.Prelude.{◌≡◌, ℕ, List, [], Option, None, Some, length, map, slice_index_or}
+use Rattle.std.specs.List.{zip}
 use Rattle.std.specs.declared.vec.Vec.{Vec}
 use Rattle.std.specs.Global.{Global}
-use Rattle.indexmap.specs.IndexMap.{IndexMap}
 use Rattle.tangle_expansion.specs.Numbers.{PieceNumbersRead, NumbersRead}
+use Rattle.tangle_expansion.specs.TextLimits.{SymbolsAreShort}
 use Rattle.tangle_expansion.specs.declared.numbers.Numbers.TheInside.{Inside}
 
-abbrev pub NameNumbers : Type 0
-NameNumbers = IndexMap (Vec ℕ Global) (Vec PieceNumbersRead Global) (BuildHasherDefault FoldHasher)
-
-abbrev pub entry_of : (Vec ℕ Global × Vec PieceNumbersRead Global) → (List ℕ × List PieceNumbersRead)
-entry_of e = (e.0.items, e.1.items)
-
-abbrev pub entries_of : NameNumbers → List (List ℕ × List PieceNumbersRead)
-entries_of t = map entry_of t.entries
+abbrev pub rows_of : List (Vec PieceNumbersRead Global) → List (List PieceNumbersRead)
+rows_of rows = map (λ (row : Vec PieceNumbersRead Global). row.items) rows
 
 abbrev pub numbers_read : Inside → NumbersRead
 numbers_read n = record {
   file_names = map (λ f. f.items) n.file_names.items;
   program = n.program.items;
-  names = entries_of n.names;
+  names = zip n.names (rows_of n.of_names.items);
   macros = n.macros.items;
   marks = n.marks;
 }
+
+-- each name has its row, and the text of each symbol is short
+pub record IsWellKept (n : Inside) : Type 0 where
+  pub rows : length n.of_names.items ≡ length n.names
+  pub short : SymbolsAreShort (numbers_read n)
+
+-- the row of the name that was found
+abbrev pub row_found : List (List PieceNumbersRead) → Option ℕ → List PieceNumbersRead
+row_found rows None = []
+row_found rows (Some id) = slice_index_or rows id []

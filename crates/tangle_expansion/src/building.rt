@@ -4,22 +4,21 @@ ghost use Rattle.std.specs.Prelude.{◌≡◌, ◌<◌, ◌^◌, ◌∷◌, ◌+
 ghost use Rattle.std.specs.Prelude.{IfOk, OnOk};
 ghost use Rattle.std.specs.List.{All};
 ghost use Rattle.tangle_names.specs.NameTable.{table_of};
-ghost use Rattle.tangle_plans.specs.Shapes.{Program};
+ghost use Rattle.tangle_plans.specs.Shapes.{Named, Program};
+ghost use Rattle.tangle_plans.specs.WebShapes.{pieces_of};
 ghost use Rattle.tangle_plans.specs.ItemSlots.{pieces_at};
 ghost use Rattle.tangle_plans.specs.Nodes.{IsGroupedBy};
 ghost use Rattle.tangle_expansion.specs.Numbers.{escaped, item_origins};
 ghost use Rattle.tangle_expansion.specs.Numbers.{piece_numbers as numbers_of_piece_read};
-ghost use Rattle.tangle_expansion.specs.Numbers.{numbers_of, name_numbers};
-ghost use Rattle.tangle_expansion.specs.NumbersKept.{entries_of};
-ghost use Rattle.tangle_expansion.specs.TextLimits.{IsShort, IsLow, EntryIsShort};
+ghost use Rattle.tangle_expansion.specs.Numbers.{numbers_of};
+ghost use Rattle.tangle_expansion.specs.NumbersKept.{rows_of};
+ghost use Rattle.tangle_expansion.specs.TextLimits.{IsShort, IsLow};
 
 use crate::macros::macros_text;
 use crate::numbers::{Numbers, PieceNumbers};
 use bstr::ByteSlice;
-use indexmap::IndexMap;
 use std::alloc::Global;
 use tangle_lines::{MarkMode, NoMemory, Origin};
-use tangle_names::names_are_the_full_names;
 use tangle_plans::{Node, PiecesByNode};
 use tangle_scan::{Item, Piece, Web};
 
@@ -119,25 +118,25 @@ fn escaped_names(alloc: Global, web: &Web) -> Result<Vec<Vec<u8>>, NoMemory>
     Ok(names)
 }
 
-/// The numbers of the pieces of each full name, by its text.
+/// The numbers of the pieces of each full name.
 fn numbers_of_names<S: PiecesByNode>(
     alloc: Global,
     web: &Web,
     store: &S,
-) -> Result<IndexMap<Vec<u8>, Vec<PieceNumbers>>, NoMemory>
+) -> Result<Vec<Vec<PieceNumbers>>, NoMemory>
     requires { IsGroupedBy web.now (table_of web.now) (S.names store.now) (S.pieces store.now) }
-    ensures are { IfOk result
-        (λ names. entries_of names ≡ name_numbers web.now (table_of web.now)) }
-    ensures short { IfOk result (λ names. All EntryIsShort (entries_of names)) }
+    ensures are { IfOk result (λ rows. rows_of rows.items
+        ≡ map (λ name. map numbers_of_piece_read (pieces_of web.now (table_of web.now) (Named name)))
+        (table_of web.now).names) }
+    ensures short { IfOk result (λ rows. All (All IsShort) (rows_of rows.items)) }
 {
-    names_are_the_full_names();
-    let mut names = IndexMap::new(alloc);
-    for id in 0..store.name_count() {
-        let name = Vec::from_slice(alloc, store.name_text(id))?;
-        let numbers = numbers_of_pieces(alloc, web, store.piece_numbers(Node::Name(id)))?;
-        names.insert(name, numbers)?;
+    let count = store.full_names().count();
+    let mut rows = Vec::with_capacity(alloc, count)?;
+    for id in 0..count {
+        let pieces = store.piece_numbers(Node::Name(id));
+        rows.push(numbers_of_pieces(alloc, web, pieces)?)?;
     }
-    Ok(names)
+    Ok(rows)
 }
 
 impl Numbers {
@@ -158,8 +157,9 @@ impl Numbers {
     {
         let file_names = escaped_names(alloc, web)?;
         let program = numbers_of_pieces(alloc, web, store.piece_numbers(Node::Program))?;
-        let names = numbers_of_names(alloc, web, store)?;
+        let names = store.full_names().share()?;
+        let of_names = numbers_of_names(alloc, web, store)?;
         let macros = macros_text(alloc, web)?;
-        Ok(Numbers::new(file_names, program, names, macros, marks))
+        Ok(Numbers::new(file_names, program, names, of_names, macros, marks))
     }
 }

@@ -1,15 +1,15 @@
 //! The section numbers, origins and macro texts of a web.
-ghost use Rattle.std.specs.Prelude.{◌≡◌, ◌<◌, ◌^◌, [], get_or, map, vec_len};
-ghost use Rattle.std.specs.List.{All};
+ghost use Rattle.std.specs.Prelude.{◌≡◌, ◌<◌, ◌^◌, [], get_or, length, map, vec_len};
+ghost use Rattle.std.specs.List.{All, zip};
 ghost use Rattle.tangle_plans.specs.Meaning.{title_of};
 ghost use Rattle.tangle_expansion.specs.Numbers.{PieceNumbersRead, node_numbers, no_numbers};
 ghost use Rattle.tangle_expansion.specs.Numbers.{no_origin};
-ghost use Rattle.tangle_expansion.specs.NumbersKept.{entries_of};
-ghost use Rattle.tangle_expansion.specs.TextLimits.{IsShort, EntryIsShort, SymbolsAreShort};
+ghost use Rattle.tangle_expansion.specs.NumbersKept.{row_found, rows_of};
+ghost use Rattle.tangle_expansion.specs.TextLimits.{IsShort, SymbolsAreShort};
 
-use indexmap::IndexMap;
 use std::marker::Model;
 use tangle_lines::{MarkMode, Origin};
+use tangle_names::Names;
 
 /// The section number of a piece, and the origins of its marks.
 #[derive(Drop)]
@@ -41,21 +41,22 @@ impl PieceNumbers {
 pub struct Numbers {
     file_names: Vec<Vec<u8>>,
     program: Vec<PieceNumbers>,
-    names: IndexMap<Vec<u8>, Vec<PieceNumbers>>,
+    names: Names,
+    // Of the pieces of each name.
+    of_names: Vec<Vec<PieceNumbers>>,
     macros: Vec<u8>,
     marks: MarkMode,
 }
 
 impl Model for Numbers {
     ghost use Rattle.tangle_expansion.specs.Numbers.{NumbersRead};
-    ghost use Rattle.tangle_expansion.specs.NumbersKept.{numbers_read};
-    ghost use Rattle.tangle_expansion.specs.TextLimits.{SymbolsAreShort};
+    ghost use Rattle.tangle_expansion.specs.NumbersKept.{IsWellKept, numbers_read};
 
     ghost Value = { NumbersRead };
 
     ghost view = { numbers_read };
 
-    ghost invariant = { λ n. SymbolsAreShort (numbers_read n) };
+    ghost invariant = { λ n. IsWellKept n };
 }
 
 impl Numbers {
@@ -63,18 +64,20 @@ impl Numbers {
     pub(crate) fn new(
         file_names: Vec<Vec<u8>>,
         program: Vec<PieceNumbers>,
-        names: IndexMap<Vec<u8>, Vec<PieceNumbers>>,
+        names: Names,
+        of_names: Vec<Vec<PieceNumbers>>,
         macros: Vec<u8>,
         marks: MarkMode,
     ) -> Self
         requires file_names { All (λ n. vec_len n < 2 ^ 64) file_names.items }
         requires program { All IsShort program.items }
-        requires names { All EntryIsShort (entries_of names) }
+        requires rows { length of_names.items ≡ length names }
+        requires of_names { All (All IsShort) (rows_of of_names.items) }
         ensures { result ≡ record {
           file_names = map (λ n. n.items) file_names.items;
           program =
               program.items;
-          names = entries_of names;
+          names = zip names (rows_of of_names.items);
           macros = macros.items;
           marks = marks;
         } }
@@ -84,6 +87,7 @@ impl Numbers {
             file_names,
             program,
             names,
+            of_names,
             macros,
             marks,
         }
@@ -102,10 +106,7 @@ impl Numbers {
     {
         match name {
             None => self.program.as_slice(),
-            Some(name) => match self.names.get(name.as_slice()) {
-                Some(pieces) => pieces.as_slice(),
-                None => &[],
-            },
+            Some(name) => row_at(&self.of_names, self.names.find(name.as_slice())),
         }
     }
 
@@ -131,6 +132,19 @@ impl Numbers {
         ensures { result.now ≡ self.now.macros }
     {
         self.macros.as_slice()
+    }
+}
+
+/// The row of the name that was found; it is empty where none was.
+fn row_at(rows: &[Vec<PieceNumbers>], found: Option<usize>) -> &[PieceNumbers]
+    ensures { result.now ≡ row_found (rows_of rows.now) found }
+{
+    match found {
+        Some(id) => match rows.get(id) {
+            Some(row) => row.as_slice(),
+            None => &[],
+        },
+        None => &[],
     }
 }
 

@@ -22,7 +22,6 @@ use Rattle.tangle_graph.specs.Nodes.{title_at}
 use Rattle.tangle_plans.specs.Comparing.{IsPlanned}
 use Rattle.tangle_graph.proofs.GraphLemmas.{pieces_below}
 use Rattle.tangle_graph.proofs.PlanLemmas.{names_same}
-use Rattle.tangle_graph.specs.Rows.{bytes_of_names}
 use Rattle.tangle_graph.proofs.NodeLemmas.{title_inside}
 use Rattle.tangle_graph.proofs.WeightLemmas.{weight_counted}
 
@@ -113,12 +112,3 @@ place_read before n (Some x) h =
     let low : n < length before = (let t = sym h.0 in grind (arith, nat_tests)) in
     slice_get-get_or (node_bodies before) n x.now.value (omega (arith, low, length-map before (λ (t : Rc NodeBody Global). t.value)))
     ∙ ap Some (get_or-map (λ (t : Rc NodeBody Global). t.value) before n x.now x.now.value low ∙ ap (λ (t : Rc NodeBody Global). t.value) (sym h.1))
-
--- the name with a number that is read has this title
-pub name_read : (names : List (Vec ℕ Global)) (n : ℕ) (body : List ℕ) (o : Option (Bor (Vec ℕ Global))) (x : Bor (Vec ℕ Global)) → o ≡ Some x → IsItemAt names n o
-    → x.now.items ≡ body → title_at (bytes_of_names names) n ≡ Named body
-name_read names n body o x is h e =
-    let at : IsItemAt names n (Some x) = subst (IsItemAt names n) is h in
-    let low : n < length names = (let t = sym at.0 in grind (arith, nat_tests)) in
-    title_inside (bytes_of_names names) n (omega (arith, low, length-map names (λ (v : Vec ℕ Global). v.items)))
-    ∙ ap Named (get_or-map (λ (v : Vec ℕ Global). v.items) names n x.now [] low ∙ ap (λ (v : Vec ℕ Global). v.items) (sym at.1) ∙ e)

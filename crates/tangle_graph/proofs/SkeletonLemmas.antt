@@ -21,7 +21,6 @@ use Rattle.digraph.proofs.GraphLemmas.{rows_size}
 use Rattle.tangle_graph.specs.Grouping.{positions_of}
 use Rattle.tangle_graph.specs.Groups.{IsGraphOf}
 use Rattle.tangle_graph.specs.Plans.{AreBodies, node_bodies}
-use Rattle.tangle_graph.specs.Rows.{bytes_of_names}
 use Rattle.tangle_graph.specs.Skeletons.{IsSkeletonOf}
 use Rattle.tangle_graph.specs.declared.skeleton.Skeleton.{Skeleton}
 use Rattle.tangle_graph.proofs.GraphLemmas.{graph_of}
@@ -80,6 +79,3 @@ uses_more bodies i body low read =
     ∙ ap (map node_uses) (map-append (λ (t : Rc NodeBody Global). t.value) (take i bodies) (body ∷ []))
     ∙ map-append node_uses (node_bodies (take i bodies)) (body.value ∷ [])
 
-pub names_more : (names : Graph) (i : ℕ) (name : Vec ℕ Global) → i < length names → name ≡ get_or names i name → bytes_of_names (take (i + 1) names) ≡ bytes_of_names (take i names) ++ name.items ∷ []
-names_more names i name low read =
-    ap bytes_of_names (take_more names i name low ∙ (λ j. take i names ++ sym read j ∷ [])) ∙ map-append (λ (t : Vec ℕ Global). t.items) (take i names) (name ∷ [])

@@ -12,7 +12,6 @@ use Rattle.tangle_plans.specs.Slots.{Slot}
 use Rattle.tangle_plans.specs.declared.nodes.NodeBody.{NodeBody}
 use Rattle.tangle_graph.specs.Measures.{weight_of_pieces}
 use Rattle.tangle_graph.specs.Nodes.{title_at}
-use Rattle.tangle_graph.specs.Rows.{bytes_of_names}
 use Rattle.tangle_graph.specs.Stores.{is_filled}
 use Rattle.tangle_graph.specs.declared.bodies.OldBodies.{OldBodies}
 
@@ -71,24 +70,24 @@ pub record ArePlanned (names : List (List ℕ)) (has_piece : ℕ → Bool) (bodi
 
 -- the bodies of a store were planned under its names, where its flags say which names have a piece
 abbrev pub AreBodiesBefore : OldBodies → Type 0
-AreBodiesBefore old = ArePlanned (bytes_of_names old.names.now) (λ id. slice_index_or old.filled.now id false) (node_bodies old.bodies.now)
+AreBodiesBefore old = ArePlanned old.names.now (λ id. slice_index_or old.filled.now id false) (node_bodies old.bodies.now)
 
 -- they are those of a store with these names, in which these flags say which names have a piece
 pub record AreInPlace (old : OldBodies) (texts : List (List ℕ)) (has_piece : List Bool) : Type 0 where
-  pub names : bytes_of_names old.names.now ≡ texts
+  pub names : old.names.now ≡ texts
   pub flags : old.filled.now ≡ has_piece
 
 -- it is the body that the node with the title of this number had, where these are the names now
 pub record IsBodyOfBefore (old : OldBodies) (texts : List (List ℕ)) (n : ℕ) (body : NodeBody) : Type 0 where
   pub before : ℕ
   pub inside : before ≤ length old.names.now
-  pub title : title_at (bytes_of_names old.names.now) before ≡ title_at texts n
+  pub title : title_at old.names.now before ≡ title_at texts n
   pub had : slice_get (node_bodies old.bodies.now) before ≡ Some body
 
 -- and the names that it uses are as before
 abbrev pub IsAsBefore : OldBodies → List (List ℕ) → ℕ → NodeBody → Type 0
 IsAsBefore old texts n body =
-    IsBodyOfBefore old texts n body × (texts_at (bytes_of_names old.names.now) (node_uses body) ≡ texts_at texts (node_uses body))
+    IsBodyOfBefore old texts n body × (texts_at old.names.now (node_uses body) ≡ texts_at texts (node_uses body))
 
 -- so it is of each of these bodies with a flag
 abbrev pub AreAsBefore : OldBodies → List (List ℕ) → List NodeBody → List Bool → Type 0

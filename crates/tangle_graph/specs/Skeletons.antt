@@ -26,6 +26,6 @@ pub record IsSkeletonOf (uses : List (List ℕ)) (skeleton : Skeleton) : Type 0 
   pub users_size : length users ≡ length skeleton.uses.items
   pub converse : IsConverse skeleton.uses.items users
   -- uses, users and order as nodes
-  pub used_nodes : node_rows skeleton.used_nodes.items ≡ map (map (node_at (length skeleton.names.items))) (rows_of skeleton.uses.items)
-  pub user_nodes : node_rows skeleton.user_nodes.items ≡ map (map (node_at (length skeleton.names.items))) (rows_of users)
-  pub node_order : skeleton.node_order.items ≡ map (node_at (length skeleton.names.items)) skeleton.order.items
+  pub used_nodes : node_rows skeleton.used_nodes.items ≡ map (map (node_at (length skeleton.names))) (rows_of skeleton.uses.items)
+  pub user_nodes : node_rows skeleton.user_nodes.items ≡ map (map (node_at (length skeleton.names))) (rows_of users)
+  pub node_order : skeleton.node_order.items ≡ map (node_at (length skeleton.names)) skeleton.order.items

@@ -5,14 +5,14 @@ use Rattle.tangle_plans.specs.NodeBodies.{node_uses}
 use Rattle.tangle_plans.specs.declared.nodes.NodeBody.{NodeBody}
 use Rattle.tangle_graph.specs.Plans.{ArePlanned, node_bodies, slots_of, uses_of_plans}
 use Rattle.tangle_graph.specs.Ordering.{IsOrderIn}
-use Rattle.tangle_graph.specs.Rows.{node_rows, bytes_of_names}
+use Rattle.tangle_graph.specs.Rows.{node_rows}
 use Rattle.tangle_graph.specs.Skeletons.{IsSkeletonOf}
 use Rattle.tangle_graph.specs.Stores.{StoreRead}
 use Rattle.tangle_graph.specs.declared.store.Store.TheInside.{Inside}
 
 abbrev pub store_read : Inside → StoreRead
 store_read s = record {
-  names = bytes_of_names s.skeleton.value.names.items;
+  names = s.skeleton.value.names;
   pieces = rows_of s.pieces.items;
   uses = node_rows s.skeleton.value.used_nodes.items;
   users = node_rows s.skeleton.value.user_nodes.items;
@@ -33,5 +33,5 @@ pub record IsWellKept (s : Inside) : Type 0 where
   pub sizes : length s.bodies.items ≡ length s.expandable.items
   pub skeleton : IsSkeletonOf (map node_uses (node_bodies s.bodies.items)) s.skeleton.value
   pub order : IsOrderIn (store_read s) s.skeleton.value.node_order.items
-  pub uses : All (λ (body : NodeBody). All (λ id. id < length s.skeleton.value.names.items) (node_uses body)) (node_bodies s.bodies.items)
-  pub planned : ArePlanned (bytes_of_names s.skeleton.value.names.items) (λ id. slice_index_or s.filled.items id false) (node_bodies s.bodies.items)
+  pub uses : All (λ (body : NodeBody). All (λ id. id < length s.skeleton.value.names) (node_uses body)) (node_bodies s.bodies.items)
+  pub planned : ArePlanned s.skeleton.value.names (λ id. slice_index_or s.filled.items id false) (node_bodies s.bodies.items)

@@ -12,13 +12,12 @@ ghost use Rattle.tangle_graph.specs.Plans.{AreAsBefore, AreBodies, AreBodiesBefo
 ghost use Rattle.tangle_graph.specs.Plans.{IsBodyAt, IsBodyOfBefore};
 ghost use Rattle.tangle_graph.specs.Plans.{node_bodies};
 ghost use Rattle.tangle_graph.specs.Plans.{slots_of, uses_of_plans};
-ghost use Rattle.tangle_graph.specs.Rows.{bytes_of_names};
 
 use crate::measures::is_filled;
 use std::alloc::{AllocError, Global};
 use std::rc::Rc;
 use tangle_lines::NoMemory;
-use tangle_names::NameTable;
+use tangle_names::{NameTable, Names};
 use tangle_plans::{NodeBody, Planning, is_same_node, plan_node};
 use tangle_scan::Web;
 
@@ -73,18 +72,19 @@ fn body_of_node(
 /// has a piece.
 #[derive(Clone, Copy)]
 pub(crate) struct OldBodies<'s> {
-    pub(crate) names: &'s [Vec<u8>],
+    pub(crate) names: &'s Names,
     pub(crate) filled: &'s [bool],
     pub(crate) bodies: &'s [Rc<NodeBody>],
 }
 
-/// Those of no store.
-pub(crate) fn no_bodies<'s>() -> OldBodies<'s>
-    ensures { AreBodiesBefore result }
+/// No bodies, in place under these names and flags.
+pub(crate) fn no_bodies<'s>(names: &'s Names, filled: &'s [bool]) -> OldBodies<'s>
+    ensures before { AreBodiesBefore result }
+    ensures in_place { AreInPlace result names.now filled.now }
 {
     OldBodies {
-        names: &[],
-        filled: &[],
+        names,
+        filled,
         bodies: &[],
     }
 }
@@ -93,21 +93,18 @@ pub(crate) fn no_bodies<'s>() -> OldBodies<'s>
 const LOOKED_AT: usize = 8;
 
 /// Whether the name with this number has this text.
-fn is_name_at(names: &[Vec<u8>], id: usize, text: &[u8]) -> bool
-    ensures title { result ≡ true → title_at (bytes_of_names names.now) id ≡ Named text.now }
+fn is_name_at(names: &Names, id: usize, text: &[u8]) -> bool
+    ensures title { result ≡ true → title_at names.now id ≡ Named text.now }
     ensures within { result ≡ true → id < length names.now }
 {
-    match names.get(id) {
-        Some(name) => name.as_slice() == text,
-        None => false,
-    }
+    id < names.count() && names.text(id) == text
 }
 
 /// The number of the name with this text, if it is this one or one of the next few.
 // Where an edit makes names come or go, the others stay in their order.
-fn number_before(names: &[Vec<u8>], first: usize, text: &[u8]) -> Option<usize>
+fn number_before(names: &Names, first: usize, text: &[u8]) -> Option<usize>
     ensures title { IfSome result
-        (λ id. title_at (bytes_of_names names.now) id ≡ Named text.now) }
+        (λ id. title_at names.now id ≡ Named text.now) }
     ensures within { IfSome result (λ id. id < length names.now) }
 {
     for id in first..first.saturating_add(LOOKED_AT) {
@@ -121,15 +118,15 @@ fn number_before(names: &[Vec<u8>], first: usize, text: &[u8]) -> Option<usize>
 /// The number that the node with this number had, if it is the program, or a name that is found
 /// among the next few.
 #[tactic(auto, using(crate::proofs::NodeLemmas::title_inside, crate::proofs::NodeLemmas::title_past))]
-fn node_before(names: &[Vec<u8>], first: usize, table: &NameTable, n: usize) -> Option<usize>
-    ensures title { IfSome result (λ m. title_at (bytes_of_names names.now) m
+fn node_before(names: &Names, first: usize, table: &NameTable, n: usize) -> Option<usize>
+    ensures title { IfSome result (λ m. title_at names.now m
         ≡ title_at table.now.names n) }
     ensures within { IfSome result (λ m. m ≤ length names.now) }
 {
     if n < table.count() {
         number_before(names, first, table.text(n))
     } else {
-        Some(names.len())
+        Some(names.count())
     }
 }
 
@@ -175,7 +172,7 @@ pub(crate) fn are_same_flags(flags: &[bool], others: &[bool]) -> bool
 fn body_at<'s>(old: OldBodies<'s>, n: usize, has_piece: &[bool]) -> Option<&'s Rc<NodeBody>>
     requires { AreBodiesBefore old }
     ensures title { IfSome result (λ body. node_title body.now.value
-        ≡ title_at (bytes_of_names old.entry.names.now) n) }
+        ≡ title_at old.entry.names.now n) }
     ensures planned { IfSome result
         (λ body. IsPlanned (λ id. slice_index_or has_piece.now id false) body.now.value) }
     ensures place { IfSome result
@@ -209,7 +206,7 @@ fn body_in_place<'s>(
     ensures place { IfSome result
         (λ body. IsBodyOfBefore old.entry table.now.names n body.now.value) }
 {
-    if n > old.names.len() {
+    if n > old.names.count() {
         return None;
     }
     old.bodies.get(n)

@@ -36,5 +36,5 @@ pub fn keeps_shape(old: &Store, new: &Store, are_kept: &[bool], node: Node) -> b
         → IsStoreOf new_shapes new.now → IsNodeIn new.now node → result ≡ true
         → new_shapes (title_in_store new.now node) ≡ old_shapes (title_in_store new.now node) }
 {
-    entry(are_kept, number_of(new.name_count(), node), false)
+    entry(are_kept, number_of(new.full_names().count(), node), false)
 }

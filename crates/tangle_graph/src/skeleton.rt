@@ -3,26 +3,25 @@
 ghost use Rattle.std.specs.Prelude.{◌≡◌, ◌<◌, ◌+◌, IfOk, All, length, map, true};
 ghost use Rattle.tangle_plans.specs.NodeBodies.{node_uses};
 ghost use Rattle.tangle_graph.specs.Plans.{node_bodies};
-ghost use Rattle.tangle_graph.specs.Rows.{bytes_of_names};
 ghost use Rattle.tangle_graph.specs.Skeletons.{IsSkeletonOf};
 
 use crate::bodies::uses_of_bodies;
 use crate::nodes::{nodes_by_node, nodes_of};
 use digraph::{all_once, order, reaching_cycles, self_containing, users};
-use std::alloc::{AllocError, Global};
+use std::alloc::Global;
 use std::rc::Rc;
 use tangle_lines::NoMemory;
-use tangle_names::NameTable;
+use tangle_names::{NameTable, Names};
 use tangle_plans::{Node, NodeBody};
 
-/// The bytes of the names; of each node the names that it uses and the nodes that use it, and
+/// The names, shared with their table; of each node the names that it uses and the nodes that use it, and
 /// whether it contains itself or reaches a name that does; and the nodes that reach no cycle, each
 /// after those that it uses.
 ///
 /// The stores of a web before and after an edit share it where the names and the uses stay.
 #[derive(Drop)]
 pub(crate) struct Skeleton {
-    pub(crate) names: Vec<Vec<u8>>,
+    pub(crate) names: Names,
     /// The used names of each node, by number.
     pub(crate) uses: Vec<Vec<usize>>,
     /// The order of the nodes, by number.
@@ -40,12 +39,11 @@ impl Skeleton {
         alloc: Global,
         table: &NameTable,
         bodies: &[Rc<NodeBody>],
-    ) -> Result<Skeleton, AllocError>
+    ) -> Result<Skeleton, NoMemory>
         requires size { length bodies.now ≡ length table.now.names + 1 }
         requires inside { All (λ row. All (λ id. id < length table.now.names) row)
             (map node_uses (node_bodies bodies.now)) }
-        ensures names { IfOk result
-            (λ skeleton. bytes_of_names skeleton.names.items ≡ table.now.names) }
+        ensures names { IfOk result (λ skeleton. skeleton.names ≡ table.now.names) }
         ensures skeleton { IfOk result
             (λ skeleton. IsSkeletonOf (map node_uses (node_bodies bodies.now)) skeleton) }
     {
@@ -62,7 +60,7 @@ impl Skeleton {
         let user_nodes = nodes_by_node(alloc, count, users)?;
         let node_order = nodes_of(alloc, count, &order)?;
         Ok(Skeleton {
-            names: texts_of_names(alloc, table)?,
+            names: table.names()?,
             uses: rows,
             order,
             used_nodes,
@@ -83,7 +81,7 @@ impl Skeleton {
         requires inside { All (λ row. All (λ id. id < length table.now.names) row)
             (map node_uses (node_bodies bodies.now)) }
         ensures names { IfOk result
-            (λ skeleton. bytes_of_names skeleton.value.names.items ≡ table.now.names) }
+            (λ skeleton. skeleton.value.names ≡ table.now.names) }
         ensures skeleton { IfOk result
             (λ skeleton. IsSkeletonOf (map node_uses (node_bodies bodies.now)) skeleton.value) }
     {
@@ -95,26 +93,16 @@ impl Skeleton {
     }
 }
 
-/// The bytes of the names.
-fn texts_of_names(alloc: Global, table: &NameTable) -> Result<Vec<Vec<u8>>, AllocError>
-    ensures { IfOk result (λ names. bytes_of_names names.items ≡ table.now.names) }
-{
-    let mut names = Vec::with_capacity(alloc, table.count())?;
-    for id in 0..table.count() {
-        names.push(Vec::from_slice(alloc, table.text(id))?)?;
-    }
-    Ok(names)
-}
-
 /// Whether these are the names of the table, each under its number.
-pub(crate) fn are_names_of(names: &[Vec<u8>], table: &NameTable) -> bool
-    ensures { result ≡ true → bytes_of_names names.now ≡ table.now.names }
+pub(crate) fn are_names_of(names: &Names, table: &NameTable) -> bool
+    ensures { result ≡ true → names.now ≡ table.now.names }
 {
-    if names.len() != table.count() {
+    let count = names.count();
+    if count != table.count() {
         return false;
     }
-    for (id, name) in names.iter().enumerate() {
-        if name.as_slice() != table.text(id) {
+    for id in 0..count {
+        if names.text(id) != table.text(id) {
             return false;
         }
     }

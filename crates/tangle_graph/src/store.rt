@@ -17,7 +17,6 @@ ghost use Rattle.tangle_graph.specs.Nodes.{number_in};
 ghost use Rattle.tangle_graph.specs.Ordering.{IsOrderIn};
 ghost use Rattle.tangle_graph.specs.Plans.{AreBodies, AreBodiesBefore, AreFilled, ArePlanned};
 ghost use Rattle.tangle_graph.specs.Plans.{ArePlans, node_bodies, slots_of, uses_of_plans};
-ghost use Rattle.tangle_graph.specs.Rows.{bytes_of_names};
 ghost use Rattle.tangle_graph.specs.Skeletons.{IsSkeletonOf};
 ghost use Rattle.tangle_graph.specs.Stores.{IsStoreOf, KeepsBodies, KeepsUsed, plan_uses_at};
 ghost use Rattle.tangle_graph.specs.Stores.{slots_at};
@@ -39,7 +38,7 @@ use std::mem::replace;
 use std::rc::Rc;
 use tangle_expansion::{Expansion, Kept, Output, Work, expand, filled_plans_are_right};
 use tangle_lines::{Fault, NoMemory};
-use tangle_names::{NameTable, names_are_the_full_names};
+use tangle_names::{NameTable, Names, names_are_the_full_names};
 use tangle_plans::{Node, NodeBody, PiecesByNode, names_resolve_inside};
 use tangle_scan::Web;
 
@@ -96,7 +95,9 @@ impl Store {
         let rows: &[Vec<usize>] = &pieces;
         let filled = filled_rows(alloc, rows)?;
         let flags: &[bool] = &filled;
-        let made = bodies_by_node(alloc, web, table, flags, rows, no_bodies(), false)?;
+        let names = table.names()?;
+        let none = no_bodies(&names, flags);
+        let made = bodies_by_node(alloc, web, table, flags, rows, none, true)?;
         let bodies = made.bodies;
         let skeleton = Skeleton::shared(alloc, table, &bodies)?;
         Store::over(alloc, web, table, out, pieces, filled, bodies, skeleton)
@@ -146,11 +147,11 @@ impl Store {
     /// The bodies of the nodes, with what they were planned under.
     fn bodies(&self) -> OldBodies<'_>
         ensures planned { AreBodiesBefore result }
-        ensures names { bytes_of_names result.names.now ≡ self.now.names }
+        ensures names { result.names.now ≡ self.now.names }
         ensures bodies { node_bodies result.bodies.now ≡ self.now.bodies }
     {
         let skeleton: &Skeleton = &self.skeleton;
-        let names: &[Vec<u8>] = &skeleton.names;
+        let names: &Names = &skeleton.names;
         let filled: &[bool] = &self.filled;
         let bodies: &[Rc<NodeBody>] = &self.bodies;
         OldBodies {
@@ -173,7 +174,7 @@ impl Store {
         requires inside { All (λ row. All (λ id. id < length table.now.names) row)
             (map node_uses (node_bodies bodies.now)) }
         ensures names { IfOk result
-            (λ skeleton. bytes_of_names skeleton.value.names.items ≡ table.now.names) }
+            (λ skeleton. skeleton.value.names ≡ table.now.names) }
         ensures skeleton { IfOk result
             (λ skeleton. IsSkeletonOf (map node_uses (node_bodies bodies.now)) skeleton.value) }
     {
@@ -209,7 +210,7 @@ impl Store {
             (rows_of pieces.items) (slots_of bodies.items) (uses_of_plans bodies.items) }
         requires planned { ArePlanned table.now.names (λ id. slice_index_or filled.items id false)
             (node_bodies bodies.items) }
-        requires names { bytes_of_names skeleton.value.names.items ≡ table.now.names }
+        requires names { skeleton.value.names ≡ table.now.names }
         requires skeleton { IsSkeletonOf (map node_uses (node_bodies bodies.items)) skeleton.value }
         ensures store { IfOk result (IsStoreOfWeb web.now table.now out.now) }
         ensures bodies { IfOk result (λ store. store.bodies ≡ node_bodies bodies.items) }
@@ -249,7 +250,7 @@ impl Store {
     fn number(&self, node: Node) -> Option<usize>
         ensures { result ≡ number_in (length self.now.names) node }
     {
-        number_of(self.skeleton.names.len(), node)
+        number_of(self.skeleton.names.count(), node)
     }
 
     /// What is kept of the node, if the store has it.
@@ -371,12 +372,8 @@ impl PiecesByNode for Store {
 
     ghost bodies = { body_at };
 
-    fn name_count(&self) -> usize {
-        self.skeleton.names.len()
-    }
-
-    fn name_text(&self, id: usize) -> &[u8] {
-        self.skeleton.names[id].as_slice()
+    fn full_names(&self) -> &Names {
+        &self.skeleton.names
     }
 
     fn piece_numbers(&self, node: Node) -> &[usize] {

@@ -6,6 +6,7 @@ mod faults;
 mod first_numbers;
 mod laws;
 mod name_table;
+mod names;
 mod numbers;
 mod resolution;
 mod sorted;
@@ -15,6 +16,7 @@ pub use laws::{
     occurrences_resolve_by_the_whole_web,
 };
 pub use name_table::NameTable;
+pub use names::Names;
 
 /// What an occurrence of a name resolves to.
 #[derive(Clone, Copy, Debug, PartialEq, Eq)]

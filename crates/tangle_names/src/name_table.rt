@@ -6,6 +6,7 @@ ghost use Rattle.tangle_names.specs.declared.Resolved.TheVariants.{NoFullName};
 
 use crate::Resolved;
 use crate::faults::faults;
+use crate::names::Names;
 use crate::resolution::{Resolution, are_written_alike};
 use std::alloc::Global;
 use std::marker::Model;
@@ -96,14 +97,28 @@ impl NameTable {
     pub fn find(&self, text: &[u8]) -> Option<usize>
         ensures { result ≡ position (bytes_eq text.now) self.now.names }
     {
-        self.resolution.names.get_index_of(text)
+        self.resolution.find(text)
+    }
+
+    /// The full names, shared.
+    ///
+    /// # Errors
+    ///
+    /// `NoMemory`, where no more shares can be counted.
+    pub fn names(&self) -> Result<Names, NoMemory>
+        ensures { IfOk result (λ names. names ≡ self.now.names) }
+    {
+        match self.resolution.clone() {
+            Ok(resolution) => Ok(Names::new(resolution)),
+            Err(_) => Err(NoMemory),
+        }
     }
 
     /// How many full names there are.
     pub fn count(&self) -> usize
         ensures { result ≡ length self.now.names }
     {
-        self.resolution.names.len()
+        self.resolution.count()
     }
 
     /// The text of the full name of this number.
@@ -111,8 +126,7 @@ impl NameTable {
         requires { id < length self.now.names }
         ensures { result.now ≡ slice_index_or self.now.names id [] }
     {
-        let text = &self.resolution.names.as_slice()[id];
-        text.as_slice()
+        self.resolution.text(id)
     }
 
     /// The number of the first occurrence that resolves to the full name of this number,

@@ -1,7 +1,10 @@
 //! What the names of a web resolve to. It depends on how the occurrences are written, and on no
 //! origin.
-ghost use Rattle.std.specs.Prelude.{◌≡◌, ◌↔◌, IfOk, IsTrue};
+ghost use Rattle.std.specs.Prelude.{◌≡◌, ◌↔◌, ◌<◌, [], IfOk, IsTrue, length, position};
+ghost use Rattle.std.specs.Prelude.{slice_index_or};
+ghost use Rattle.std.specs.Str.{bytes_eq};
 ghost use Rattle.tangle_names.specs.NameTable.{AreWrittenAlike, written_name};
+ghost use Rattle.tangle_names.specs.Numbers.{key_texts};
 ghost use Rattle.tangle_names.specs.Resolution.{IsResolutionOf};
 
 use crate::Resolved;
@@ -51,6 +54,29 @@ impl Resolution {
             unresolved,
             beginnings,
         })
+    }
+
+    /// How many names there are.
+    pub(crate) fn count(&self) -> usize
+        ensures { result ≡ length (key_texts self.now.names.keys) }
+    {
+        self.names.len()
+    }
+
+    /// The text of the name of this number.
+    pub(crate) fn text(&self, id: usize) -> &[u8]
+        requires { id < length (key_texts self.now.names.keys) }
+        ensures { result.now ≡ slice_index_or (key_texts self.now.names.keys) id [] }
+    {
+        let text = &self.names.as_slice()[id];
+        text.as_slice()
+    }
+
+    /// The number of the name with this text, if it is one.
+    pub(crate) fn find(&self, text: &[u8]) -> Option<usize>
+        ensures { result ≡ position (bytes_eq text.now) (key_texts self.now.names.keys) }
+    {
+        self.names.get_index_of(text)
     }
 }
 

@@ -151,8 +151,8 @@ fn behind_text<'w, 'o>(
     })
 }
 
-/// The position behind an item, if it comes next, with this tag. A text begins a range; behind any
-/// other item there is none.
+/// The position behind an item, if it comes next, with this tag. There is no range behind it: a text
+/// is compared here byte by byte.
 #[inline(always)]
 fn behind_item<'w, 'o>(
     position: Position<'w, 'o>,
@@ -164,9 +164,6 @@ fn behind_item<'w, 'o>(
     requires { CanComeNext web.now.texts table.now position item.now }
     ensures { GoesBehindItem web.now.texts table.now item.now tag position.entry result }
 {
-    if let Some((kind, span)) = text_of(item) {
-        return behind_text(position, tag, web, kind, span);
-    }
     if !same_tag(tag, tag_of(item, table)) {
         return None;
     }
@@ -203,14 +200,20 @@ fn behind_items<'w, 'o>(
     };
     let mut i = 0;
     while i < items.len() {
-        let next = behind_item(position, tags[i], web, table, &items[i])?;
-        i += 1;
-        let (end, passed) = pass_same(&tags[i..], web, next.run, &items[i..]);
-        i += passed;
-        position = Position {
-            run: Run { end, ..next.run },
-            ..next
-        };
+        let item = &items[i];
+        if let Some((kind, span)) = text_of(item) {
+            let next = behind_text(position, tags[i], web, kind, span)?;
+            i += 1;
+            let (end, passed) = pass_same(&tags[i..], web, next.run, &items[i..]);
+            i += passed;
+            position = Position {
+                run: Run { end, ..next.run },
+                ..next
+            };
+        } else {
+            position = behind_item(position, tags[i], web, table, item)?;
+            i += 1;
+        }
     }
     Some(position)
 }

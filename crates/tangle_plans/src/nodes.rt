@@ -1,6 +1,5 @@
 //! The nodes of a web, and what a store reports them.
-ghost use Rattle.std.specs.Prelude.{◌≡◌, ◌<◌, ℕ, List, [], length, slice_index_or, Option, Some};
-ghost use Rattle.std.specs.Prelude.{None, IfSome, IfNone};
+ghost use Rattle.std.specs.Prelude.{◌≡◌, ℕ, List, length, Option, Some, None, IfSome, IfNone};
 ghost use Rattle.tangle_plans.specs.Nodes.{IsNodeBelow};
 ghost use Rattle.tangle_plans.specs.declared.nodes.NodeBody.{NodeBody};
 ghost use Rattle.tangle_plans.specs.declared.nodes.Node.{Node};
@@ -9,6 +8,7 @@ ghost use Rattle.tangle_plans.specs.declared.nodes.Node.TheVariants as node_kind
 use crate::steps::Step;
 use crate::tags::ItemTag;
 use std::rc::Rc;
+use tangle_names::Names;
 
 /// What is kept of a node: its name, the bytes of all its items, the plan of its symbols, and
 /// besides, for comparing shapes, the tags of its items and the numbers of the names that they use.
@@ -58,14 +58,9 @@ pub trait PiecesByNode {
     // What is kept of a node, if it is one of the web.
     ghost bodies: { Self → Node → Option NodeBody };
 
-    /// How many full names there are.
-    fn name_count(&self) -> usize
-        ensures { result ≡ length (names self.now) };
-
-    /// The text of the full name with this number.
-    fn name_text(&self, id: usize) -> &[u8]
-        requires { id < length (names self.now) }
-        ensures { result.now ≡ slice_index_or (names self.now) id [] };
+    /// The full names.
+    fn full_names(&self) -> &Names
+        ensures { result.now ≡ names self.now };
 
     /// The numbers of the node's pieces, in the order of the source.
     fn piece_numbers(&self, node: Node) -> &[usize]

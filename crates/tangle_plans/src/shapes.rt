@@ -24,8 +24,10 @@ fn same_names<S: PiecesByNode>(
     if uses.len() != other_uses.len() {
         return false;
     }
+    let names = store.full_names();
+    let other_names = other_store.full_names();
     for i in 0..uses.len() {
-        if store.name_text(uses[i]) != other_store.name_text(other_uses[i]) {
+        if names.text(uses[i]) != other_names.text(other_uses[i]) {
             return false;
         }
     }

@@ -1,4 +1,4 @@
-use Rattle.std.proofs.Common.{◌≡◌, ◌∙◌, ◌+◌, true, arith, get_or, length, length-set, set, subst, sym, take}
+use Rattle.std.proofs.Common.{◌≡◌, ◌∙◌, ◌+◌, true, arith, get_or, length, length-set, set, subst, sym, take, ap}
 use Rattle.std.proofs.lemmas.List.{take_all}
 use Rattle.std.proofs.lemmas.List.Elements.{Contains-get_or}
 use Rattle.tangle_plans.specs.declared.nodes.Node.TheVariants.{Program}
@@ -12,7 +12,7 @@ index_mut-requires c =
     let node = get_or c.args.list.now c.loop-node.node-index Program in
     let there = c.requires node (Contains-get_or c.args.list.now c.loop-node.node-index Program c.loop-node-test.true) in
     let low = number_low names node there in
-    let is = rw c.name_count-count.ensures at c.number_of.ensures in
+    let is = rw (c.count-count.ensures ∙ ap length c.full_names.ensures) at c.number_of.ensures in
     omega (arith, low, c.loop-node.invariant.size, is)
 
 pub loop-node-preserved : goal.loop-node-preserved
@@ -22,7 +22,7 @@ loop-node-preserved c =
     let i = c.loop-node.node-index in
     let flags = c.loop-node.flags.items in
     let there = c.requires (get_or list i Program) (Contains-get_or list i Program c.loop-node-test.true) in
-    let is : c.number_of.result ≡ number_of_node (length c.args.store.now.names) (get_or c.args.list.now c.loop-node.node-index Program) = rw c.name_count-count.ensures at c.number_of.ensures in
+    let is : c.number_of.result ≡ number_of_node (length c.args.store.now.names) (get_or c.args.list.now c.loop-node.node-index Program) = rw (c.count-count.ensures ∙ ap length c.full_names.ensures) at c.number_of.ensures in
     record {
       size = length-set flags c.number_of.result true ∙ c.loop-node.invariant.size;
       listed = subst (λ n. AreListed store (set flags n true) (take (i + 1) list)) (sym is)

@@ -9,7 +9,6 @@ use Rattle.tangle_plans.specs.ItemSlots.{pieces_at, pieces_slots}
 use Rattle.tangle_plans.specs.NodeBodies.{node_uses, plan_slots, plan_uses, texts_at}
 use Rattle.tangle_plans.specs.declared.nodes.NodeBody.{NodeBody}
 use Rattle.tangle_graph.specs.Nodes.{title_at}
-use Rattle.tangle_graph.specs.Rows.{bytes_of_names}
 use Rattle.tangle_graph.specs.Plans.{ArePlanned, ArePlans, AreBodies, IsAsBefore, IsBodyOf, IsBodyOfBefore, node_bodies, slots_of, uses_of_plans}
 use Rattle.tangle_graph.proofs.PushLemmas.{bodies_count, bodies_more, kept_more, kept_there, planned_more, plans_more}
 use Rattle.tangle_graph.proofs.bodies.bodies_by_node.Goals as goal
@@ -32,7 +31,7 @@ loop-n-preserved c =
     let flag = c.if-made.push in
     let count : length bodies ≡ i = bodies_count c.args.pieces.now bodies i c.loop-n-test.true c.loop-n.invariant.bodies.size in
     let kept_now = IsAsBefore c.args.old table.names in
-    let texts_before = bytes_of_names c.args.old.names.now in
+    let texts_before = c.args.old.names.now in
     let used = node_uses body.value in
     let one_kept : flag ≡ true → kept_now i body.value
     = elim c.if-made.branch as (λ _. c.if-made.push ≡ true → IsAsBefore c.args.old c.args.table.now.names c.loop-n.n c.in_ok-made.made.body.value) [

@@ -4,21 +4,20 @@ use Rattle.tangle_graph.specs.Plans.{node_bodies}
 use Rattle.tangle_plans.specs.Comparing.{IsPlanned}
 use Rattle.tangle_plans.specs.NodeBodies.{node_title, node_uses}
 use Rattle.tangle_graph.specs.Nodes.{title_at}
-use Rattle.tangle_graph.specs.Rows.{bytes_of_names}
 use Rattle.tangle_graph.proofs.PlannedLemmas.{planned_over}
 use Rattle.tangle_graph.proofs.BodyLemmas.{place_read, planned_read, title_read}
 use Rattle.tangle_graph.proofs.bodies.body_at.Goals as goal
 
 pub returns-then-agree_on-clause-title : goal.returns-then-agree_on-clause-title
 returns-then-agree_on-clause-title c =
-    let names = bytes_of_names c.args.old.names.now in
+    let names = c.args.old.names.now in
     let has : ℕ → Bool = λ id. get_or c.args.old.filled.now id false in
     subst (λ o. IfSome o (λ body. node_title body.now.value ≡ title_at names c.args.n)) c.in-Some.is
     (title_read names has c.args.old.bodies.now c.args.n c.requires c.get.result c.get.ensures.lookup)
 
 pub returns-then-agree_on-clause-planned : goal.returns-then-agree_on-clause-planned
 returns-then-agree_on-clause-planned c =
-    let names = bytes_of_names c.args.old.names.now in
+    let names = c.args.old.names.now in
     let has : ℕ → Bool = λ id. get_or c.args.old.filled.now id false in
     let has' : ℕ → Bool = λ id. get_or c.args.has_piece.now id false in
     let body = c.in-Some.body.now.value in

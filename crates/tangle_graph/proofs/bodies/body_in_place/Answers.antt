@@ -4,7 +4,6 @@ use Rattle.std.specs.Prelude.{IfSome}
 use Rattle.tangle_plans.specs.Comparing.{IsPlanned}
 use Rattle.tangle_plans.specs.NodeBodies.{node_title}
 use Rattle.tangle_graph.specs.Nodes.{title_at}
-use Rattle.tangle_graph.specs.Rows.{bytes_of_names}
 use Rattle.tangle_graph.proofs.BodyLemmas.{place_read, planned_read, title_read}
 use Rattle.tangle_graph.proofs.bodies.body_in_place.Goals as goal
 
@@ -13,14 +12,14 @@ returns-clause-title c =
     let old = c.args.old in
     let has : ℕ → Bool = λ id. get_or old.filled.now id false in
     subst (λ (ns : List (List ℕ)). IfSome c.get.result (λ body. node_title body.now.value ≡ title_at ns c.args.n)) c.requires.in_place.names
-    (title_read (bytes_of_names old.names.now) has old.bodies.now c.args.n c.requires.old c.get.result c.get.ensures.lookup)
+    (title_read old.names.now has old.bodies.now c.args.n c.requires.old c.get.result c.get.ensures.lookup)
 
 pub returns-clause-planned : goal.returns-clause-planned
 returns-clause-planned c =
     let old = c.args.old in
     let has : ℕ → Bool = λ id. get_or old.filled.now id false in
     subst (λ (fs : List Bool). IfSome c.get.result (λ body. IsPlanned (λ id. get_or fs id false) body.now.value)) c.requires.in_place.flags
-    (planned_read (bytes_of_names old.names.now) has old.bodies.now c.args.n c.requires.old c.get.result c.get.ensures.lookup)
+    (planned_read old.names.now has old.bodies.now c.args.n c.requires.old c.get.result c.get.ensures.lookup)
 
 pub returns-clause-place : goal.returns-clause-place
 returns-clause-place c =

@@ -2,15 +2,8 @@ use Rattle.std.proofs.Common.{◌∙◌, ◌++◌, ◌∷◌, refl, ap, sym, app
 use Rattle.tangle_plans.specs.ItemTags.{bytes_in, tag_in, names_in}
 use Rattle.tangle_plans.specs.Runs.{run_bytes}
 use Rattle.tangle_plans.specs.Fronts.{Lists, lists_at, with_bytes, with_item}
-use Rattle.tangle_plans.proofs.ComparingLemmas.{all_behind, cut_not, front_same, item_cut, position_of_item, with_all}
+use Rattle.tangle_plans.proofs.ComparingLemmas.{all_behind, cut_not, front_same, item_cut, with_all}
 use Rattle.tangle_plans.proofs.comparing.behind_item.Goals as goal
-
-pub returns-in-Some : goal.returns-in-Some
-returns-in-Some c =
-    record {
-      run = c.behind_text.ensures.run;
-      position = position_of_item c.args.web.now.texts c.args.table.now c.args.item.now c.in-Some.kind c.in-Some.span c.args.tag c.args.position c.behind_text.result c.in-Some.ensures c.behind_text.ensures.position;
-    }
 
 pub returns-in_err-text-2 : goal.returns-in_err-text-2
 returns-in_err-text-2 c =

@@ -1,10 +1,10 @@
-use Rattle.std.proofs.Common.{◌≡◌, ◌+◌, length, drop, get_or, ap, subst, refl, arith, length-drop}
+use Rattle.std.proofs.Common.{◌≡◌, ◌+◌, None, Some, length, drop, get_or, ap, subst, refl, arith, length-drop}
 use Rattle.std.proofs.lemmas.List.{take_rest}
 use Rattle.tangle_plans.specs.Tags.{piece_end}
 use Rattle.tangle_plans.specs.Fronts.{GoOnAs, lists_at, lists_left, with_tag, with_items, with_range}
 use Rattle.tangle_plans.specs.declared.tags.ItemTag.{ItemTag}
 use Rattle.tangle_plans.specs.declared.tags.ItemKind.TheVariants as tag
-use Rattle.tangle_plans.proofs.ComparingLemmas.{and_not, and_then, back_same, item_next, item_not_next, items_over, items_passed}
+use Rattle.tangle_plans.proofs.ComparingLemmas.{and_not, and_then, back_same, item_next, item_not_next, items_over, items_passed, position_of_item}
 use Rattle.tangle_plans.proofs.comparing.behind_items.Goals as goal
 
 -- behind the last tag
@@ -20,10 +20,51 @@ returns-in_err-next-clause-position c =
     let tags = c.args.left.tags.now in
     let position = c.loop-i.position in
     let i = c.loop-i.i in
+    let x = c.index-items-i.result in
+    let none = position_of_item texts table x c.in-Some.kind c.in-Some.span (get_or tags i no_tag) position None c.in-Some.ensures c.in_err-next.ensures.position in
     rw c.from_residual.ensures
     (and_not (lists_left c.args.left) (lists_at (drop i tags) position) (with_items texts table items) (λ more. with_range position (with_items texts table (drop i items) more))
     c.loop-i.invariant.position
-    (item_not_next texts table tags i (get_or tags i no_tag) no_tag items c.index-items-i.result position (omega arith) refl c.loop-i-test.true c.index-items-i.is c.in_err-next.ensures.position))
+    (item_not_next texts table tags i (get_or tags i no_tag) no_tag items x position (omega arith) refl c.loop-i-test.true c.index-items-i.is none))
+
+pub returns-in_err-position-clause-position : goal.returns-in_err-position-clause-position
+unfolding no_tag
+returns-in_err-position-clause-position c =
+    let texts = c.args.web.now.texts in
+    let table = c.args.table.now in
+    let items = c.args.items.now in
+    let tags = c.args.left.tags.now in
+    let position = c.loop-i.position in
+    let i = c.loop-i.i in
+    rw c.from_residual-in_err-position.ensures
+    (and_not (lists_left c.args.left) (lists_at (drop i tags) position) (with_items texts table items) (λ more. with_range position (with_items texts table (drop i items) more))
+    c.loop-i.invariant.position
+    (item_not_next texts table tags i (get_or tags i no_tag) no_tag items c.index-items-i.result position (omega arith) refl c.loop-i-test.true c.index-items-i.is c.in_err-position.ensures.position))
+
+pub loop-i-preserved-in-Some : goal.loop-i-preserved-in-Some
+unfolding no_tag
+loop-i-preserved-in-Some c =
+    let texts = c.args.web.now.texts in
+    let table = c.args.table.now in
+    let items = c.args.items.now in
+    let tags = c.args.left.tags.now in
+    let position = c.loop-i.position in
+    let next = c.in_ok-next.next in
+    let i = c.loop-i.i in
+    let x = c.index-items-i.result in
+    let n = c.pass_same-end.result.1 in
+    let behind = record next { run = record next.run { end = c.pass_same-end.result.0 } } in
+    let text = position_of_item texts table x c.in-Some.kind c.in-Some.span (get_or tags i no_tag) position (Some next) c.in-Some.ensures c.in_ok-next.ensures.position in
+    let one = and_then (lists_left c.args.left) (lists_at (drop i tags) position) (lists_at (drop (i + 1) tags) next) (with_items texts table items)
+    (λ more. with_range position (with_items texts table (drop i items) more)) (λ more. with_range next (with_items texts table (drop (i + 1) items) more)) c.loop-i.invariant.position
+    (item_next texts table tags i (get_or tags i no_tag) no_tag items x position next (omega arith) refl c.loop-i-test.true c.index-items-i.is text) in
+    record {
+      within = omega (arith, c.pass_same-end.ensures.few, ap length (take_rest items (i + 1)), length-drop (i + 1) items, c.loop-i-test.true);
+      run = c.pass_same-end.ensures.range.range;
+      position = and_then (lists_left c.args.left) (lists_at (drop (i + 1) tags) next) (lists_at (drop (i + 1 + n) tags) behind) (with_items texts table items)
+          (λ more. with_range next (with_items texts table (drop (i + 1) items) more)) (λ more. with_range behind (with_items texts table (drop (i + 1 + n) items) more)) one
+          (items_passed texts table tags _ items _ (i + 1) n next (record next.run { end = c.pass_same-end.result.0 }) (take_rest tags (i + 1)) (take_rest items (i + 1)) (c.pass_same-end.ensures.tags table) c.pass_same-end.ensures.range);
+    }
 
 pub loop-i-preserved : goal.loop-i-preserved
 unfolding no_tag
@@ -33,19 +74,14 @@ loop-i-preserved c =
     let items = c.args.items.now in
     let tags = c.args.left.tags.now in
     let position = c.loop-i.position in
-    let next = c.in_ok-next.next in
+    let next = c.in_ok-position.position in
     let i = c.loop-i.i in
-    let n = c.pass_same-end.result.1 in
-    let behind = record next { run = record next.run { end = c.pass_same-end.result.0 } } in
-    let one = and_then (lists_left c.args.left) (lists_at (drop i tags) position) (lists_at (drop (i + 1) tags) next) (with_items texts table items)
-    (λ more. with_range position (with_items texts table (drop i items) more)) (λ more. with_range next (with_items texts table (drop (i + 1) items) more)) c.loop-i.invariant.position
-    (item_next texts table tags i (get_or tags i no_tag) no_tag items c.index-items-i.result position next (omega arith) refl c.loop-i-test.true c.index-items-i.is c.in_ok-next.ensures.position) in
     record {
-      within = omega (arith, c.pass_same-end.ensures.few, ap length (take_rest items (i + 1)), length-drop (i + 1) items, c.loop-i-test.true);
-      run = c.pass_same-end.ensures.range.range;
-      position = and_then (lists_left c.args.left) (lists_at (drop (i + 1) tags) next) (lists_at (drop (i + 1 + n) tags) behind) (with_items texts table items)
-          (λ more. with_range next (with_items texts table (drop (i + 1) items) more)) (λ more. with_range behind (with_items texts table (drop (i + 1 + n) items) more)) one
-          (items_passed texts table tags _ items _ (i + 1) n next (record next.run { end = c.pass_same-end.result.0 }) (take_rest tags (i + 1)) (take_rest items (i + 1)) (c.pass_same-end.ensures.tags table) c.pass_same-end.ensures.range);
+      within = omega (arith, c.loop-i-test.true);
+      run = c.in_ok-position.ensures.run;
+      position = and_then (lists_left c.args.left) (lists_at (drop i tags) position) (lists_at (drop (i + 1) tags) next) (with_items texts table items)
+          (λ more. with_range position (with_items texts table (drop i items) more)) (λ more. with_range next (with_items texts table (drop (i + 1) items) more)) c.loop-i.invariant.position
+          (item_next texts table tags i (get_or tags i no_tag) no_tag items c.index-items-i.result position next (omega arith) refl c.loop-i-test.true c.index-items-i.is c.in_ok-position.ensures.position);
     }
 
 pub returns-clause-position : goal.returns-clause-position

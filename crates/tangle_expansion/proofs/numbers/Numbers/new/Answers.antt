@@ -1,12 +1,16 @@
 use Rattle.std.proofs.Common.{arith}
+use Rattle.tangle_expansion.specs.NumbersKept.{rows_of}
+use Rattle.tangle_expansion.proofs.KeptLemmas.{zip_short}
 use Rattle.tangle_expansion.proofs.ShortLemmas.{symbols_short, all_names_short}
 use Rattle.tangle_expansion.proofs.numbers.Numbers.new.Goals as goal
 
 pub invariant_of-result : goal.invariant_of-result
-invariant_of-result c =
-    symbols_short _ (record {
-      file_names = all_names_short c.args.file_names.items c.requires.file_names;
-      program = c.requires.program;
-      names = c.requires.names;
-      macros = omega arith;
-    })
+invariant_of-result c = record {
+  rows = c.requires.rows;
+  short = symbols_short _ (record {
+    file_names = all_names_short c.args.file_names.items c.requires.file_names;
+    program = c.requires.program;
+    names = zip_short c.args.names (rows_of c.args.of_names.items) c.requires.of_names;
+    macros = omega arith;
+  });
+}

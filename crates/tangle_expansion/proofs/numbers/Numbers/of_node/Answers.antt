@@ -1,13 +1,14 @@
-use Rattle.std.proofs.Common.{None, Some, sym, ◌∙◌}
-use Rattle.tangle_expansion.proofs.KeptLemmas.{looked_up}
+use Rattle.std.proofs.Common.{◌∙◌, List, ℕ, ap, position}
+use Rattle.std.specs.Str.{bytes_eq}
+use Rattle.tangle_expansion.specs.NumbersKept.{row_found, rows_of}
+use Rattle.tangle_expansion.proofs.KeptLemmas.{found_row, rows_count}
 use Rattle.tangle_expansion.proofs.numbers.Numbers.of_node.Goals as goal
 
-pub returns-in-Some-get : goal.returns-in-Some-get
-returns-in-Some-get c =
-    let found = looked_up c.in-Some.name.items c.as_slice-in-Some.result.now c.self.inside.names.entries (Some c.in-Some-get.pieces.now) c.as_slice-in-Some.ensures.value (sym c.in-Some-get.ensures.value) in
-    rw (← c.self.view_is, c.in-Some.is) (c.as_slice-in-Some-get.ensures.value ∙ sym found)
-
-pub returns-in-None-get : goal.returns-in-None-get
-returns-in-None-get c =
-    let found = looked_up c.in-Some.name.items c.as_slice-in-Some.result.now c.self.inside.names.entries None c.as_slice-in-Some.ensures.value (sym c.in-None-get.ensures.value) in
-    rw (← c.self.view_is, c.in-Some.is) (sym found)
+pub returns-in-Some : goal.returns-in-Some
+returns-in-Some c =
+    let inside = c.self.inside in
+    let rows = rows_of inside.of_names.items in
+    let found = found_row c.in-Some.name.items inside.names rows (rows_count inside.of_names.items ∙ c.self.invariant.rows) in
+    rw (← c.self.view_is, c.in-Some.is)
+    (c.row_at.ensures ∙ ap (λ rs. row_found (rows_of rs) c.find.result) c.deref.ensures.value
+    ∙ ap (row_found rows) (c.find.ensures ∙ ap (λ q. position (bytes_eq q) inside.names) c.as_slice-in-Some.ensures.value) ∙ found)

@@ -1,4 +1,4 @@
-use Rattle.std.proofs.Common.{◌≡◌, ◌∙◌, ◌<◌, ◌+◌, ℕ, List, length, map, ap, refl, sym, subst, arith, Vec}
+use Rattle.std.proofs.Common.{◌≡◌, ◌∙◌, ◌<◌, ◌+◌, ℕ, List, length, map, ap, refl, sym, subst, arith}
 use Rattle.std.specs.Global.{Global}
 use Rattle.std.specs.declared.rc.Rc.{Rc}
 use Rattle.std.proofs.lemmas.List.{length-map}
@@ -48,12 +48,12 @@ returns-clause-skeleton c =
     let bodies = node_bodies c.args.bodies.now in
     let before = c.in_ok-rows.rows.items in
     let uses = c.all_once.new.rows.items in
-    let names = c.in_ok-texts_of_names.field-0.items in
+    let names = c.in_ok-names.field-0 in
     let users = c.in_ok-user_rows.user_rows.items in
     let size : length uses ≡ length (map node_uses bodies) = c.all_once.ensures.size ∙ sym (rows_size before) ∙ ap length c.in_ok-rows.ensures in
     let once : (n : ℕ) → n < length (map node_uses bodies) → IsOnceEach (row_at (map node_uses bodies) n) (row_at (rows_of uses) n) =
     (λ n low. subst (λ (rows : List (List ℕ)). IsOnceEach (row_at rows n) (row_at (rows_of uses) n)) c.in_ok-rows.ensures (c.all_once.ensures.rows n (omega (arith, low, size, c.all_once.ensures.size)))) in
-    let count_is : c.count-count.result ≡ length names = c.count-count.ensures ∙ ap length (sym c.in_ok-texts_of_names.ensures) ∙ length-map names (λ (t : Vec ℕ Global). t.items) in
+    let count_is : c.count-count.result ≡ length names = c.count-count.ensures ∙ ap length (sym c.in_ok-names.ensures) in
     record {
       size = size;
       once = once;

@@ -1,4 +1,4 @@
-use Rattle.std.proofs.Common.{◌≡◌, ◌∙◌, ◌<◌, ◌+◌, ℕ, Bool, List, length, map, get_or, ap, refl, sym, subst, arith, false, Vec}
+use Rattle.std.proofs.Common.{◌≡◌, ◌∙◌, ◌<◌, ◌+◌, ℕ, Bool, List, length, map, get_or, ap, refl, sym, subst, arith, false}
 use Rattle.std.specs.Global.{Global}
 use Rattle.std.specs.declared.rc.Rc.{Rc}
 use Rattle.std.proofs.lemmas.List.{length-map}
@@ -18,7 +18,7 @@ use Rattle.tangle_graph.specs.Nodes.{title_at, node_at}
 use Rattle.tangle_graph.specs.Ordering.{IsOrderIn}
 use Rattle.tangle_graph.specs.Outputs.{is_expandable}
 use Rattle.tangle_graph.specs.Plans.{AreFilled, ArePlanned, node_bodies, slots_of, uses_of_plans}
-use Rattle.tangle_graph.specs.Rows.{node_rows, bytes_of_names}
+use Rattle.tangle_graph.specs.Rows.{node_rows}
 use Rattle.tangle_graph.specs.Stores.{AreWithin, is_filled}
 use Rattle.tangle_graph.specs.declared.skeleton.Skeleton.{Skeleton}
 use Rattle.tangle_graph.proofs.FaultLemmas.{containing_flag, defined_flag, defined_size, reaching_flag}
@@ -66,18 +66,18 @@ returns-clause-store c =
     let has : ℕ → Bool = (λ id. get_or c.args.filled.items id false) in
     let has_is : (id : ℕ) → id < length table.names → has id ≡ is_filled (row_at (rows_of pieces) id) =
     (λ id low. c.requires.filled.flag id (omega (arith, low, graph.rows_size, rows_size pieces))) in
-    let count : length skeleton.names.items ≡ length table.names = sym (length-map skeleton.names.items (λ (name : Vec ℕ Global). name.items)) ∙ ap length c.requires.names in
+    let count : length skeleton.names ≡ length table.names = ap length c.requires.names in
     let is = c.requires.skeleton in
     record {
       store = store_made web table pieces uses is.users skeleton.self_containing.items measures.weights.items measures.depths.items measures.expandable.items c.in_ok-outputs.outputs.items c.in_ok-faults.faults.items
           (slots_of bodies) (uses_of_plans bodies) (node_bodies bodies) has distinct inside graph is.converse is.increasing is.users_size is.containing weighed measured limited has_is c.requires.plans c.requires.bodies
           (λ symbols node. c.filled_plans_are_right.ensures web table has symbols levels node inside)
-          (bytes_of_names skeleton.names.items) (node_rows skeleton.used_nodes.items) (node_rows skeleton.user_nodes.items) c.requires.names
+          skeleton.names (node_rows skeleton.used_nodes.items) (node_rows skeleton.user_nodes.items) c.requires.names
           (is.used_nodes ∙ ap (λ k. map (map (node_at k)) (rows_of uses)) count) (is.user_nodes ∙ ap (λ k. map (map (node_at k)) (rows_of is.users)) count);
       names = c.requires.names;
       outputs = c.in_ok-outputs.ensures;
       faults = c.in_ok-faults.ensures;
-      grouped = grouped_by web table pieces uses (bytes_of_names skeleton.names.items) graph c.requires.names _ (λ a. refl);
+      grouped = grouped_by web table pieces uses skeleton.names graph c.requires.names _ (λ a. refl);
     }
 
 pub invariant_of-result : goal.invariant_of-result
@@ -97,7 +97,7 @@ invariant_of-result c =
     (λ n room. c.in_ok-measures.ensures.depths n (omega (arith, room, same))) in
     let within : AreWithin (rows_of pieces) measures.weights.items measures.depths.items measures.expandable.items =
     subst (λ (g : Graph). AreWithin (rows_of g) measures.weights.items measures.depths.items measures.expandable.items) c.deref-rows.ensures.value c.in_ok-measures.ensures.within in
-    let count : length skeleton.names.items ≡ length table.names = sym (length-map skeleton.names.items (λ (name : Vec ℕ Global). name.items)) ∙ ap length c.requires.names in
+    let count : length skeleton.names ≡ length table.names = ap length c.requires.names in
     let used : node_rows skeleton.used_nodes.items ≡ map (map (node_at (length table.names))) (rows_of uses) = c.requires.skeleton.used_nodes ∙ ap (λ k. map (map (node_at k)) (rows_of uses)) count in
     let nodes : skeleton.node_order.items ≡ map (node_at (length table.names)) skeleton.order.items = c.requires.skeleton.node_order ∙ ap (λ k. map (node_at k) skeleton.order.items) count in
     record {
@@ -105,7 +105,7 @@ invariant_of-result c =
       skeleton = c.requires.skeleton;
       order = subst (IsOrderIn _) (sym nodes)
           (order_is web table pieces uses skeleton.order.items measures.weights.items measures.depths.items measures.expandable.items _ graph c.requires.skeleton.order within measured c.requires.names used refl);
-      uses = names_below web table (rows_of pieces) (node_bodies bodies) (length skeleton.names.items) inside c.requires.bodies (sym count);
+      uses = names_below web table (rows_of pieces) (node_bodies bodies) (length skeleton.names) inside c.requires.bodies (sym count);
       planned = subst (λ (ns : List (List ℕ)). ArePlanned ns (λ id. get_or c.args.filled.items id false) (node_bodies bodies)) (sym c.requires.names) c.requires.planned;
     }
 

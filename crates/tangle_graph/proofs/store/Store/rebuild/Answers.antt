@@ -58,7 +58,7 @@ returns-clause-kept c = λ n e.
     let names = c.in_ok-store.ensures.store.names in
     record {
       before = held.2.0.before;
-      inside = omega (arith, held.2.0.inside, ap length old.names, length-map c.bodies-before.result.names.now (λ (v : Vec ℕ Global). v.items));
+      inside = omega (arith, held.2.0.inside, ap length old.names);
       title = ap (λ (ns : List (List ℕ)). title_at ns held.2.0.before) (sym old.names) ∙ held.2.0.title ∙ ap (λ (ns : List (List ℕ)). title_at ns n) (sym names);
       body = held.0;
       had = ap (λ (bs : List NodeBody). slice_get bs held.2.0.before) (sym old.bodies) ∙ held.2.0.had;

@@ -1,0 +1,71 @@
+//! The full names of a web, for those who keep them beside its table.
+ghost use Rattle.std.specs.Prelude.{◌≡◌, ◌<◌, [], IfOk, length, position, slice_index_or};
+ghost use Rattle.std.specs.Str.{bytes_eq};
+ghost use Rattle.tangle_names.specs.Numbers.{key_texts};
+
+use crate::resolution::Resolution;
+use std::marker::Model;
+use std::rc::Rc;
+use tangle_lines::NoMemory;
+
+/// The full names of a web, each under its number. What keeps them shares them with the table, so
+/// that their bytes are there once.
+#[derive(Drop)]
+pub struct Names {
+    resolution: Rc<Resolution>,
+}
+
+impl Model for Names {
+    ghost use Rattle.std.specs.Prelude.{List};
+    ghost use Rattle.tangle_names.specs.Names.{Text};
+    ghost use Rattle.tangle_names.specs.Numbers.{key_texts};
+
+    ghost Value = { List Text };
+
+    ghost view = { λ n. key_texts n.resolution.value.names.keys };
+}
+
+impl Names {
+    /// The names of what occurrences resolve to.
+    pub(crate) fn new(resolution: Rc<Resolution>) -> Names
+        ensures { result ≡ key_texts resolution.value.names.keys }
+    {
+        Names { resolution }
+    }
+
+    /// The same names, shared.
+    ///
+    /// # Errors
+    ///
+    /// `NoMemory`, where no more shares can be counted.
+    pub fn share(&self) -> Result<Names, NoMemory>
+        ensures { IfOk result (λ names. names ≡ self.now) }
+    {
+        match self.resolution.clone() {
+            Ok(resolution) => Ok(Names { resolution }),
+            Err(_) => Err(NoMemory),
+        }
+    }
+
+    /// How many names there are.
+    pub fn count(&self) -> usize
+        ensures { result ≡ length self.now }
+    {
+        self.resolution.count()
+    }
+
+    /// The text of the name of this number.
+    pub fn text(&self, id: usize) -> &[u8]
+        requires { id < length self.now }
+        ensures { result.now ≡ slice_index_or self.now id [] }
+    {
+        self.resolution.text(id)
+    }
+
+    /// The number of the name with this text, if it is one.
+    pub fn find(&self, text: &[u8]) -> Option<usize>
+        ensures { result ≡ position (bytes_eq text.now) self.now }
+    {
+        self.resolution.find(text)
+    }
+}
