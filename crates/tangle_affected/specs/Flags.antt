@@ -1,4 +1,4 @@
--- Flags of nodes by number. These words are cited by private contracts alone.
+-- Flags of nodes by number. These definitions are cited by private contracts alone.
 use Rattle.std.specs.Prelude.{◌≡◌, ◌≢◌, ◌↔◌, ◌&&◌, ℕ, Bool, true, false, List, length, slice_index_or, Contains}
 use Rattle.tangle_expansion.specs.Affected.{IsAffected}
 use Rattle.tangle_expansion.specs.Limits.{levels, heaviest}

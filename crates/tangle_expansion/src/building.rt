@@ -46,14 +46,13 @@ fn add_origin(origins: &mut Vec<Origin>, item: Item) -> Result<(), NoMemory>
     Ok(())
 }
 
-/// The origins of a piece's marks, its opening mark's first.
+/// The origins of the marks in a piece.
 fn mark_origins(alloc: Global, piece: &Piece) -> Result<Vec<Origin>, NoMemory>
     ensures are { IfOk result
-        (λ origins. origins.items ≡ piece.now.origin ∷ flat_map item_origins piece.now.items) }
+        (λ origins. origins.items ≡ flat_map item_origins piece.now.items) }
     ensures low { IfOk result (λ origins. All IsLow origins.items) }
 {
     let mut origins = Vec::new(alloc);
-    origins.push(low_origin(piece.origin()))?;
     if !piece.may_have_mark() {
         return Ok(origins);
     }
@@ -68,8 +67,9 @@ fn numbers_of_piece(alloc: Global, piece: &Piece) -> Result<PieceNumbers, NoMemo
     ensures are { IfOk result (λ numbers. numbers ≡ numbers_of_piece_read piece.now) }
     ensures short { IfOk result IsShort }
 {
+    let opening = low_origin(piece.origin());
     let marks = mark_origins(alloc, piece)?;
-    Ok(PieceNumbers::new(piece.section(), marks))
+    Ok(PieceNumbers::new(piece.section(), opening, marks))
 }
 
 /// The section and the origins of the marks of each of these pieces of the web.
@@ -83,7 +83,7 @@ fn numbers_of_pieces(
         (λ all. all.items ≡ map numbers_of_piece_read (pieces_at web.now.pieces pieces.now)) }
     ensures short { IfOk result (λ all. All IsShort all.items) }
 {
-    let mut all = Vec::new(alloc);
+    let mut all = Vec::with_capacity(alloc, pieces.len())?;
     let of_web = web.pieces();
     for piece in pieces {
         all.push(numbers_of_piece(alloc, &of_web[*piece])?)?;

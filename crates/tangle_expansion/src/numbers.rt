@@ -1,5 +1,5 @@
 //! The section numbers, origins and macro texts of a web.
-ghost use Rattle.std.specs.Prelude.{◌≡◌, ◌<◌, ◌^◌, [], get_or, length, map, vec_len};
+ghost use Rattle.std.specs.Prelude.{◌≡◌, ◌<◌, ◌^◌, ◌∷◌, [], get_or, length, map, vec_len};
 ghost use Rattle.std.specs.List.{All, zip};
 ghost use Rattle.tangle_plans.specs.Meaning.{title_of};
 ghost use Rattle.tangle_expansion.specs.Numbers.{PieceNumbersRead, node_numbers, no_numbers};
@@ -11,27 +11,47 @@ use std::marker::Model;
 use tangle_lines::{MarkMode, Origin};
 use tangle_names::Names;
 
-/// The section number of a piece, and the origins of its marks.
+/// The section number of a piece, and the origins of its opening mark and of the marks in it. Most
+/// pieces have none in them, and take no memory for it.
 #[derive(Drop)]
 pub(crate) struct PieceNumbers {
     section: usize,
+    opening: Origin,
     marks: Vec<Origin>,
 }
 
 impl Model for PieceNumbers {
+    ghost use Rattle.std.specs.Prelude.{◌∷◌};
     ghost use Rattle.tangle_expansion.specs.Numbers.{PieceNumbersRead};
 
     ghost Value = { PieceNumbersRead };
 
-    ghost view = { λ p. record { section = p.section; marks = p.marks.items } };
+    ghost view = { λ p. record { section = p.section; marks = p.opening ∷ p.marks.items } };
 }
 
 impl PieceNumbers {
-    /// The numbers of a piece of this section with these marks.
-    pub(crate) fn new(section: usize, marks: Vec<Origin>) -> Self
-        ensures { result ≡ record { section = section; marks = marks.items } }
+    /// The numbers of a piece of this section with these marks behind the opening one.
+    pub(crate) fn new(section: usize, opening: Origin, marks: Vec<Origin>) -> Self
+        ensures { result ≡ record { section = section; marks = opening ∷ marks.items } }
     {
-        PieceNumbers { section, marks }
+        PieceNumbers {
+            section,
+            opening,
+            marks,
+        }
+    }
+
+    /// The origin of the mark with this number, the opening one first.
+    fn mark(&self, number: usize) -> Origin
+        ensures { result ≡ get_or self.now.marks number no_origin }
+    {
+        if number == 0 {
+            return self.opening;
+        }
+        match self.marks.get(number - 1) {
+            Some(origin) => *origin,
+            None => Origin { file: 0, line: 0 },
+        }
     }
 }
 
@@ -163,10 +183,7 @@ pub(crate) fn origin_at(pieces: &[PieceNumbers], piece: usize, mark: usize) -> O
     ensures { result ≡ get_or (get_or pieces.now piece no_numbers).marks mark no_origin }
 {
     match pieces.get(piece) {
-        Some(numbers) => match numbers.marks.get(mark) {
-            Some(origin) => *origin,
-            None => Origin { file: 0, line: 0 },
-        },
+        Some(numbers) => numbers.mark(mark),
         None => Origin { file: 0, line: 0 },
     }
 }

@@ -1,5 +1,5 @@
--- What is kept of a web's names that depends on no origin. These words are cited by private contracts
--- alone.
+-- What is kept of a web's names that depends on no origin. These definitions are cited by private
+-- contracts alone.
 use Rattle.std.specs.Prelude.{◌≡◌, List, [], length, map}
 use Rattle.tangle_faults.specs.Faults.{FaultRead}
 use Rattle.tangle_lexer.specs.Occurrences.{OccurrenceRead}

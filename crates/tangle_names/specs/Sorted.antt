@@ -1,4 +1,4 @@
--- The full names of a web in the order of their bytes. These words are cited by private contracts alone.
+-- The full names of a web in the order of their bytes. These definitions are cited by private contracts alone.
 use Rattle.std.specs.Prelude.{◌≡◌, ◌<◌, ℕ, true, List, [], length, map, slice_index_or, Contains}
 use Rattle.std.specs.Ordering.{nat_cmp}
 use Rattle.std.specs.Cmp.Lexicographic.{slice_cmp}

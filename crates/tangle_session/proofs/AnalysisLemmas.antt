@@ -14,7 +14,7 @@ use Rattle.tangle_graph.specs.Faults.{AreGraphFaults}
 use Rattle.tangle_graph.specs.Outputs.{outputs}
 use Rattle.tangle_graph.specs.Stores.{StoreRead, IsStoreOf, KeepsBodies}
 use Rattle.tangle_session.specs.Files.{shapes_of, source_at, web_at}
-use Rattle.tangle_session.specs.Sessions.{IsGround, IsAnalysisOf, IsAnalysisAt}
+use Rattle.tangle_session.specs.Sessions.{IsAnalysis, IsAnalysisOf, IsAnalysisAt}
 use Rattle.tangle_session.specs.declared.analysis.Analysis.{Analysis}
 
 -- bodies that are kept stay so, where the store's faults are taken
@@ -101,7 +101,7 @@ pub analysis_of : (files : FileTable) (roles : RolesRead) (marks : MarkMode) (an
 analysis_of files roles marks analysis same is = subst (λ m. IsAnalysisAt files (record roles { marks = m }) analysis) same is
 
 -- the table of an analysis is that of its occurrences
-pub table_before : (analysis : Analysis) → IsGround analysis → analysis.table ≡ table_over analysis.occurrences.items analysis.table.faults
+pub table_before : (analysis : Analysis) → IsAnalysis analysis → analysis.table ≡ table_over analysis.occurrences.items analysis.table.faults
 table_before analysis is =
     let made = is.made in
     made.table ∙ (λ i. table_over (sym made.occurrences i) (sym (ap (λ (t : TableRead). t.faults) made.table) i))

@@ -74,7 +74,7 @@ IsAnalysisAt files roles analysis =
     IsAnalysisOf (source_at files roles) (web_at files roles) roles.out roles.marks analysis
 
 -- the analysis of some files and roles
-pub record IsGround (analysis : Analysis) : Type 0 where
+pub record IsAnalysis (analysis : Analysis) : Type 0 where
   pub files : FileTable
   pub roles : RolesRead
   pub made : IsAnalysisAt files roles analysis

@@ -8,7 +8,7 @@ ghost use Rattle.tangle_graph.specs.Outputs.{outputs};
 ghost use Rattle.tangle_graph.specs.Stores.{IsStoreOf, KeepsBodies};
 ghost use Rattle.tangle_graph.specs.WebStores.{IsStoreOfWeb};
 ghost use Rattle.tangle_session.specs.Files.{shapes_of};
-ghost use Rattle.tangle_session.specs.Sessions.{IsGround, IsAnalysisAt};
+ghost use Rattle.tangle_session.specs.Sessions.{IsAnalysis, IsAnalysisAt};
 
 use std::alloc::Global;
 use tangle_expansion::Numbers;
@@ -33,7 +33,7 @@ pub(crate) struct Analysis {
 
 /// The table of a web's names, built over those of the old analysis, if there is one.
 fn name_table(alloc: Global, web: &Web, old: Option<&Analysis>) -> Result<NameTable, NoMemory>
-    requires { IfSome old (λ before. IsGround before.now) }
+    requires { IfSome old (λ before. IsAnalysis before.now) }
     ensures { IfOk result (λ table. table ≡ table_of web.now) }
 {
     match old {
@@ -77,7 +77,7 @@ impl Analysis {
         marks: MarkMode,
         old: Option<&Analysis>,
     ) -> Result<Analysis, NoMemory>
-        requires { IfSome old (λ before. IsGround before.now) }
+        requires { IfSome old (λ before. IsAnalysis before.now) }
         ensures table { IfOk result (λ made. made.table ≡ table_over web.now.occurrences []) }
         ensures store { IfOk result (λ made. IsStoreOf (shapes_of web.now) made.store) }
         ensures store_names { IfOk result (λ made. made.store.names ≡ (table_of web.now).names) }
@@ -140,7 +140,7 @@ impl Analysis {
         old: Option<&Analysis>,
     ) -> Result<Analysis, NoMemory>
         requires fits { fits files.now roles.now ≡ true }
-        requires old { IfSome old (λ before. IsGround before.now) }
+        requires old { IfSome old (λ before. IsAnalysis before.now) }
         ensures made { IfOk result (λ made.
             IsAnalysisAt files.now (record roles.now { marks = marks }) made) }
         ensures kept { IfOk result (λ made. IfSome old.entry

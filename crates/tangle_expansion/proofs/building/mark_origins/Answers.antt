@@ -1,4 +1,4 @@
-use Rattle.std.proofs.Common.{◌≡◌, ◌∷◌, [], List, false, refl, flat_map}
+use Rattle.std.proofs.Common.{◌≡◌, ◌∙◌, ◌∷◌, [], List, false, refl, sym, flat_map}
 use Rattle.std.specs.List.{list_any}
 use Rattle.tangle_scan.specs.declared.items.Item.{Item}
 use Rattle.tangle_scan.specs.declared.items.Item.TheVariants as item
@@ -15,4 +15,4 @@ no-origins (_ ∷ items) h = no-origins items h
 pub returns-then-not-may_have_mark-clause-are : goal.returns-then-not-may_have_mark-clause-are
 returns-then-not-may_have_mark-clause-are c =
     let none = no-origins c.args.piece.now.items (c.may_have_mark.ensures c.if-not-may_have_mark.true) in
-    rw (none, c.in_ok-push.ensures.items, c.new-origins.ensures.items, c.low_origin.ensures.same, c.origin.ensures) refl
+    c.new-origins.ensures.items ∙ sym none
