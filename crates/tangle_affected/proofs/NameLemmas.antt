@@ -33,11 +33,6 @@ none_found p xs k d none h t =
     let both : None ≡ Some (position_or_len p xs) = sym none ∙ some in
     absurd (cc)
 
-pub name_found : (names : List (List ℕ)) (text : List ℕ) (id : ℕ) → position (bytes_eq text) names ≡ Some id → (id < length names) × (title_at names id ≡ Named text)
-name_found names text id found =
-    let at = position-Some (bytes_eq text) names id [] found in
-    (at.0, title_inside names id at.0 ∙ ap Named (sym ((bytes_eq-Decides text (get_or names id [])).0 at.1)))
-
 pub name_absent : (names : List (List ℕ)) (text : List ℕ) (other : Node) → position (bytes_eq text) names ≡ None → title_of_node names other ≡ Named text → ⊥
 name_absent names text Program none e = absurd (let both : title.Program ≡ Named text = e in cc)
 name_absent names text (Name id) none e =

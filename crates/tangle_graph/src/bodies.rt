@@ -89,9 +89,6 @@ pub(crate) fn no_bodies<'s>(names: &'s Names, filled: &'s [bool]) -> OldBodies<'
     }
 }
 
-/// Among how many names of a store the next name of a table is looked for.
-const LOOKED_AT: usize = 8;
-
 /// Whether the name with this number has this text.
 fn is_name_at(names: &Names, id: usize, text: &[u8]) -> bool
     ensures title { result ≡ true → title_at names.now id ≡ Named text.now }
@@ -100,31 +97,27 @@ fn is_name_at(names: &Names, id: usize, text: &[u8]) -> bool
     id < names.count() && names.text(id) == text
 }
 
-/// The number of the name with this text, if it is this one or one of the next few.
-// Where an edit makes names come or go, the others stay in their order.
-fn number_before(names: &Names, first: usize, text: &[u8]) -> Option<usize>
-    ensures title { IfSome result
-        (λ id. title_at names.now id ≡ Named text.now) }
-    ensures within { IfSome result (λ id. id < length names.now) }
+/// The number of the name with this text, if it is one. It is looked for at this number first.
+// Most edits leave each name its number, and then nothing is looked up.
+fn number_before(names: &Names, id: usize, text: &[u8]) -> Option<usize>
+    ensures title { IfSome result (λ before. title_at names.now before ≡ Named text.now) }
+    ensures within { IfSome result (λ before. before < length names.now) }
 {
-    for id in first..first.saturating_add(LOOKED_AT) {
-        if is_name_at(names, id, text) {
-            return Some(id);
-        }
+    if is_name_at(names, id, text) {
+        return Some(id);
     }
-    None
+    names.find(text)
 }
 
-/// The number that the node with this number had, if it is the program, or a name that is found
-/// among the next few.
+/// The number that the node with this number had, if it is the program, or one of the names.
 #[tactic(auto, using(crate::proofs::NodeLemmas::title_inside, crate::proofs::NodeLemmas::title_past))]
-fn node_before(names: &Names, first: usize, table: &NameTable, n: usize) -> Option<usize>
+fn node_before(names: &Names, table: &NameTable, n: usize) -> Option<usize>
     ensures title { IfSome result (λ m. title_at names.now m
         ≡ title_at table.now.names n) }
     ensures within { IfSome result (λ m. m ≤ length names.now) }
 {
     if n < table.count() {
-        number_before(names, first, table.text(n))
+        number_before(names, n, table.text(n))
     } else {
         Some(names.count())
     }
@@ -213,11 +206,10 @@ fn body_in_place<'s>(
 }
 
 /// The body that the node with this number had, if it may be kept. Where names came or went, it is
-/// looked for from the number of the first old name on that was not found yet.
+/// looked for by the name of the node.
 fn body_before<'s>(
     old: OldBodies<'s>,
     are_in_place: bool,
-    first: &mut usize,
     table: &NameTable,
     has_piece: &[bool],
     n: usize,
@@ -234,13 +226,7 @@ fn body_before<'s>(
     if are_in_place {
         return body_in_place(old, table, has_piece, n);
     }
-    match node_before(old.names, *first, table, n) {
-        Some(m) => {
-            *first = m.saturating_add(1);
-            body_at(old, m, has_piece)
-        }
-        None => None,
-    }
+    body_at(old, node_before(old.names, table, n)?, has_piece)
 }
 
 /// The body of a node, and whether it is that of before.
@@ -336,9 +322,8 @@ pub(crate) fn bodies_by_node(
     let mut planning = Planning::new(alloc);
     let mut bodies = Vec::with_capacity(alloc, pieces.len())?;
     let mut are_kept = Vec::with_capacity(alloc, pieces.len())?;
-    let mut first = 0;
     for (n, row) in pieces.iter().enumerate() {
-        let before = body_before(old, are_in_place, &mut first, table, has_piece, n);
+        let before = body_before(old, are_in_place, table, has_piece, n);
         let made = body_after(alloc, &mut planning, web, table, has_piece, n, row, before)?;
         are_kept.push(made.is_kept && uses_as_before(are_in_place, &made.body))?;
         bodies.push(made.body)?;

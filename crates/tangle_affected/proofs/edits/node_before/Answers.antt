@@ -3,8 +3,8 @@ use Rattle.std.proofs.lemmas.Slice.Eq.{bytes_eq-Decides}
 use Rattle.tangle_plans.specs.Shapes.{Named}
 use Rattle.tangle_plans.specs.declared.nodes.Node.TheVariants.{Name}
 use Rattle.tangle_graph.specs.Nodes.{IsNodeOf, title_of_node}
-use Rattle.tangle_graph.proofs.NodeLemmas.{title_inside}
-use Rattle.tangle_affected.proofs.NameLemmas.{name_found, name_absent}
+use Rattle.tangle_graph.proofs.NodeLemmas.{name_found, title_inside}
+use Rattle.tangle_affected.proofs.NameLemmas.{name_absent}
 use Rattle.tangle_affected.proofs.edits.node_before.Goals as goal
 
 pub returns-in-Some-clause-some : goal.returns-in-Some-clause-some
