@@ -78,4 +78,3 @@ uses_more bodies i body low read =
     ap (λ l. map node_uses (node_bodies l)) (take_more bodies i body low ∙ (λ j. take i bodies ++ sym read j ∷ []))
     ∙ ap (map node_uses) (map-append (λ (t : Rc NodeBody Global). t.value) (take i bodies) (body ∷ []))
     ∙ map-append node_uses (node_bodies (take i bodies)) (body.value ∷ [])
-

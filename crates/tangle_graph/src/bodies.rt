@@ -14,6 +14,7 @@ ghost use Rattle.tangle_graph.specs.Plans.{node_bodies};
 ghost use Rattle.tangle_graph.specs.Plans.{slots_of, uses_of_plans};
 
 use crate::measures::is_filled;
+use crate::nodes::entry;
 use std::alloc::{AllocError, Global};
 use std::rc::Rc;
 use tangle_lines::NoMemory;
@@ -123,22 +124,12 @@ fn node_before(names: &Names, table: &NameTable, n: usize) -> Option<usize>
     }
 }
 
-/// Whether the flags say that the name with this number has a piece.
-fn has_flag(flags: &[bool], id: usize) -> bool
-    ensures { result ≡ slice_index_or flags.now id false }
-{
-    match flags.get(id) {
-        Some(flag) => *flag,
-        None => false,
-    }
-}
-
 /// Whether two lists of flags say the same of the name with this number.
 fn is_flagged_alike(flags: &[bool], others: &[bool], id: usize) -> bool
     ensures { result ≡ true
         → slice_index_or flags.now id false ≡ slice_index_or others.now id false }
 {
-    has_flag(flags, id) == has_flag(others, id)
+    entry(flags, Some(id), false) == entry(others, Some(id), false)
 }
 
 /// Whether they say the same of each of these names.

@@ -81,7 +81,7 @@ pub(crate) fn run_of<'w>(web: &'w Web, span: Span) -> Run<'w>
 }
 
 /// Where a range ends with the one behind it, if that begins where it ends.
-pub(crate) fn joined(run: Run, span: Span) -> Option<usize>
+fn joined(run: Run, span: Span) -> Option<usize>
     ensures { IfSome result (λ end. IsJoined run.entry span (record run.entry { end = end })) }
 {
     if run.number == span.line && run.end == span.start as usize {
@@ -102,7 +102,7 @@ fn is_blank(item: &Item) -> bool
 }
 
 /// Where a range ends with an item behind it, if that is white space, and a space in the source.
-pub(crate) fn with_space(run: Run, item: &Item) -> Option<usize>
+fn with_space(run: Run, item: &Item) -> Option<usize>
     ensures { IfSome result (λ end. IsRunWith run.entry item.now blank_tag
         (record run.entry { end = end })) }
 {
