@@ -1,13 +1,13 @@
 -- A look-up of a name in rows, one for each name.
-use Rattle.std.proofs.Common.{◌≡◌, ◌∙◌, ◌+◌, ◌<◌, ◌≤◌, ℕ, zero, suc, Bool, true, false, cond, not, List, [], ◌∷◌, map, length, Option, None, Some, refl, ap, sym, arith, All}
-use Rattle.std.specs.Prelude.{nat_lt, unwrap_or, slice_get, slice_index_or, Vec}
+use Rattle.std.proofs.Common.{◌≡◌, ◌∙◌, ◌+◌, ◌≤◌, ℕ, zero, suc, Bool, true, false, cond, not, List, [], ◌∷◌, map, length, None, Some, refl, ap, sym, arith, All}
+use Rattle.std.specs.Prelude.{nat_lt, unwrap_or, slice_get, Vec}
 use Rattle.std.specs.Global.{Global}
 use Rattle.std.proofs.lemmas.List.{length-map}
 use Rattle.std.specs.List.{position, position_or_len, zip}
 use Rattle.std.specs.Map.{lookup}
 use Rattle.std.specs.Str.{bytes_eq}
 use Rattle.std.proofs.lemmas.Option.{slice_get_past, unwrap_or-slice_get}
-use borrow.Author.Tests.{ltb-true, ltb-false}
+use borrow.Author.Tests.{ltb-false}
 use Rattle.tangle_expansion.specs.Numbers.{PieceNumbersRead}
 use Rattle.tangle_expansion.specs.NumbersKept.{row_found, rows_of}
 use Rattle.tangle_expansion.specs.TextLimits.{EntryIsShort, IsShort}

@@ -1,5 +1,5 @@
 -- The items of a web use names of its table.
-use Rattle.std.proofs.Common.{◌≡◌, ◌∙◌, ◌<◌, ◌≤◌, ◌+◌, ℕ, Bool, true, false, List, [], length, flat_map, get_or, ap, sym, subst, arith, Vec}
+use Rattle.std.proofs.Common.{◌≡◌, ◌∙◌, ◌<◌, ◌≤◌, ◌+◌, ℕ, Bool, true, false, List, [], length, flat_map, get_or, ap, sym, subst, arith}
 use Rattle.std.specs.Prelude.{All, sum_by, nat_lt, slice_get, None, Some, Option, IfSome}
 use Rattle.std.specs.Borrow.{Bor}
 use Rattle.std.specs.Global.{Global}
@@ -12,7 +12,7 @@ use Rattle.tangle_scan.specs.Web.{WebRead}
 use Rattle.tangle_names.specs.NameTable.{TableRead}
 use Rattle.tangle_plans.specs.ItemTags.{pieces_names, shape_of}
 use Rattle.tangle_plans.specs.ItemSlots.{pieces_at, pieces_slots}
-use Rattle.tangle_plans.specs.Shapes.{Title, Named}
+use Rattle.tangle_plans.specs.Shapes.{Title}
 use Rattle.tangle_plans.specs.NodeBodies.{HoldsShape, node_title, node_uses, plan_slots}
 use Rattle.tangle_plans.specs.WebShapes.{ResolvesInside}
 use Rattle.tangle_plans.specs.declared.nodes.NodeBody.{NodeBody}
@@ -22,7 +22,6 @@ use Rattle.tangle_graph.specs.Nodes.{title_at}
 use Rattle.tangle_plans.specs.Comparing.{IsPlanned}
 use Rattle.tangle_graph.proofs.GraphLemmas.{pieces_below}
 use Rattle.tangle_graph.proofs.PlanLemmas.{names_same}
-use Rattle.tangle_graph.proofs.NodeLemmas.{title_inside}
 use Rattle.tangle_graph.proofs.WeightLemmas.{weight_counted}
 
 pub names_below : (web : WebRead) (table : TableRead) (rows : List (List ℕ)) (bodies : List NodeBody) (count : ℕ) → ResolvesInside table → AreBodies web table rows bodies → length table.names ≡ count

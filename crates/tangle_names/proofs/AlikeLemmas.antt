@@ -1,17 +1,16 @@
 -- What the names resolve to depends on how the occurrences are written alone.
-use Rattle.std.proofs.Common.{◌≡◌, ◌<◌, ◌+◌, ◌∙◌, ◌&&◌, ℕ, Bool, true, false, cond, not, List, [], ◌∷◌, ◌++◌, length, map, filter, take, get_or, refl, ap, sym, subst, arith, Option, Some, None, position}
+use Rattle.std.proofs.Common.{◌≡◌, ◌<◌, ◌+◌, ◌∙◌, ◌&&◌, ℕ, Bool, true, false, cond, not, List, [], ◌∷◌, length, map, filter, get_or, refl, ap, sym, subst, Some, None, position}
 use Rattle.std.specs.Prelude.{nat_lt}
 use Rattle.std.specs.List.{position_or_len}
-use Rattle.std.proofs.lemmas.List.{get_or-map, length-map, map_push, take_more}
-use Rattle.tangle_faults.specs.declared.faults.Origin.{Origin}
+use Rattle.std.proofs.lemmas.List.{get_or-map, length-map}
 use Rattle.tangle_faults.specs.Faults.{FaultRead}
 use Rattle.tangle_lexer.specs.declared.occurrences.OccurrenceRole.TheVariants.{Mention}
 use Rattle.tangle_lexer.specs.Occurrences.{OccurrenceRead}
-use Rattle.tangle_names.specs.Names.{Text, Meaning, full_names, meaning, means}
+use Rattle.tangle_names.specs.Names.{Text, full_names, meaning, means}
 use Rattle.tangle_names.specs.NameTable.{AreWrittenAlike, TableRead, table_over, written_name}
 use Rattle.tangle_names.specs.declared.resolution.Resolution.{Resolution}
 use Rattle.tangle_names.specs.Resolution.{IsResolutionOf, IsWellKept, table_read}
-use Rattle.tangle_names.specs.Resolving.{first_file_number, first_number, meanings, names_in_order, names_of, resolution, resolve}
+use Rattle.tangle_names.specs.Resolving.{first_file_number, first_number, names_in_order, names_of, resolution, resolve}
 use Rattle.tangle_names.proofs.TableLemmas.{map-map}
 
 -- an occurrence that is written so, without role and origin

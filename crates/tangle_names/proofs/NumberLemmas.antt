@@ -1,20 +1,19 @@
 -- One more occurrence, and one more name.
-use Rattle.std.proofs.Common.{◌≡◌, ◌<◌, ◌≤◌, option_to_list, ◌+◌, ◌∙◌, ℕ, zero, suc, Bool, true, false, cond, not, ◌||◌, ◌&&◌, List, [], ◌∷◌, ◌++◌, length, map, flat_map, take, drop, drop-cons, get_or, refl, ap, sym, arith, append_assoc, append-nil, add-zero, zero-add, Vec}
-use Rattle.std.specs.Global.{Global}
-use Rattle.std.proofs.lemmas.List.{get_or-map, length-map}
+use Rattle.std.proofs.Common.{◌≡◌, ◌<◌, ◌≤◌, option_to_list, ◌+◌, ◌∙◌, ℕ, suc, Bool, true, false, cond, not, ◌||◌, ◌&&◌, List, [], ◌∷◌, length, map, flat_map, take, drop, drop-cons, get_or, refl, ap, sym, arith}
+use Rattle.std.proofs.lemmas.List.{get_or-map}
 use Rattle.std.proofs.lemmas.Option.{slice_get_past}
 use Rattle.std.proofs.lemmas.List.Folds.{list_any_more}
 use Rattle.tangle_names.specs.declared.Resolved.{Resolved}
 use Rattle.tangle_names.specs.declared.Resolved.TheVariants.{NoFullName}
 use Rattle.tangle_faults.specs.declared.faults.FaultKind.TheVariants as kind
-use Rattle.tangle_faults.specs.Faults.{FaultRead, fault_about}
+use Rattle.tangle_faults.specs.Faults.{fault_about}
 use Rattle.tangle_scan.specs.Web.{WebRead}
 use Rattle.tangle_lexer.specs.Occurrences.{OccurrenceRead}
 use Rattle.std.specs.List.{list_any, position_or_len}
 use Rattle.tangle_names.specs.Names.{Text, One}
 use Rattle.tangle_names.specs.Resolving.{resolution}
 use Rattle.tangle_names.specs.Faults.{begins_another, resolution_fault, named_place_of}
-use Rattle.tangle_names.specs.Numbers.{key_texts, is_number, first_by_number, NotesNumber, Flags, fault_of_number, warning}
+use Rattle.tangle_names.specs.Numbers.{is_number, first_by_number, NotesNumber, Flags, fault_of_number, warning}
 
 resolved_at : (f : OccurrenceRead → Resolved) (os : List OccurrenceRead) (rs : List Resolved) (i : ℕ) (o : OccurrenceRead) (r : Resolved) → i < length os → o ≡ get_or os i o
     → rs ≡ map f os → r ≡ get_or rs i r → r ≡ f o

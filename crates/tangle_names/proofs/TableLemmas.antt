@@ -1,22 +1,19 @@
 -- The names in order, what is known of them by their numbers, and the table put together.
-use Rattle.std.proofs.Common.{◌≡◌, ◌<◌, ◌+◌, ◌∙◌, ℕ, zero, suc, Bool, true, false, cond, not, ◌||◌, ◌&&◌, ◌==◌, List, [], ◌∷◌, ◌++◌, length, map, filter, fold, flat_map, get_or, refl, ap, sym, subst, arith, inl, inr, Option, None, Contains, add-zero, zero-add, option_to_list}
+use Rattle.std.proofs.Common.{◌≡◌, ◌<◌, ◌+◌, ◌∙◌, ℕ, zero, suc, Bool, true, false, cond, not, ◌||◌, ◌&&◌, ◌==◌, List, [], ◌∷◌, ◌++◌, length, map, filter, fold, get_or, refl, ap, sym, subst, arith, inl, inr, Option, None, Contains}
 use Rattle.std.specs.List.{list_any, position_or_len}
 use Rattle.std.specs.Str.{bytes_eq}
 use Rattle.std.proofs.lemmas.Bool.Decides.{nat_tests}
 use Rattle.std.proofs.lemmas.Cmp.{nat_list_eq_equiv}
 use Rattle.std.proofs.lemmas.List.{ext_get_or, get_or-map, length-map}
-use Rattle.std.proofs.lemmas.List.Folds.{Any-from_list_any, find_at, list_any-append}
+use Rattle.std.proofs.lemmas.List.Folds.{Any-from_list_any, list_any-append}
 use Rattle.std.proofs.lemmas.List.Elements.{Contains-append_cases, Contains-get_or}
 use Rattle.std.proofs.lemmas.Slice.Eq.{bytes_eq-Decides}
 use Rattle.tangle_names.specs.declared.Resolved.{Resolved}
-use Rattle.tangle_faults.specs.declared.faults.FaultKind.TheVariants as kind
-use Rattle.tangle_faults.specs.Faults.{fault_about, FaultRead}
-use Rattle.tangle_scan.specs.Web.{WebRead}
+use Rattle.tangle_faults.specs.Faults.{FaultRead}
 use Rattle.tangle_lexer.specs.Occurrences.{OccurrenceRead}
-use Rattle.tangle_names.specs.Faults.{named_place_of}
 use Rattle.tangle_names.specs.Names.{Text, Meaning, Nothing, One, Several, full_names, meaning, means, only_with, prefix, begins_with}
-use Rattle.tangle_names.specs.Resolving.{meanings, names_of, names_in_order, resolution, resolve, resolves_to, with_name, first_file_number, first_number, first_occurrence}
-use Rattle.tangle_names.specs.Faults.{begins_another, faults, prefix_fault}
+use Rattle.tangle_names.specs.Resolving.{meanings, names_of, names_in_order, resolution, resolve, resolves_to, with_name, first_file_number, first_number}
+use Rattle.tangle_names.specs.Faults.{begins_another, faults}
 use Rattle.tangle_names.specs.Numbers.{begins_another_by_number, first_by_number, is_number, number_below}
 use Rattle.tangle_names.specs.Sorted.{SameTexts}
 use Rattle.tangle_names.specs.NameTable.{table_over}

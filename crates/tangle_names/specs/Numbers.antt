@@ -1,5 +1,5 @@
 -- Names by their numbers. These words are cited by private contracts alone: the table is built over numbers.
-use Rattle.std.specs.Prelude.{◌≡◌, ◌<◌, ℕ, ◌+◌, Bool, true, false, not, nat_lt, ◌==◌, ◌&&◌, ◌||◌, List, [], ◌∷◌, ◌++◌, length, filter, flat_map, map, slice_get, slice_index_or, Option, Some, None, option_to_list, Vec, if◌then◌else◌}
+use Rattle.std.specs.Prelude.{◌≡◌, ◌<◌, ℕ, Bool, true, false, not, nat_lt, ◌==◌, ◌&&◌, ◌||◌, List, [], length, filter, flat_map, map, slice_get, slice_index_or, Option, Some, None, option_to_list, Vec, if◌then◌else◌}
 use Rattle.std.specs.List.{enumerate_from, list_any, position_or_len}
 use Rattle.std.specs.Global.{Global}
 use Rattle.tangle_names.specs.declared.Resolved.{Resolved}

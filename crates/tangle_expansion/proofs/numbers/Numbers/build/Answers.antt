@@ -1,13 +1,11 @@
 use Rattle.std.proofs.Common.{◌≡◌, ◌∙◌, ℕ, List, ap, map, refl}
-use Rattle.std.specs.Prelude.{flat_map}
 use Rattle.std.specs.List.{zip}
 use Rattle.tangle_names.specs.NameTable.{table_of}
 use Rattle.tangle_plans.specs.Shapes.{Named, Program}
 use Rattle.tangle_plans.specs.WebShapes.{pieces_of}
 use Rattle.tangle_plans.specs.ItemSlots.{pieces_at}
 use Rattle.tangle_plans.specs.declared.nodes.Node.TheVariants as node
-use Rattle.tangle_expansion.specs.MacroTexts.{macro_text}
-use Rattle.tangle_expansion.specs.Numbers.{NumbersRead, PieceNumbersRead, escaped, piece_numbers}
+use Rattle.tangle_expansion.specs.Numbers.{NumbersRead, piece_numbers}
 use Rattle.tangle_expansion.specs.NumbersKept.{rows_of}
 use Rattle.tangle_expansion.proofs.KeptLemmas.{zip_made}
 use Rattle.tangle_expansion.proofs.numbers.Numbers.build.Goals as goal

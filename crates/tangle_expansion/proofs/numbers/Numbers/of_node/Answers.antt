@@ -1,4 +1,4 @@
-use Rattle.std.proofs.Common.{◌∙◌, List, ℕ, ap, position}
+use Rattle.std.proofs.Common.{◌∙◌, ap, position}
 use Rattle.std.specs.Str.{bytes_eq}
 use Rattle.tangle_expansion.specs.NumbersKept.{row_found, rows_of}
 use Rattle.tangle_expansion.proofs.KeptLemmas.{found_row, rows_count}

@@ -1,10 +1,9 @@
-use Rattle.std.proofs.Common.{◌≡◌, ◌∙◌, ◌<◌, ℕ, List, Bool, Vec, arith, length, map, get_or, ap, sym, subst, true, false, true≢false}
+use Rattle.std.proofs.Common.{◌≡◌, ◌∙◌, ◌<◌, ℕ, List, Bool, arith, length, map, get_or, ap, sym, subst, true, false, true≢false}
 use Rattle.std.specs.Global.{Global}
 use Rattle.std.specs.declared.rc.Rc.{Rc}
 use Rattle.std.specs.Prelude.{All, slice_get}
 use Rattle.digraph.specs.Graph.{Graph, rows_of}
 use Rattle.tangle_scan.specs.Web.{PieceRead}
-use Rattle.std.proofs.lemmas.List.{length-map}
 use Rattle.tangle_graph.specs.Nodes.{title_at}
 use Rattle.tangle_plans.specs.NodeBodies.{node_uses, texts_at}
 use Rattle.tangle_plans.specs.WebShapes.{ResolvesInside}

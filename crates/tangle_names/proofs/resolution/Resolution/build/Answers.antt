@@ -1,7 +1,7 @@
-use Rattle.std.proofs.Common.{◌≡◌, ◌∙◌, ap, map, length, arith, ℕ, Vec, [], true, false, sym, subst}
+use Rattle.std.proofs.Common.{◌≡◌, ◌∙◌, ap, map, length, arith, ℕ, Vec, [], sym, subst}
 use Rattle.std.specs.Global.{Global}
 use Rattle.std.proofs.lemmas.List.{length-map}
-use Rattle.tangle_names.specs.Names.{Text, full_names}
+use Rattle.tangle_names.specs.Names.{full_names}
 use Rattle.tangle_names.specs.Resolving.{names_in_order, resolve}
 use Rattle.tangle_names.specs.Numbers.{is_unresolved, key_texts, numbers_from}
 use Rattle.tangle_names.specs.Sorted.{SameTexts, borrowed_names}
