@@ -14,9 +14,9 @@ use tangle_lines::NoMemory;
 use tangle_names::{NameTable, Names};
 use tangle_plans::{Node, NodeBody};
 
-/// The names, shared with their table; of each node the names that it uses and the nodes that use it, and
-/// whether it contains itself or reaches a name that does; and the nodes that reach no cycle, each
-/// after those that it uses.
+/// The names, shared with their table; of each node the names that it uses and the nodes that use
+/// it, and whether it contains itself or reaches a name that does; and the nodes that reach no
+/// cycle, each after those that it uses.
 ///
 /// The stores of a web before and after an edit share it where the names and the uses stay.
 #[derive(Drop)]
