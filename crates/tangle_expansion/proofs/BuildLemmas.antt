@@ -1,19 +1,15 @@
 -- The numbers of names, one name after another.
 use Rattle.std.proofs.Common.{◌≡◌, ◌∙◌, ℕ, ◌+◌, ◌<◌, ◌≤◌, zero, suc, List, [], ◌∷◌, ◌++◌, map, length, take, refl, ap, sym, arith, get_or, add-one}
-use Rattle.std.specs.Prelude.{Vec}
-use Rattle.std.specs.Global.{Global}
 use Rattle.std.proofs.lemmas.List.{map-append}
 use Rattle.std.proofs.Math.Seq.{take-suc}
 use Rattle.tangle_expansion.specs.Numbers.{PieceNumbersRead}
-use Rattle.tangle_expansion.specs.NumbersKept.{rows_of}
 
 -- one more row goes last
-pub rows_next : (f : List ℕ → List PieceNumbersRead) (names : List (List ℕ)) (id : ℕ) (rows : List (Vec PieceNumbersRead Global)) (row : Vec PieceNumbersRead Global) → id < length names
-    → rows_of rows ≡ map f (take id names) → row.items ≡ f (get_or names id [])
-    → rows_of (rows ++ row ∷ []) ≡ map f (take (id + 1) names)
+pub rows_next : (f : List ℕ → List PieceNumbersRead) (names : List (List ℕ)) (id : ℕ) (rows : List (List PieceNumbersRead)) (row : List PieceNumbersRead) → id < length names
+    → rows ≡ map f (take id names) → row ≡ f (get_or names id [])
+    → rows ++ row ∷ [] ≡ map f (take (id + 1) names)
 rows_next f names id rows row low h is =
-    map-append (λ (r : Vec PieceNumbersRead Global). r.items) rows (row ∷ [])
-    ∙ ap (λ l. l ++ row.items ∷ []) h
+    ap (λ l. l ++ row ∷ []) h
     ∙ ap (λ r. map f (take id names) ++ r ∷ []) is
     ∙ sym (map-append f (take id names) (get_or names id [] ∷ []))
     ∙ ap (map f) (sym (take-suc names id [] low) ∙ ap (λ j. take j names) (sym (add-one id)))

@@ -1,15 +1,13 @@
 -- A look-up of a name in rows, one for each name.
 use Rattle.std.proofs.Common.{◌≡◌, ◌∙◌, ◌+◌, ◌≤◌, ℕ, zero, suc, Bool, true, false, cond, not, List, [], ◌∷◌, map, length, None, Some, refl, ap, sym, arith, All}
-use Rattle.std.specs.Prelude.{nat_lt, unwrap_or, slice_get, Vec}
-use Rattle.std.specs.Global.{Global}
-use Rattle.std.proofs.lemmas.List.{length-map}
+use Rattle.std.specs.Prelude.{nat_lt, unwrap_or, slice_get}
 use Rattle.std.specs.List.{position, position_or_len, zip}
 use Rattle.std.specs.Map.{lookup}
 use Rattle.std.specs.Str.{bytes_eq}
 use Rattle.std.proofs.lemmas.Option.{slice_get_past, unwrap_or-slice_get}
 use borrow.Author.Tests.{ltb-false}
 use Rattle.tangle_expansion.specs.Numbers.{PieceNumbersRead}
-use Rattle.tangle_expansion.specs.NumbersKept.{row_found, rows_of}
+use Rattle.tangle_expansion.specs.NumbersKept.{row_found}
 use Rattle.tangle_expansion.specs.TextLimits.{EntryIsShort, IsShort}
 
 module _ (test : List ℕ → Bool) where
@@ -39,9 +37,6 @@ found_row name names rows size = by (nat_lt k (length names)) refl ∙ ap (λ o.
     by false e =
         let high : length names ≤ k = ltb-false k (length names) e in
         sym (ap (λ o. unwrap_or o []) (slice_get_past rows k (omega (arith, high, size))))
-
-pub rows_count : (rows : List (Vec PieceNumbersRead Global)) → length (rows_of rows) ≡ length rows
-rows_count rows = length-map rows (λ (row : Vec PieceNumbersRead Global). row.items)
 
 -- the rows of short pieces are short entries
 pub zip_short : (names : List (List ℕ)) (rows : List (List PieceNumbersRead)) → All (All IsShort) rows → All EntryIsShort (zip names rows)

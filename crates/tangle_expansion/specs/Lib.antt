@@ -9,3 +9,4 @@ pub mod TextLimits
 pub mod Kept
 pub mod Outputs
 pub mod MacroTexts
+pub mod PieceRows

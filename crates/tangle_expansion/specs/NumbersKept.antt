@@ -1,20 +1,15 @@
 -- The numbers as they lie in memory.
 use Rattle.std.specs.Prelude.{◌≡◌, ℕ, List, [], Option, None, Some, length, map, slice_index_or}
 use Rattle.std.specs.List.{zip}
-use Rattle.std.specs.declared.vec.Vec.{Vec}
-use Rattle.std.specs.Global.{Global}
 use Rattle.tangle_expansion.specs.Numbers.{PieceNumbersRead, NumbersRead}
 use Rattle.tangle_expansion.specs.TextLimits.{SymbolsAreShort}
 use Rattle.tangle_expansion.specs.declared.numbers.Numbers.TheInside.{Inside}
 
-abbrev pub rows_of : List (Vec PieceNumbersRead Global) → List (List PieceNumbersRead)
-rows_of rows = map (λ (row : Vec PieceNumbersRead Global). row.items) rows
-
 abbrev pub numbers_read : Inside → NumbersRead
 numbers_read n = record {
   file_names = map (λ f. f.items) n.file_names.items;
-  program = n.program.items;
-  names = zip n.names (rows_of n.of_names.items);
+  program = n.program;
+  names = zip n.names n.of_names.items;
   macros = n.macros.items;
   marks = n.marks;
 }

@@ -11,11 +11,11 @@ ghost use Rattle.tangle_plans.specs.Nodes.{IsGroupedBy};
 ghost use Rattle.tangle_expansion.specs.Numbers.{escaped, item_origins};
 ghost use Rattle.tangle_expansion.specs.Numbers.{piece_numbers as numbers_of_piece_read};
 ghost use Rattle.tangle_expansion.specs.Numbers.{numbers_of};
-ghost use Rattle.tangle_expansion.specs.NumbersKept.{rows_of};
 ghost use Rattle.tangle_expansion.specs.TextLimits.{IsShort, IsLow};
 
 use crate::macros::macros_text;
-use crate::numbers::{Numbers, PieceNumbers};
+use crate::node_numbers::{NodeNumbers, PieceNumbers};
+use crate::numbers::Numbers;
 use bstr::ByteSlice;
 use std::alloc::Global;
 use tangle_lines::{MarkMode, NoMemory, Origin};
@@ -73,22 +73,22 @@ fn numbers_of_piece(alloc: Global, piece: &Piece) -> Result<PieceNumbers, NoMemo
 }
 
 /// The section and the origins of the marks of each of these pieces of the web.
-fn numbers_of_pieces(
-    alloc: Global,
-    web: &Web,
-    pieces: &[usize],
-) -> Result<Vec<PieceNumbers>, NoMemory>
+fn numbers_of_pieces(alloc: Global, web: &Web, pieces: &[usize]) -> Result<NodeNumbers, NoMemory>
     requires { All (λ n. n < length web.now.pieces) pieces.now }
     ensures are { IfOk result
-        (λ all. all.items ≡ map numbers_of_piece_read (pieces_at web.now.pieces pieces.now)) }
-    ensures short { IfOk result (λ all. All IsShort all.items) }
+        (λ all. all ≡ map numbers_of_piece_read (pieces_at web.now.pieces pieces.now)) }
+    ensures short { IfOk result (λ all. All IsShort all) }
 {
+    if let [piece] = pieces {
+        let piece = numbers_of_piece(alloc, &web.pieces()[*piece])?;
+        return Ok(NodeNumbers::one(piece));
+    }
     let mut all = Vec::with_capacity(alloc, pieces.len())?;
     let of_web = web.pieces();
     for piece in pieces {
         all.push(numbers_of_piece(alloc, &of_web[*piece])?)?;
     }
-    Ok(all)
+    Ok(NodeNumbers::several(all))
 }
 
 /// The name of a file, as line marks have it: backslashes and double quotes are escaped.
@@ -123,12 +123,13 @@ fn numbers_of_names<S: PiecesByNode>(
     alloc: Global,
     web: &Web,
     store: &S,
-) -> Result<Vec<Vec<PieceNumbers>>, NoMemory>
+) -> Result<Vec<NodeNumbers>, NoMemory>
     requires { IsGroupedBy web.now (table_of web.now) (S.names store.now) (S.pieces store.now) }
-    ensures are { IfOk result (λ rows. rows_of rows.items
-        ≡ map (λ name. map numbers_of_piece_read (pieces_of web.now (table_of web.now) (Named name)))
-        (table_of web.now).names) }
-    ensures short { IfOk result (λ rows. All (All IsShort) (rows_of rows.items)) }
+    ensures are { IfOk result (λ rows. rows.items
+        ≡ (let table = table_of web.now in
+        map (λ name. map numbers_of_piece_read (pieces_of web.now table (Named name)))
+        table.names)) }
+    ensures short { IfOk result (λ rows. All (All IsShort) rows.items) }
 {
     let count = store.full_names().count();
     let mut rows = Vec::with_capacity(alloc, count)?;

@@ -12,6 +12,7 @@ mod files;
 mod kept;
 mod laws;
 mod macros;
+mod node_numbers;
 mod numbers;
 mod work;
 mod writing;

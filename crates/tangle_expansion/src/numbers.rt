@@ -1,69 +1,25 @@
 //! The section numbers, origins and macro texts of a web.
-ghost use Rattle.std.specs.Prelude.{◌≡◌, ◌<◌, ◌^◌, ◌∷◌, [], get_or, length, map, vec_len};
+ghost use Rattle.std.specs.Prelude.{◌≡◌, ◌<◌, ◌^◌, [], get_or, length, map, vec_len};
 ghost use Rattle.std.specs.List.{All, zip};
 ghost use Rattle.tangle_plans.specs.Meaning.{title_of};
-ghost use Rattle.tangle_expansion.specs.Numbers.{PieceNumbersRead, node_numbers, no_numbers};
-ghost use Rattle.tangle_expansion.specs.Numbers.{no_origin};
-ghost use Rattle.tangle_expansion.specs.NumbersKept.{row_found, rows_of};
+ghost use Rattle.tangle_expansion.specs.Numbers.{node_numbers};
+ghost use Rattle.tangle_expansion.specs.NumbersKept.{row_found};
 ghost use Rattle.tangle_expansion.specs.TextLimits.{IsShort, SymbolsAreShort};
 
+use crate::node_numbers::{NodeNumbers, PieceNumbers};
 use std::marker::Model;
 use tangle_lines::{MarkMode, Origin};
 use tangle_names::Names;
-
-/// The section number of a piece, and the origins of its opening mark and of the marks in it. Most
-/// pieces have none in them, and take no memory for it.
-#[derive(Drop)]
-pub(crate) struct PieceNumbers {
-    section: usize,
-    opening: Origin,
-    marks: Vec<Origin>,
-}
-
-impl Model for PieceNumbers {
-    ghost use Rattle.std.specs.Prelude.{◌∷◌};
-    ghost use Rattle.tangle_expansion.specs.Numbers.{PieceNumbersRead};
-
-    ghost Value = { PieceNumbersRead };
-
-    ghost view = { λ p. record { section = p.section; marks = p.opening ∷ p.marks.items } };
-}
-
-impl PieceNumbers {
-    /// The numbers of a piece of this section with these marks behind the opening one.
-    pub(crate) fn new(section: usize, opening: Origin, marks: Vec<Origin>) -> Self
-        ensures { result ≡ record { section = section; marks = opening ∷ marks.items } }
-    {
-        PieceNumbers {
-            section,
-            opening,
-            marks,
-        }
-    }
-
-    /// The origin of the mark with this number, the opening one first.
-    fn mark(&self, number: usize) -> Origin
-        ensures { result ≡ get_or self.now.marks number no_origin }
-    {
-        if number == 0 {
-            return self.opening;
-        }
-        match self.marks.get(number - 1) {
-            Some(origin) => *origin,
-            None => Origin { file: 0, line: 0 },
-        }
-    }
-}
 
 /// What the texts of a web's expansions take from it: section numbers, origins and the text of the
 /// macros.
 #[derive(Drop)]
 pub struct Numbers {
     file_names: Vec<Vec<u8>>,
-    program: Vec<PieceNumbers>,
+    program: NodeNumbers,
     names: Names,
-    // Of the pieces of each name.
-    of_names: Vec<Vec<PieceNumbers>>,
+    // Of the node of each name.
+    of_names: Vec<NodeNumbers>,
     macros: Vec<u8>,
     marks: MarkMode,
 }
@@ -83,21 +39,21 @@ impl Numbers {
     /// Numbers of these symbols.
     pub(crate) fn new(
         file_names: Vec<Vec<u8>>,
-        program: Vec<PieceNumbers>,
+        program: NodeNumbers,
         names: Names,
-        of_names: Vec<Vec<PieceNumbers>>,
+        of_names: Vec<NodeNumbers>,
         macros: Vec<u8>,
         marks: MarkMode,
     ) -> Self
         requires file_names { All (λ n. vec_len n < 2 ^ 64) file_names.items }
-        requires program { All IsShort program.items }
+        requires program { All IsShort program }
         requires rows { length of_names.items ≡ length names }
-        requires of_names { All (All IsShort) (rows_of of_names.items) }
+        requires of_names { All (All IsShort) of_names.items }
         ensures { result ≡ record {
           file_names = map (λ n. n.items) file_names.items;
           program =
-              program.items;
-          names = zip names (rows_of of_names.items);
+              program;
+          names = zip names of_names.items;
           macros = macros.items;
           marks = marks;
         } }
@@ -156,8 +112,8 @@ impl Numbers {
 }
 
 /// The row of the name that was found; it is empty where none was.
-fn row_at(rows: &[Vec<PieceNumbers>], found: Option<usize>) -> &[PieceNumbers]
-    ensures { result.now ≡ row_found (rows_of rows.now) found }
+fn row_at(rows: &[NodeNumbers], found: Option<usize>) -> &[PieceNumbers]
+    ensures { result.now ≡ row_found rows.now found }
 {
     match found {
         Some(id) => match rows.get(id) {
@@ -165,25 +121,5 @@ fn row_at(rows: &[Vec<PieceNumbers>], found: Option<usize>) -> &[PieceNumbers]
             None => &[],
         },
         None => &[],
-    }
-}
-
-/// The number of the section of a piece.
-pub(crate) fn section_at(pieces: &[PieceNumbers], piece: usize) -> usize
-    ensures { result ≡ (get_or pieces.now piece no_numbers).section }
-{
-    match pieces.get(piece) {
-        Some(numbers) => numbers.section,
-        None => 0,
-    }
-}
-
-/// The origin of a mark of a piece.
-pub(crate) fn origin_at(pieces: &[PieceNumbers], piece: usize, mark: usize) -> Origin
-    ensures { result ≡ get_or (get_or pieces.now piece no_numbers).marks mark no_origin }
-{
-    match pieces.get(piece) {
-        Some(numbers) => numbers.mark(mark),
-        None => Origin { file: 0, line: 0 },
     }
 }

@@ -9,7 +9,8 @@ ghost use Rattle.tangle_expansion.specs.Numbers.{node_numbers, opening_text, clo
 ghost use Rattle.tangle_expansion.specs.Numbers.{mark_text, origin_text, text};
 
 use crate::expansion::{Expansion, SharedExpansion};
-use crate::numbers::{Numbers, PieceNumbers, origin_at, section_at};
+use crate::node_numbers::{PieceNumbers, origin_at, section_at};
+use crate::numbers::Numbers;
 use itoa::Buffer;
 use tangle_lines::{MarkMode, Origin, Sink, WriteFault, put};
 use tangle_plans::{NodeBody, Step, bytes_behind, marks_behind, pieces_behind};

@@ -151,8 +151,8 @@ fn behind_text<'w, 'o>(
     })
 }
 
-/// The position behind an item, if it comes next, with this tag. There is no range behind it: a text
-/// is compared here byte by byte.
+/// The position behind an item, if it comes next, with this tag. No range is left behind it; a text
+/// that begins one is passed by `behind_text`.
 #[inline(always)]
 fn behind_item<'w, 'o>(
     position: Position<'w, 'o>,

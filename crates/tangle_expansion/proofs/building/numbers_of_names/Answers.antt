@@ -1,14 +1,11 @@
-use Rattle.std.proofs.Common.{◌≡◌, ◌∙◌, ◌<◌, ◌∷◌, ℕ, List, [], map, length, ap, sym, subst, arith, All, Vec}
-use Rattle.std.specs.Global.{Global}
+use Rattle.std.proofs.Common.{◌≡◌, ◌∙◌, ◌<◌, ℕ, List, [], map, length, ap, sym, subst, arith, All}
 use Rattle.std.specs.Prelude.{slice_index_or}
-use Rattle.std.proofs.lemmas.List.{map-append}
 use Rattle.std.proofs.lemmas.List.Elements.{All-push}
 use Rattle.tangle_names.specs.NameTable.{table_of}
 use Rattle.tangle_plans.specs.Shapes.{Named}
 use Rattle.tangle_plans.specs.WebShapes.{pieces_of}
 use Rattle.tangle_plans.specs.ItemSlots.{pieces_at}
-use Rattle.tangle_expansion.specs.Numbers.{PieceNumbersRead, piece_numbers}
-use Rattle.tangle_expansion.specs.NumbersKept.{rows_of}
+use Rattle.tangle_expansion.specs.Numbers.{piece_numbers}
 use Rattle.tangle_expansion.specs.TextLimits.{IsShort}
 use Rattle.tangle_plans.specs.declared.nodes.Node.TheVariants.{Name}
 use Rattle.tangle_expansion.proofs.BuildLemmas.{rows_next, take_whole}
@@ -26,15 +23,15 @@ loop-id-preserved g c =
     let given = g.S.PiecesByNode.names c.args.store.now in
     let below : id < length given = omega (arith, c.loop-id-test.true, c.count-count.ensures, ap length c.full_names.ensures) in
     let low : id < length names = omega (arith, below, ap length c.requires.same_names) in
-    let is : row.items ≡ numbers (slice_index_or names id [])
+    let is : row ≡ numbers (slice_index_or names id [])
     = c.in_ok-numbers_of_pieces.ensures.are
     ∙ ap (λ l. map piece_numbers (pieces_at web.pieces l)) c.piece_numbers-pieces.ensures
     ∙ ap (map piece_numbers) (c.requires.right (Name id) below)
     ∙ ap (λ l. numbers (slice_index_or l id [])) c.requires.same_names in
     record {
-      are = ap rows_of c.in_ok-push.ensures.items ∙ rows_next numbers names id rows row low c.loop-id.invariant.are is;
-      short = subst (All (All IsShort)) (sym (ap rows_of c.in_ok-push.ensures.items ∙ map-append (λ (r : Vec PieceNumbersRead Global). r.items) rows (row ∷ [])))
-          (All-push (All IsShort) (rows_of rows) row.items c.loop-id.invariant.short c.in_ok-numbers_of_pieces.ensures.short);
+      are = c.in_ok-push.ensures.items ∙ rows_next numbers names id rows row low c.loop-id.invariant.are is;
+      short = subst (All (All IsShort)) (sym c.in_ok-push.ensures.items)
+          (All-push (All IsShort) rows row c.loop-id.invariant.short c.in_ok-numbers_of_pieces.ensures.short);
     }
 
 pub returns-clause-are : goal.returns-clause-are

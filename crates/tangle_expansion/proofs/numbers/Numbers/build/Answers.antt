@@ -6,7 +6,6 @@ use Rattle.tangle_plans.specs.WebShapes.{pieces_of}
 use Rattle.tangle_plans.specs.ItemSlots.{pieces_at}
 use Rattle.tangle_plans.specs.declared.nodes.Node.TheVariants as node
 use Rattle.tangle_expansion.specs.Numbers.{NumbersRead, piece_numbers}
-use Rattle.tangle_expansion.specs.NumbersKept.{rows_of}
 use Rattle.tangle_expansion.proofs.KeptLemmas.{zip_made}
 use Rattle.tangle_expansion.proofs.numbers.Numbers.build.Goals as goal
 
@@ -24,8 +23,8 @@ returns g c =
     let web = c.args.web.now in
     let table = table_of web in
     let of_name = λ (name : List ℕ). map piece_numbers (pieces_of web table (Named name)) in
-    let rows = rows_of c.in_ok-of_names.of_names.items in
-    let program : c.in_ok-program.program.items ≡ map piece_numbers (pieces_of web table Program)
+    let rows = c.in_ok-of_names.of_names.items in
+    let program : c.in_ok-program.program ≡ map piece_numbers (pieces_of web table Program)
     = c.in_ok-program.ensures.are ∙ ap (λ l. map piece_numbers (pieces_at web.pieces l)) c.piece_numbers.ensures ∙ ap (map piece_numbers) (c.requires.right node.Program tt) in
     let names : zip c.in_ok-names.names rows ≡ map (λ name. (name, of_name name)) table.names
     = ap (λ ns. zip ns rows) (c.in_ok-names.ensures ∙ c.full_names.ensures ∙ c.requires.same_names) ∙ ap (zip table.names) c.in_ok-of_names.ensures.are ∙ zip_made of_name table.names in

@@ -1,5 +1,4 @@
 use Rattle.std.proofs.Common.{arith}
-use Rattle.tangle_expansion.specs.NumbersKept.{rows_of}
 use Rattle.tangle_expansion.proofs.KeptLemmas.{zip_short}
 use Rattle.tangle_expansion.proofs.ShortLemmas.{symbols_short, all_names_short}
 use Rattle.tangle_expansion.proofs.numbers.Numbers.new.Goals as goal
@@ -10,7 +9,7 @@ invariant_of-result c = record {
   short = symbols_short _ (record {
     file_names = all_names_short c.args.file_names.items c.requires.file_names;
     program = c.requires.program;
-    names = zip_short c.args.names (rows_of c.args.of_names.items) c.requires.of_names;
+    names = zip_short c.args.names c.args.of_names.items c.requires.of_names;
     macros = omega arith;
   });
 }

@@ -1,0 +1,124 @@
+//! The section numbers and origins of a node's pieces.
+ghost use Rattle.std.specs.Prelude.{◌≡◌, ◌∷◌, [], get_or};
+ghost use Rattle.tangle_expansion.specs.Numbers.{no_numbers, no_origin};
+
+use std::marker::Model;
+use std::slice::from_ref;
+use tangle_lines::Origin;
+
+/// The section number of a piece, and the origins of its opening mark and of the marks in it. Most
+/// pieces have none in them, and take no memory for it.
+#[derive(Drop)]
+pub(crate) struct PieceNumbers {
+    section: usize,
+    opening: Origin,
+    marks: Vec<Origin>,
+}
+
+impl Model for PieceNumbers {
+    ghost use Rattle.std.specs.Prelude.{◌∷◌};
+    ghost use Rattle.tangle_expansion.specs.Numbers.{PieceNumbersRead};
+
+    ghost Value = { PieceNumbersRead };
+
+    ghost view = { λ p. record { section = p.section; marks = p.opening ∷ p.marks.items } };
+}
+
+impl PieceNumbers {
+    /// The numbers of a piece of this section with these marks behind the opening one.
+    pub(crate) fn new(section: usize, opening: Origin, marks: Vec<Origin>) -> Self
+        ensures { result ≡ record { section = section; marks = opening ∷ marks.items } }
+    {
+        PieceNumbers {
+            section,
+            opening,
+            marks,
+        }
+    }
+
+    /// The origin of the mark with this number, the opening one first.
+    fn mark(&self, number: usize) -> Origin
+        ensures { result ≡ get_or self.now.marks number no_origin }
+    {
+        if number == 0 {
+            return self.opening;
+        }
+        match self.marks.get(number - 1) {
+            Some(origin) => *origin,
+            None => Origin { file: 0, line: 0 },
+        }
+    }
+}
+
+/// The numbers of the pieces in a row. Most nodes have one piece, which takes no memory of its own.
+#[derive(Drop)]
+pub(crate) enum PiecesInRow {
+    One(PieceNumbers),
+    Several(Vec<PieceNumbers>),
+}
+
+/// The numbers of a node's pieces.
+#[derive(Drop)]
+pub(crate) struct NodeNumbers {
+    row: PiecesInRow,
+}
+
+impl Model for NodeNumbers {
+    ghost use Rattle.std.specs.Prelude.{List};
+    ghost use Rattle.tangle_expansion.specs.Numbers.{PieceNumbersRead};
+    ghost use Rattle.tangle_expansion.specs.PieceRows.{pieces_read};
+
+    ghost Value = { List PieceNumbersRead };
+
+    ghost view = { λ n. pieces_read n.row };
+}
+
+impl NodeNumbers {
+    /// The numbers of a node with one piece.
+    pub(crate) fn one(piece: PieceNumbers) -> Self
+        ensures { result ≡ piece ∷ [] }
+    {
+        NodeNumbers {
+            row: PiecesInRow::One(piece),
+        }
+    }
+
+    /// The numbers of a node with these pieces.
+    pub(crate) fn several(pieces: Vec<PieceNumbers>) -> Self
+        ensures { result ≡ pieces.items }
+    {
+        NodeNumbers {
+            row: PiecesInRow::Several(pieces),
+        }
+    }
+
+    /// The pieces.
+    pub(crate) fn as_slice(&self) -> &[PieceNumbers]
+        ensures { result.now ≡ self.now }
+    {
+        match &self.row {
+            PiecesInRow::One(piece) => from_ref(piece),
+            PiecesInRow::Several(pieces) => pieces.as_slice(),
+        }
+    }
+}
+
+/// The number of the section of a piece.
+pub(crate) fn section_at(pieces: &[PieceNumbers], piece: usize) -> usize
+    ensures { result ≡ (get_or pieces.now piece no_numbers).section }
+{
+    match pieces.get(piece) {
+        Some(numbers) => numbers.section,
+        None => 0,
+    }
+}
+
+/// The origin of a mark of a piece.
+pub(crate) fn origin_at(pieces: &[PieceNumbers], piece: usize, mark: usize) -> Origin
+    ensures { result ≡ get_or (get_or pieces.now piece no_numbers).marks mark no_origin }
+{
+    match pieces.get(piece) {
+        Some(numbers) => numbers.mark(mark),
+        None => Origin { file: 0, line: 0 },
+    }
+}
