@@ -55,18 +55,18 @@ impl Output {
         }
     }
 
-    /// The name of the file.
-    pub fn name(&self) -> &[u8]
-        ensures { result.now ≡ self.now.name }
-    {
-        self.name.as_slice()
-    }
-
     /// The node whose text it has.
     pub fn node(&self) -> Node
         ensures { result ≡ self.now.node }
     {
         self.node
+    }
+
+    /// The name of the file.
+    pub fn name(&self) -> &[u8]
+        ensures { result.now ≡ self.now.name }
+    {
+        self.name.as_slice()
     }
 
     /// Whether all macros begin it.

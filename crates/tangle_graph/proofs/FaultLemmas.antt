@@ -1,16 +1,18 @@
 -- The first uses of names, the faults of names one by one, and the flags of nodes.
-use Rattle.std.proofs.Common.{◌≡◌, ◌∙◌, ◌<◌, ◌≤◌, ◌+◌, ◌↔◌, ◌&&◌, ℕ, zero, suc, Bool, true, false, cond, not, List, [], ◌∷◌, ◌++◌, length, map, flat_map, drop, drop-cons, take, get_or, refl, ap, sym, arith, append-nil, append_assoc, add-zero, zero-add}
-use Rattle.std.specs.List.{position_or_len, range_with_len}
-use Rattle.std.proofs.lemmas.List.{flat_map_more, get_or-map, take_all, take_more}
+use Rattle.std.proofs.Common.{◌≡◌, ◌∙◌, ◌<◌, ◌≤◌, ◌+◌, ◌↔◌, ◌&&◌, ℕ, zero, suc, Bool, true, false, cond, not, List, [], ◌∷◌, ◌++◌, length, map, flat_map, take, get_or, refl, ap, sym, arith, append-nil, append_assoc, add-zero, zero-add}
+use Rattle.std.specs.List.{range_with_len}
+use Rattle.std.proofs.lemmas.List.{flat_map_more, take_all, take_more}
 use Rattle.std.specs.Prelude.{None, if◌then◌else◌}
 use Rattle.tangle_faults.specs.declared.faults.FaultKind.{FaultKind}
 use Rattle.tangle_faults.specs.declared.faults.FaultKind.TheVariants as kind
 use Rattle.tangle_faults.specs.Faults.{FaultRead, fault_unplaced}
 use Rattle.tangle_lexer.specs.Occurrences.{OccurrenceRead}
 use Rattle.tangle_scan.specs.Web.{PieceRead, WebRead}
+use Rattle.tangle_names.specs.declared.first_numbers.Counted.TheVariants.{Uses}
 use Rattle.tangle_names.specs.declared.Resolved.{Resolved}
-use Rattle.tangle_names.specs.NameTable.{TableRead}
-use Rattle.tangle_names.specs.Numbers.{NotesNumber, is_number}
+use Rattle.tangle_names.specs.NameTable.{TableRead, table_of}
+use Rattle.tangle_names.specs.Numbers.{first_by_number}
+use Rattle.tangle_names.specs.Resolving.{resolve}
 use Rattle.tangle_plans.specs.ItemSlots.{pieces_at}
 use Rattle.tangle_plans.specs.WebShapes.{shapes, shape_item}
 use Rattle.tangle_plans.specs.Shapes.{Title, Named, Shape, Shapes}
@@ -20,8 +22,8 @@ use Rattle.digraph.specs.Flags.{FlagsJust}
 use Rattle.digraph.specs.Reach as graph
 use Rattle.digraph.proofs.GraphLemmas.{rows_size}
 use Rattle.digraph.proofs.TitleLemmas.{contains_alike, cycle_alike}
-use Rattle.tangle_graph.specs.FaultFlags.{first_use_by_number, flag_at}
-use Rattle.tangle_graph.specs.Faults.{is_use, is_defined, is_too_large, ReachesCycle, AreGraphFaults, fault_of, faults_of_names, first_occurrence_number, graph_faults, large_program, no_program}
+use Rattle.tangle_graph.specs.FaultFlags.{flag_at}
+use Rattle.tangle_graph.specs.Faults.{is_defined, is_too_large, ReachesCycle, AreGraphFaults, fault_of, faults_of_names, first_occurrence_number, graph_faults, large_program, no_program}
 use Rattle.tangle_graph.specs.Groups.{IsGraphOf}
 use Rattle.tangle_graph.specs.Nodes.{title_at, UsesTitle}
 use Rattle.tangle_graph.specs.Outputs.{has_pieces, is_expandable}
@@ -29,28 +31,14 @@ use Rattle.tangle_graph.specs.Plans.{AreFilled}
 use Rattle.tangle_graph.specs.Stores.{is_filled}
 use Rattle.tangle_graph.proofs.ReachLemmas.{contains_by_titles, cycle_by_titles}
 
--- one occurrence more in front
-first_at : (q : OccurrenceRead → Bool) (os : List OccurrenceRead) (i : ℕ) (o : OccurrenceRead) → i < length os → o ≡ get_or os i o
-    → i + position_or_len q (drop i os) ≡ cond (q o) i (i + 1 + position_or_len q (drop (i + 1) os))
-first_at q os i o h read =
-    let one_more : suc i ≡ i + 1 = omega arith in
-    ap (λ xs. i + position_or_len q xs) (drop-cons os i o h ∙ (λ j. sym read j ∷ drop (one_more j) os)) ∙ by (q o)
-  where
-    by : (b : Bool) → i + cond (not b) (1 + position_or_len q (drop (i + 1) os)) 0 ≡ cond b i (i + 1 + position_or_len q (drop (i + 1) os))
-    by true = omega arith
-    by false = omega arith
-
-resolved_at : (f : OccurrenceRead → Resolved) (os : List OccurrenceRead) (rs : List Resolved) (i : ℕ) (o : OccurrenceRead) (r d : Resolved) → i < length os → o ≡ get_or os i o
-    → rs ≡ map f os → r ≡ get_or rs i d → r ≡ f o
-resolved_at f os rs i o r d h read all at = at ∙ (ap (λ xs. get_or xs i d) all ∙ (get_or-map f os i o d h ∙ ap f (sym read)))
-
-pub use_step : (f : OccurrenceRead → Resolved) (os : List OccurrenceRead) (rs : List Resolved) (i id : ℕ) (o : OccurrenceRead) (r d : Resolved) (needed : Bool) (old new : List ℕ)
-    → i < length os → o ≡ get_or os i o → rs ≡ map f os → r ≡ get_or rs i d → needed ≡ is_use o.role → id < length old
-    → get_or old id 0 ≡ i + 1 + first_use_by_number f (drop (i + 1) os) id → NotesNumber old new needed i r
-    → get_or new id 0 ≡ i + first_use_by_number f (drop i os) id
-use_step f os rs i id o r d needed old new h read all at is within sofar notes =
-    let resolved = resolved_at f os rs i o r d h read all at in
-    notes.numbers id within ∙ ((λ j. cond (is j && is_number id (resolved j)) i (sofar j)) ∙ sym (first_at (λ (o : OccurrenceRead). is_use o.role && is_number id (f o)) os i o h read))
+-- the first uses, counted over the occurrences that were read from the web
+pub uses_of_web : (web : WebRead) (table : TableRead) (os : List OccurrenceRead) (counted numbers : List ℕ) → table ≡ record (table_of web) { faults = table.faults } → os ≡ web.occurrences → numbers ≡ counted
+    → ((f : OccurrenceRead → Resolved) → table.resolved ≡ map f os → (id : ℕ) → id < length table.names → get_or counted id 0 ≡ first_by_number f Uses os id)
+    → (id : ℕ) → id < length table.names → get_or numbers id 0 ≡ first_by_number (resolve web.occurrences) Uses web.occurrences id
+uses_of_web web table os counted numbers is read same known id h =
+    ap (λ l. get_or l id 0) same
+    ∙ known (resolve web.occurrences) (ap (λ (t : TableRead). t.resolved) is ∙ ap (map (resolve web.occurrences)) (sym read)) id h
+    ∙ ap (λ l. first_by_number (resolve web.occurrences) Uses l id) read
 
 -- the faults of one name more
 pub range_more : (g : ℕ → List FaultRead) (a n : ℕ) → flat_map g (range_with_len a (n + 1)) ≡ flat_map g (range_with_len a n) ++ g (a + n)

@@ -1,25 +1,17 @@
 -- What is reported of each node by its number, for the faults. These words are cited by private contracts alone.
-use Rattle.std.specs.Prelude.{◌≡◌, ◌≤◌, ◌↔◌, ℕ, ◌+◌, Bool, true, false, ◌&&◌, List, flat_map, length, slice_index_or}
-use Rattle.std.specs.List.{position_or_len}
-use Rattle.tangle_lexer.specs.Occurrences.{OccurrenceRead}
+use Rattle.std.specs.Prelude.{◌≡◌, ◌≤◌, ◌↔◌, ℕ, ◌+◌, Bool, true, false, List, flat_map, length, slice_index_or}
 use Rattle.tangle_scan.specs.Web.{WebRead}
-use Rattle.tangle_names.specs.declared.Resolved.{Resolved}
-use Rattle.tangle_names.specs.Numbers.{is_number}
 use Rattle.tangle_names.specs.NameTable.{TableRead}
 use Rattle.tangle_plans.specs.Shapes.{ContainsItself}
 use Rattle.tangle_plans.specs.WebShapes.{shapes}
 use Rattle.tangle_faults.specs.declared.faults.FaultKind.{FaultKind}
-use Rattle.tangle_graph.specs.Faults.{is_use, is_defined, fault_of, fault_occurrence, faults_of_names, ReachesCycle}
+use Rattle.tangle_graph.specs.Faults.{is_defined, fault_of, fault_occurrence, faults_of_names, ReachesCycle}
 use Rattle.tangle_graph.specs.Nodes.{title_at}
 use Rattle.tangle_graph.specs.Outputs.{is_expandable}
 use Rattle.tangle_graph.specs.declared.faults.NodeFlags.{NodeFlags}
 
 abbrev pub flag_at : List Bool → ℕ → Bool
 flag_at flags n = slice_index_or flags n false
-
--- the number of the first use that resolves to the name with this number; the count of occurrences, where there is none
-abbrev pub first_use_by_number : (OccurrenceRead → Resolved) → List OccurrenceRead → ℕ → ℕ
-first_use_by_number f os id = position_or_len (λ o. is_use o.role && is_number id (f o)) os
 
 -- the flags report each node whether it has a piece, contains itself, reaches a name that does, and is expandable
 pub record AreNodeFlags (web : WebRead) (table : TableRead) (flags : NodeFlags) : Type 0 where

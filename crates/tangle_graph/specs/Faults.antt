@@ -1,26 +1,19 @@
 -- The faults of the graph of names: what is undefined, never used, contains itself, is too large or has the main file's name.
-use Rattle.std.specs.Prelude.{◌≡◌, ◌≤◌, ◌↔◌, ℕ, Bool, true, false, not, ◌&&◌, List, [], ◌∷◌, ◌++◌, length, map, flat_map, slice_get, slice_index_or, Option, Some, None, option_to_list, is_some, position, if◌then◌else◌}
+use Rattle.std.specs.Prelude.{◌≡◌, ◌≤◌, ◌↔◌, ℕ, Bool, true, not, ◌&&◌, List, [], ◌∷◌, ◌++◌, length, map, flat_map, slice_get, slice_index_or, Option, Some, None, option_to_list, is_some, position, if◌then◌else◌}
 use Rattle.std.specs.List.{range_with_len}
 use Rattle.std.specs.Str.{bytes_eq}
 use Rattle.tangle_faults.specs.declared.faults.FaultKind.{FaultKind}
 use Rattle.tangle_faults.specs.declared.faults.FaultKind.TheVariants as kind
 use Rattle.tangle_faults.specs.Faults.{FaultRead, fault_about, fault_unplaced}
-use Rattle.tangle_lexer.specs.declared.occurrences.OccurrenceRole.{OccurrenceRole}
-use Rattle.tangle_lexer.specs.declared.occurrences.OccurrenceRole.TheVariants.{Definition, Use, Mention}
 use Rattle.tangle_scan.specs.Web.{WebRead}
 use Rattle.tangle_names.specs.Faults.{named_place_of}
 use Rattle.tangle_names.specs.NameTable.{TableRead}
-use Rattle.tangle_names.specs.Numbers.{is_number}
+use Rattle.tangle_names.specs.Numbers.{is_number, is_use}
 use Rattle.tangle_names.specs.Resolving.{resolve}
 use Rattle.tangle_plans.specs.Shapes.{Title, Shapes, Reaches, ContainsItself}
 use Rattle.tangle_plans.specs.WebShapes.{shapes}
 use Rattle.tangle_graph.specs.Nodes.{title_at}
 use Rattle.tangle_graph.specs.Outputs.{has_pieces, is_expandable, name_with_number}
-
-abbrev pub is_use : OccurrenceRole → Bool
-is_use Use = true
-is_use Definition = false
-is_use Mention = false
 
 -- the node reaches a name that contains itself, in no step or more
 abbrev pub ReachesCycle : Shapes → Title → Type 0

@@ -1,24 +1,22 @@
 //! The faults of the graph of names: what is undefined, never used, contains itself, is too large
 //! or has the main file's name.
 ghost use Rattle.std.specs.Prelude.{◌≡◌, ◌<◌, ◌≤◌, ◌++◌, ◌+◌, ◌∷◌, [], ℕ, List, false, None, All};
-ghost use Rattle.std.specs.Prelude.{IfOk, OnOk, length, map, slice_index_or, if◌then◌else◌};
+ghost use Rattle.std.specs.Prelude.{IfOk, OnOk, length, slice_index_or, if◌then◌else◌};
 ghost use Rattle.tangle_faults.specs.Faults.{fault_unplaced};
-ghost use Rattle.tangle_lexer.specs.Occurrences.{OccurrenceRead};
-ghost use Rattle.tangle_names.specs.declared.Resolved.{Resolved};
+ghost use Rattle.tangle_names.specs.declared.first_numbers.Counted.TheVariants.{Uses};
 ghost use Rattle.tangle_names.specs.NameTable.{table_of};
-ghost use Rattle.tangle_names.specs.Numbers.{NotesNumber};
+ghost use Rattle.tangle_names.specs.Numbers.{first_by_number};
 ghost use Rattle.tangle_names.specs.Resolving.{resolve};
 ghost use Rattle.tangle_graph.specs.FaultFlags.{AreNodeFlags, HaveTheFaults, flag_at};
-ghost use Rattle.tangle_graph.specs.FaultFlags.{first_use_by_number};
 ghost use Rattle.tangle_graph.specs.Faults.{AreGraphFaults, fault_of, fault_occurrence};
 ghost use Rattle.tangle_graph.specs.Faults.{faults_of_names};
-ghost use Rattle.tangle_graph.specs.Faults.{first_use, is_too_large, is_use};
+ghost use Rattle.tangle_graph.specs.Faults.{first_use, is_too_large};
 
 use crate::outputs::push_where;
 use std::alloc::{AllocError, Global};
 use tangle_lines::{Fault, FaultKind, NoMemory};
-use tangle_names::{NameTable, Resolved};
-use tangle_scan::{Occurrence, OccurrenceRole, Web};
+use tangle_names::{Counted, NameTable};
+use tangle_scan::Web;
 
 /// A flag for each node: whether it has a piece, contains itself, reaches a name that does, and is
 /// expandable.
@@ -30,53 +28,11 @@ pub(crate) struct NodeFlags<'f> {
     pub(crate) expandable: &'f [bool],
 }
 
-/// Whether it is a use.
-fn is_use(occurrence: &Occurrence) -> bool
-    ensures { result ≡ is_use occurrence.now.role }
-{
-    match occurrence.role() {
-        OccurrenceRole::Use => true,
-        OccurrenceRole::Definition | OccurrenceRole::Mention => false,
-    }
-}
-
-/// Gives the name that is resolved to this number, if the occurrence is needed.
-fn note(numbers: &mut Vec<usize>, is_needed: bool, number: usize, resolved: Resolved)
-    ensures { NotesNumber numbers.old.items numbers.new.items is_needed number resolved }
-{
-    if let Resolved::Name(id) = resolved {
-        if is_needed && id < numbers.len() {
-            numbers[id] = number;
-        }
-    }
-}
-
-/// Of each name the number of the first use that resolves to it. It is the count of occurrences
-/// where there is none.
-// From the last occurrence to the first, so that an earlier number takes the place of a later one.
-fn first_uses(alloc: Global, web: &Web, table: &NameTable) -> Result<Vec<usize>, AllocError>
-    requires { length table.now.resolved ≡ length web.now.occurrences }
-    ensures size { IfOk result (λ v. length v.items ≡ length table.now.names) }
-    ensures numbers { IfOk result (λ v. (f : OccurrenceRead → Resolved)
-        → table.now.resolved ≡ map f web.now.occurrences → (id : ℕ) → id < length table.now.names
-        → slice_index_or v.items id 0 ≡ first_use_by_number f web.now.occurrences id) }
-{
-    let occurrences = web.occurrences();
-    let mut numbers = vec![in alloc; occurrences.len(); table.count()]?;
-    let mut i = occurrences.len();
-    while i > 0 {
-        i -= 1;
-        let needed = is_use(&occurrences[i]);
-        note(&mut numbers, needed, i, table.resolve(i));
-    }
-    Ok(numbers)
-}
-
 /// The number of the first use that resolves to the name, if there is one.
 fn first_use(web: &Web, table: &NameTable, first_uses: &[usize], id: usize) -> Option<usize>
     requires size { id < length first_uses.now }
     requires number { slice_index_or first_uses.now id 0
-        ≡ first_use_by_number (resolve web.now.occurrences) web.now.occurrences id }
+        ≡ first_by_number (resolve web.now.occurrences) Uses web.now.occurrences id }
     ensures { result ≡ first_use web.now table.now id }
 {
     let number = first_uses[id];
@@ -194,7 +150,7 @@ fn suspects(
     requires flags { AreNodeFlags web.now table.now flags.now }
     requires size { length first_uses.now ≡ length table.now.names }
     requires numbers { (id : ℕ) → id < length table.now.names
-        → slice_index_or first_uses.now id 0 ≡ first_use_by_number (resolve web.now.occurrences)
+        → slice_index_or first_uses.now id 0 ≡ first_by_number (resolve web.now.occurrences) Uses
         web.now.occurrences id }
     ensures names { IfOk result (λ names. All (λ id. id < length table.now.names) names.items) }
     ensures faults { IfOk result (λ names. HaveTheFaults web.now table.now flags.now names.items) }
@@ -223,7 +179,7 @@ fn add_faults(
     requires flags { AreNodeFlags web.now table.now flags.now }
     requires size { length first_uses.now ≡ length table.now.names }
     requires numbers { (id : ℕ) → id < length table.now.names
-        → slice_index_or first_uses.now id 0 ≡ first_use_by_number (resolve web.now.occurrences)
+        → slice_index_or first_uses.now id 0 ≡ first_by_number (resolve web.now.occurrences) Uses
         web.now.occurrences id }
     requires names { All (λ id. id < length table.now.names) names.now }
     requires faults { HaveTheFaults web.now table.now flags.now names.now }
@@ -267,7 +223,7 @@ pub(crate) fn faults(
     requires flags { AreNodeFlags web.now table.now flags.now }
     ensures { IfOk result (λ faults. AreGraphFaults web.now table.now out.now faults.items) }
 {
-    let uses = first_uses(alloc, web, table)?;
+    let uses = table.first_numbers(alloc, web.occurrences(), Counted::Uses)?;
     let names = suspects(alloc, web, table, flags, &uses)?;
     let program = table.count();
     let is_large = is_too_large(web, table, flags, program);

@@ -1,7 +1,7 @@
 //! The source lines of a web: change files and inclusion.
 //!
 //! [`read_source`] reads a web over the table of files with its change file. The names of files, of
-//! faults and of streams are handed on.
+//! faults and of streams are re-exported.
 #![tactic(auto)]
 
 mod changes;

@@ -3,6 +3,7 @@ use Rattle.std.proofs.Common.{◌≡◌, ◌<◌, ◌≤◌, option_to_list, ◌
 use Rattle.std.proofs.lemmas.List.{get_or-map}
 use Rattle.std.proofs.lemmas.Option.{slice_get_past}
 use Rattle.std.proofs.lemmas.List.Folds.{list_any_more}
+use Rattle.tangle_names.specs.declared.first_numbers.Counted.{Counted}
 use Rattle.tangle_names.specs.declared.Resolved.{Resolved}
 use Rattle.tangle_names.specs.declared.Resolved.TheVariants.{NoFullName}
 use Rattle.tangle_faults.specs.declared.faults.FaultKind.TheVariants as kind
@@ -13,7 +14,7 @@ use Rattle.std.specs.List.{list_any, position_or_len}
 use Rattle.tangle_names.specs.Names.{Text, One}
 use Rattle.tangle_names.specs.Resolving.{resolution}
 use Rattle.tangle_names.specs.Faults.{begins_another, resolution_fault, named_place_of}
-use Rattle.tangle_names.specs.Numbers.{is_number, first_by_number, NotesNumber, Flags, fault_of_number, warning}
+use Rattle.tangle_names.specs.Numbers.{is_number, is_counted, first_by_number, NotesNumber, Flags, fault_of_number, warning}
 
 resolved_at : (f : OccurrenceRead → Resolved) (os : List OccurrenceRead) (rs : List Resolved) (i : ℕ) (o : OccurrenceRead) (r : Resolved) → i < length os → o ≡ get_or os i o
     → rs ≡ map f os → r ≡ get_or rs i r → r ≡ f o
@@ -30,13 +31,13 @@ first_at q os i o h read =
     by true = omega arith
     by false = omega arith
 
-pub number_step : (f : OccurrenceRead → Resolved) (only_files : Bool) (os : List OccurrenceRead) (rs : List Resolved) (i id : ℕ) (o : OccurrenceRead) (r : Resolved) (needed : Bool) (old new : List ℕ)
-    → i < length os → o ≡ get_or os i o → rs ≡ map f os → r ≡ get_or rs i r → needed ≡ (not only_files || o.is_file) → id < length old
-    → get_or old id 0 ≡ i + 1 + first_by_number f only_files (drop (i + 1) os) id → NotesNumber old new needed i r
-    → get_or new id 0 ≡ i + first_by_number f only_files (drop i os) id
-number_step f only_files os rs i id o r needed old new h read all at is within sofar notes =
+pub number_step : (f : OccurrenceRead → Resolved) (counted : Counted) (os : List OccurrenceRead) (rs : List Resolved) (i id : ℕ) (o : OccurrenceRead) (r : Resolved) (needed : Bool) (old new : List ℕ)
+    → i < length os → o ≡ get_or os i o → rs ≡ map f os → r ≡ get_or rs i r → needed ≡ is_counted counted o → id < length old
+    → get_or old id 0 ≡ i + 1 + first_by_number f counted (drop (i + 1) os) id → NotesNumber old new needed i r
+    → get_or new id 0 ≡ i + first_by_number f counted (drop i os) id
+number_step f counted os rs i id o r needed old new h read all at is within sofar notes =
     let resolved = resolved_at f os rs i o r h read all at in
-    notes.numbers id within ∙ ((λ j. cond (is j && is_number id (resolved j)) i (sofar j)) ∙ sym (first_at (λ (o : OccurrenceRead). (not only_files || o.is_file) && is_number id (f o)) os i o h read))
+    notes.numbers id within ∙ ((λ j. cond (is j && is_number id (resolved j)) i (sofar j)) ∙ sym (first_at (λ (o : OccurrenceRead). is_counted counted o && is_number id (f o)) os i o h read))
 
 pub flags-made : (old new : List Bool) (r s : Resolved) (b : Bool) → Flags old new true r → b ≡ true → r ≡ s → Flags old new b s
 flags-made old new r s b flags is same = record {

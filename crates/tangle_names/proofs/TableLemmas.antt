@@ -8,6 +8,7 @@ use Rattle.std.proofs.lemmas.List.{ext_get_or, get_or-map, length-map}
 use Rattle.std.proofs.lemmas.List.Folds.{Any-from_list_any, list_any-append}
 use Rattle.std.proofs.lemmas.List.Elements.{Contains-append_cases, Contains-get_or}
 use Rattle.std.proofs.lemmas.Slice.Eq.{bytes_eq-Decides}
+use Rattle.tangle_names.specs.declared.first_numbers.Counted.TheVariants.{All, Files}
 use Rattle.tangle_names.specs.declared.Resolved.{Resolved}
 use Rattle.tangle_faults.specs.Faults.{FaultRead}
 use Rattle.tangle_lexer.specs.Occurrences.{OccurrenceRead}
@@ -147,11 +148,11 @@ names_are_full os = from_fold (Contains (full_names os)) (meanings os) [] (λ t 
     meant_name os o.0 t o.1 (o.2 ∙ e))
 
 -- what is known of a name by its number
-pub first-known : (os : List OccurrenceRead) (id : ℕ) → id < length (names_in_order os) → first_by_number (resolve os) false os id ≡ first_number os (get_or (names_in_order os) id [])
+pub first-known : (os : List OccurrenceRead) (id : ℕ) → id < length (names_in_order os) → first_by_number (resolve os) All os id ≡ first_number os (get_or (names_in_order os) id [])
 first-known os id h = λ i. position_or_len (λ (o : OccurrenceRead). is_number-means (names_in_order os) (meaning (full_names os) o) id (distinct_names (meanings os)) h i) os
 
 pub first_file-known : (os : List OccurrenceRead) (id : ℕ) → id < length (names_in_order os)
-    → first_by_number (resolve os) true os id ≡ position_or_len (λ (o : OccurrenceRead). o.is_file && resolves_to os (get_or (names_in_order os) id []) o) os
+    → first_by_number (resolve os) Files os id ≡ position_or_len (λ (o : OccurrenceRead). o.is_file && resolves_to os (get_or (names_in_order os) id []) o) os
 first_file-known os id h = λ i. position_or_len (λ (o : OccurrenceRead). o.is_file && is_number-means (names_in_order os) (meaning (full_names os) o) id (distinct_names (meanings os)) h i) os
 
 and_false : (b : Bool) → (b && false) ≡ false
@@ -190,7 +191,7 @@ begins-known os texts id same h =
 
 -- the first numbers and the warnings by the names themselves
 pub firsts_are : (os : List OccurrenceRead) (names : List Text) (numbers : List ℕ) → names ≡ names_in_order os → length numbers ≡ length names
-    → ((id : ℕ) → id < length names → get_or numbers id 0 ≡ first_by_number (resolve os) false os id) → numbers ≡ map (first_number os) (names_in_order os)
+    → ((id : ℕ) → id < length names → get_or numbers id 0 ≡ first_by_number (resolve os) All os id) → numbers ≡ map (first_number os) (names_in_order os)
 firsts_are os names numbers named size known =
     let count : length (map (first_number os) (names_in_order os)) ≡ length (names_in_order os) = length-map (names_in_order os) (first_number os) in
     let counted : length names ≡ length (names_in_order os) = ap length named in
@@ -200,7 +201,7 @@ firsts_are os names numbers named size known =
     known id inside ∙ first-known os id within ∙ sym (get_or-map (first_number os) (names_in_order os) id [] 0 within))
 
 pub first_files_are : (os : List OccurrenceRead) (names : List Text) (numbers : List ℕ) (count : ℕ) → names ≡ names_in_order os → length numbers ≡ length names → count ≡ length os
-    → ((id : ℕ) → id < length names → get_or numbers id 0 ≡ first_by_number (resolve os) true os id)
+    → ((id : ℕ) → id < length names → get_or numbers id 0 ≡ first_by_number (resolve os) Files os id)
     → map (number_below count) numbers ≡ map (first_file_number os) (names_in_order os)
 first_files_are os names numbers count named size all known =
     let left : length (map (number_below count) numbers) ≡ length numbers = length-map numbers (number_below count) in

@@ -1,7 +1,11 @@
--- Names by their numbers. These words are cited by private contracts alone: the table is built over numbers.
-use Rattle.std.specs.Prelude.{◌≡◌, ◌<◌, ℕ, Bool, true, false, not, nat_lt, ◌==◌, ◌&&◌, ◌||◌, List, [], length, filter, flat_map, map, slice_get, slice_index_or, Option, Some, None, option_to_list, Vec, if◌then◌else◌}
+-- Names by their numbers. Most of these definitions are cited by private contracts alone: the table is built over numbers.
+use Rattle.std.specs.Prelude.{◌≡◌, ◌<◌, ℕ, Bool, true, false, nat_lt, ◌==◌, ◌&&◌, ◌||◌, List, [], length, filter, flat_map, map, slice_get, slice_index_or, Option, Some, None, option_to_list, Vec, if◌then◌else◌}
 use Rattle.std.specs.List.{enumerate_from, list_any, position_or_len}
 use Rattle.std.specs.Global.{Global}
+use Rattle.tangle_lexer.specs.declared.occurrences.OccurrenceRole.{OccurrenceRole}
+use Rattle.tangle_lexer.specs.declared.occurrences.OccurrenceRole.TheVariants.{Definition, Use, Mention}
+use Rattle.tangle_names.specs.declared.first_numbers.Counted.{Counted}
+use Rattle.tangle_names.specs.declared.first_numbers.Counted.TheVariants.{All, Files, Uses}
 use Rattle.tangle_names.specs.declared.Resolved.{Resolved}
 use Rattle.tangle_names.specs.declared.Resolved.TheVariants.{Name, NoFullName, Ambiguous}
 use Rattle.tangle_faults.specs.declared.faults.FaultKind.TheVariants as kind
@@ -23,10 +27,21 @@ is_number id (Name n) = n == id
 is_number id NoFullName = false
 is_number id Ambiguous = false
 
--- the number of the first occurrence that resolves to the name with this number, of those of files alone if only these
--- are needed; the count of occurrences, where there is none
-abbrev pub first_by_number : (OccurrenceRead → Resolved) → Bool → List OccurrenceRead → ℕ → ℕ
-first_by_number f only_files os id = position_or_len (λ o. (not only_files || o.is_file) && is_number id (f o)) os
+abbrev pub is_use : OccurrenceRole → Bool
+is_use Use = true
+is_use Definition = false
+is_use Mention = false
+
+-- the occurrence is one of those that are counted
+abbrev pub is_counted : Counted → OccurrenceRead → Bool
+is_counted All o = true
+is_counted Files o = o.is_file
+is_counted Uses o = is_use o.role
+
+-- the number of the first occurrence that resolves to the name with this number and is counted; the count of occurrences,
+-- where there is none
+abbrev pub first_by_number : (OccurrenceRead → Resolved) → Counted → List OccurrenceRead → ℕ → ℕ
+first_by_number f counted os id = position_or_len (λ o. is_counted counted o && is_number id (f o)) os
 
 -- the name that is resolved to has this number in place of its own, if the occurrence is needed
 pub record NotesNumber (old new : List ℕ) (is_needed : Bool) (number : ℕ) (resolved : Resolved) : Type 0 where

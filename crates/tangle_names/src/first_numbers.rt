@@ -1,44 +1,59 @@
-//! Of each name the number of its first occurrence, and of its first one as a file.
-ghost use Rattle.std.specs.Prelude.{◌≡◌, ◌<◌, ◌||◌, ℕ, not, IfOk, length, map, slice_index_or};
+//! Of each name the number of its first occurrence that is counted.
+ghost use Rattle.std.specs.Prelude.{◌≡◌, ◌<◌, ℕ, IfOk, length, map, slice_index_or};
 ghost use Rattle.tangle_lexer.specs.Occurrences.{OccurrenceRead};
 ghost use Rattle.tangle_names.specs.declared.Resolved.{Resolved};
-ghost use Rattle.tangle_names.specs.Numbers.{NotesNumber, first_by_number};
+ghost use Rattle.tangle_names.specs.Numbers.{NotesNumber, first_by_number, is_counted};
 
 use crate::Resolved;
 use std::alloc::{AllocError, Global};
-use tangle_scan::Occurrence;
+use tangle_scan::{Occurrence, OccurrenceRole};
 
-/// Of each name the number of the first occurrence that resolves to it, of those with `@(` alone
-/// where only files are needed. It is the count of occurrences where there is none.
+/// Which occurrences are counted, where a first one is looked for.
+#[derive(Clone, Copy, Debug, PartialEq, Eq)]
+pub enum Counted {
+    /// All occurrences: definitions, uses and mentions.
+    All,
+    /// Those with `@(`, by which a name is a file.
+    Files,
+    /// The uses, which are in C text.
+    Uses,
+}
+
+/// Of each name the number of the first occurrence that resolves to it and is counted. It is the
+/// count of occurrences where there is none.
 // From the last occurrence to the first, so that an earlier number takes the place of a later one.
 pub(crate) fn first_numbers(
     alloc: Global,
     occurrences: &[Occurrence],
     resolved: &[Resolved],
     count: usize,
-    only_files: bool,
+    counted: Counted,
 ) -> Result<Vec<usize>, AllocError>
     requires { length resolved.now ≡ length occurrences.now }
     ensures size { IfOk result (λ v. length v.items ≡ count) }
     ensures numbers { IfOk result (λ v. (f : OccurrenceRead → Resolved)
         → resolved.now ≡ map f occurrences.now → (id : ℕ) → id < count
-        → slice_index_or v.items id 0 ≡ first_by_number f only_files occurrences.now id) }
+        → slice_index_or v.items id 0 ≡ first_by_number f counted occurrences.now id) }
 {
     let mut numbers = vec![in alloc; occurrences.len(); count]?;
     let mut i = occurrences.len();
     while i > 0 {
         i -= 1;
-        let needed = is_needed(&occurrences[i], only_files);
+        let needed = is_counted(&occurrences[i], counted);
         note(&mut numbers, needed, i, resolved[i]);
     }
     Ok(numbers)
 }
 
-/// Whether the occurrence is one of those that are needed.
-fn is_needed(occurrence: &Occurrence, only_files: bool) -> bool
-    ensures { result ≡ (not only_files || occurrence.now.is_file) }
+/// Whether the occurrence is one of those that are counted.
+fn is_counted(occurrence: &Occurrence, counted: Counted) -> bool
+    ensures { result ≡ is_counted counted occurrence.now }
 {
-    !only_files || occurrence.is_file()
+    match counted {
+        Counted::All => true,
+        Counted::Files => occurrence.is_file(),
+        Counted::Uses => occurrence.role() == OccurrenceRole::Use,
+    }
 }
 
 /// Gives the name that is resolved to this number, if the occurrence is needed.

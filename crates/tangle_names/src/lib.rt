@@ -11,6 +11,7 @@ mod numbers;
 mod resolution;
 mod sorted;
 
+pub use first_numbers::Counted;
 pub use laws::{
     first_occurrences_resolve_to_their_names, names_are_the_full_names,
     occurrences_resolve_by_the_whole_web,

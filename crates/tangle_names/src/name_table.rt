@@ -1,14 +1,18 @@
 //! The table of a web's names.
-ghost use Rattle.std.specs.Prelude.{◌≡◌, ◌<◌, IfOk, length, slice_index_or, position, is_some};
-ghost use Rattle.std.specs.Prelude.{None, []};
+ghost use Rattle.std.specs.Prelude.{◌≡◌, ◌<◌, ℕ, IfOk, length, map, slice_index_or, position};
+ghost use Rattle.std.specs.Prelude.{is_some, None, []};
 ghost use Rattle.std.specs.Str.{bytes_eq};
+ghost use Rattle.tangle_lexer.specs.Occurrences.{OccurrenceRead};
+ghost use Rattle.tangle_names.specs.declared.Resolved.{Resolved};
 ghost use Rattle.tangle_names.specs.declared.Resolved.TheVariants.{NoFullName};
+ghost use Rattle.tangle_names.specs.Numbers.{first_by_number};
 
 use crate::Resolved;
 use crate::faults::faults;
+use crate::first_numbers::{Counted, first_numbers};
 use crate::names::Names;
 use crate::resolution::{Resolution, are_written_alike};
-use std::alloc::Global;
+use std::alloc::{AllocError, Global};
 use std::marker::Model;
 use std::mem::replace;
 use std::rc::Rc;
@@ -158,6 +162,28 @@ impl NameTable {
         ensures { result ≡ is_some (slice_index_or self.now.first_file_occurrences id None) }
     {
         self.first_file_occurrence(id).is_some()
+    }
+
+    /// Of each full name the number of the first of the web's occurrences that resolves to it and is
+    /// counted. It is the count of occurrences where there is none.
+    ///
+    /// # Errors
+    ///
+    /// `AllocError`, where an allocation failed.
+    pub fn first_numbers(
+        &self,
+        alloc: Global,
+        occurrences: &[Occurrence],
+        counted: Counted,
+    ) -> Result<Vec<usize>, AllocError>
+        requires { length self.now.resolved ≡ length occurrences.now }
+        ensures size { IfOk result (λ v. length v.items ≡ length self.now.names) }
+        ensures numbers { IfOk result (λ v. (f : OccurrenceRead → Resolved)
+            → self.now.resolved ≡ map f occurrences.now → (id : ℕ) → id < length self.now.names
+            → slice_index_or v.items id 0 ≡ first_by_number f counted occurrences.now id) }
+    {
+        let resolved = self.resolution.resolved.as_slice();
+        first_numbers(alloc, occurrences, resolved, self.count(), counted)
     }
 
     /// The faults of names: those of occurrences that resolve to no full name or to several, in

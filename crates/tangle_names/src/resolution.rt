@@ -9,7 +9,7 @@ ghost use Rattle.tangle_names.specs.Resolution.{IsResolutionOf};
 
 use crate::Resolved;
 use crate::beginnings::{beginnings, flagged_numbers};
-use crate::first_numbers::first_numbers;
+use crate::first_numbers::{Counted, first_numbers};
 use crate::numbers::{resolve_occurrences, unresolved_numbers};
 use crate::sorted::sorted_names;
 use indexmap::IndexSet;
@@ -41,8 +41,14 @@ impl Resolution {
         let sorted = sorted_names(alloc, occurrences)?;
         let mut names = IndexSet::new(alloc);
         let resolved = resolve_occurrences(alloc, &mut names, &sorted, occurrences)?;
-        let firsts = first_numbers(alloc, occurrences, &resolved, names.len(), false)?;
-        let first_files = first_numbers(alloc, occurrences, &resolved, names.len(), true)?;
+        let firsts = first_numbers(alloc, occurrences, &resolved, names.len(), Counted::All)?;
+        let first_files = first_numbers(
+            alloc,
+            occurrences,
+            &resolved,
+            names.len(),
+            Counted::Files,
+        )?;
         let unresolved = unresolved_numbers(alloc, &resolved)?;
         let flags = beginnings(alloc, &sorted, &names)?;
         let beginnings = flagged_numbers(alloc, &flags)?;

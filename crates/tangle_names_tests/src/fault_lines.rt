@@ -252,7 +252,7 @@ fn a_failed_flush_is_a_failure(rt: HostRuntime) -> Result<(), Fail> {
 #[test]
 fn a_flush_that_works_is_no_failure(rt: HostRuntime) -> Result<(), Fail> {
     let mut sink = IoSink::new(Vec::new(rt.alloc()));
-    let written = put(&mut sink, Ok(0), b"handed on");
+    let written = put(&mut sink, Ok(0), b"passed on");
     sink.flush();
     assert_eq!(rt; written, Ok(9));
     assert_eq!(rt; sink.failures(), 0);

@@ -5,8 +5,20 @@ use Rattle.tangle_faults.specs.declared.faults.FaultKind.TheVariants as kind
 use Rattle.tangle_faults.specs.Faults.{fault_unplaced}
 use Rattle.tangle_graph.specs.FaultFlags.{flag_at}
 use Rattle.tangle_graph.specs.Faults.{is_defined, is_too_large, faults_of_names}
-use Rattle.tangle_graph.proofs.FaultLemmas.{joined, kinds_step, kinds_whole, unless}
+use Rattle.tangle_graph.proofs.FaultLemmas.{joined, kinds_step, kinds_whole, unless, uses_of_web}
 use Rattle.tangle_graph.proofs.faults.faults.Goals as goal
+
+pub suspects-requires-clause-numbers : goal.suspects-requires-clause-numbers
+suspects-requires-clause-numbers c =
+    uses_of_web c.args.web.now c.args.table.now c.occurrences.result.now c.in_ok-uses.uses.items c.deref.result.now c.requires.table c.occurrences.ensures.occurrences c.deref.ensures.value c.in_ok-uses.ensures.numbers
+
+pub add_faults-requires-clause-numbers : goal.add_faults-requires-clause-numbers
+add_faults-requires-clause-numbers c =
+    uses_of_web c.args.web.now c.args.table.now c.occurrences.result.now c.in_ok-uses.uses.items c.deref-in-loop-kind.result.now c.requires.table c.occurrences.ensures.occurrences c.deref-in-loop-kind.ensures.value c.in_ok-uses.ensures.numbers
+
+pub add_faults-requires-2-clause-numbers : goal.add_faults-requires-2-clause-numbers
+add_faults-requires-2-clause-numbers c =
+    uses_of_web c.args.web.now c.args.table.now c.occurrences.result.now c.in_ok-uses.uses.items c.deref-2.result.now c.requires.table c.occurrences.ensures.occurrences c.deref-2.ensures.value c.in_ok-uses.ensures.numbers
 
 pub loop-kind-preserved : goal.loop-kind-preserved
 loop-kind-preserved c =
