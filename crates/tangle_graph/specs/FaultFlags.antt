@@ -1,4 +1,4 @@
--- What is reported of each node by its number, for the faults. These words are cited by private contracts alone.
+-- What is reported of each node by its number, for the faults. These definitions are cited by private contracts alone.
 use Rattle.std.specs.Prelude.{◌≡◌, ◌≤◌, ◌↔◌, ℕ, ◌+◌, Bool, true, false, List, flat_map, length, slice_index_or}
 use Rattle.tangle_scan.specs.Web.{WebRead}
 use Rattle.tangle_names.specs.NameTable.{TableRead}
