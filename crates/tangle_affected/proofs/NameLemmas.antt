@@ -3,14 +3,13 @@ use Rattle.std.proofs.Common.{◌≡◌, ◌≢◌, ◌∙◌, ◌+◌, ◌<◌,
 use Rattle.std.specs.Prelude.{nat_lt, Option, IsSome}
 use Rattle.std.specs.List.{position, position_or_len}
 use Rattle.std.specs.Str.{bytes_eq}
-use Rattle.std.proofs.lemmas.List.Quantifiers.{position-Some}
 use Rattle.std.proofs.lemmas.Slice.Eq.{bytes_eq-Decides}
 use Rattle.std.proofs.lemmas.Bool.Decides.{nat_tests}
 use Rattle.tangle_plans.specs.Shapes.{Title, Named, Shape, Shapes}
 use Rattle.tangle_plans.specs.Shapes as title
 use Rattle.tangle_plans.specs.declared.nodes.Node.{Node}
 use Rattle.tangle_plans.specs.declared.nodes.Node.TheVariants.{Program, Name}
-use Rattle.tangle_graph.specs.Nodes.{title_at, title_of_node}
+use Rattle.tangle_graph.specs.Nodes.{title_of_node}
 use Rattle.tangle_graph.specs.Stores.{StoreRead, IsStoreOf, IsNodeIn, title_in_store}
 use Rattle.tangle_graph.proofs.NodeLemmas.{title_inside, named_inside, body_of_named}
 
