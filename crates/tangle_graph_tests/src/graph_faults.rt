@@ -5,26 +5,11 @@ use std::process::Abort;
 use std::test::Fail;
 use tangle_test_support::{doubling, lines_of};
 
-// Webs, and the lines of the faults of their graphs: a web without faults, an empty one, an
-// abbreviation of two names, a cycle of two names and a name in its place, a name that only reaches
-// a cycle, undefined names, which are reported once and at their first use, a file with the main
-// file's name, a name never used, a use in a piece that is dropped, and each kind in the order of
-// the names.
-const WEBS: [(&[u8], &[u8]); 12] = [
-    (b"@ A.\n@c\n@<Ini...@>\n@ @<Initialize@>=\nx=0;\n", b""),
+// Webs, and the lines of the faults of their graphs: an empty one, a name that only reaches a
+// cycle, undefined names, which are reported once and at their first use, a use in a piece that is
+// dropped, and each kind in the order of the names. The webs of `outputs` have theirs there.
+const WEBS: [(&[u8], &[u8]); 6] = [
     (b"", b"warning: no program text\n"),
-    (
-        b"@ A.\n@c\n@<Ini...@>\n@ @<Initialize@>=\nx=0;\n@ @<Init table@>=\n",
-        b"a.w:4: warning: never used: <Initialize>\na.w:6: warning: never used: <Init table>\n",
-    ),
-    (
-        b"@ P.\n@c\n@<A@>\n@ @<A@>=\n@<B@>\n@ @<B@>=\n@<A@>\n@ @(h.h@>=\nint h;\n",
-        b"a.w:3: error: contains itself: <A>\na.w:5: error: contains itself: <B>\n",
-    ),
-    (
-        b"@ P.\n@c\n@<A@>\n@ @<A@>=\n@<B@>\n@ @<B@>=\nb;\n@ @(h.h@>=\nint h;\n",
-        b"",
-    ),
     (
         b"@ P.\n@c\n@<A@>\n@ @<A@>=\n@<B@>\n@ @<B@>=\n@<B@>\n",
         b"a.w:5: error: contains itself: <B>\n",
@@ -33,14 +18,6 @@ const WEBS: [(&[u8], &[u8]); 12] = [
     (
         b"@ A @<undone@>.\n@c\n@<und...@>\n@<undone@>\n",
         b"a.w:3: error: undefined: <undone>\n",
-    ),
-    (
-        b"@ A.\n@(a.c@>=\nx\n",
-        b"a.w:2: error: file name is the main file's: <a.c>\nwarning: no program text\n",
-    ),
-    (
-        b"@ A.\n@d N 10\n@c\nx\n@ @<u@>=\n@h\n",
-        b"a.w:5: warning: never used: <u>\n",
     ),
     (
         b"@ A.\n@c\nx\n@ @<no...@>=\n@<u@>@<v@>\n@ @<v@>=\n1\n",

@@ -1,8 +1,7 @@
-//! Weights, depths, uses and output files of webs.
+//! Weights, depths and uses of webs.
+use crate::outputs::assert_nodes;
 use crate::tangling::tangle;
-use std::process::Abort;
 use std::test::Fail;
-use tangle_expansion::Output;
 use tangle_graph::Store;
 use tangle_plans::Node;
 use tangle_test_support::{chain, doubling};
@@ -12,53 +11,6 @@ const NAME_AND_USE: &[u8] = b"@ A.\n@c\nint x=@<v@>;\n@ @<v@>=\n1\n";
 const CYCLE: &[u8] = b"@ P.\n@c\n@<A@>\n@ @<A@>=\n@<B@>\n@ @<B@>=\n@<A@>\n@ @(h.h@>=\nint h;\n";
 
 const MAIN_FILES_NAME: &[u8] = b"@ A.\n@(a.c@>=\nx\n";
-
-// Webs, each with its output files: their names and nodes, and whether the macros begin them. They
-// do not where an unused piece has their place.
-const FILES: [(&[u8], &[(&[u8], Node, bool)]); 8] = [
-    (b"@ A.\n@c\nint x;\n", &[(b"a.c", Node::Program, true)]),
-    (NAME_AND_USE, &[(b"a.c", Node::Program, true)]),
-    (
-        b"@ A.\n@c\n@<Ini...@>\n@ @<Initialize@>=\nx=0;\n",
-        &[(b"a.c", Node::Program, true)],
-    ),
-    (
-        b"@ A.\n@c\n@<Ini...@>\n@ @<Initialize@>=\nx=0;\n@ @<Init table@>=\n",
-        &[(b"a.c", Node::Program, true)],
-    ),
-    (
-        b"@ A.\n@d N 10\n@c\nx\n@ @<u@>=\n@h\n",
-        &[(b"a.c", Node::Program, false)],
-    ),
-    (CYCLE, &[(b"h.h", Node::Name(2), false)]),
-    (MAIN_FILES_NAME, &[(b"a.c", Node::Program, true)]),
-    (
-        b"@ P.\n@c\n@<A@>\n@ @<A@>=\n@<B@>\n@ @<B@>=\nb;\n@ @(h.h@>=\nint h;\n",
-        &[
-            (b"a.c", Node::Program, true),
-            (b"h.h", Node::Name(2), false),
-        ],
-    ),
-];
-
-// The output files are these.
-fn assert_outputs(rt: &impl Abort, outputs: &[Output], files: &[(&[u8], Node, bool)]) {
-    assert_eq!(rt; outputs.len(), files.len());
-    for (output, (name, node, has_macros)) in outputs.iter().zip(files) {
-        assert!(rt; output.name() == *name);
-        assert_eq!(rt; output.node(), *node);
-        assert_eq!(rt; output.has_macros(), *has_macros);
-    }
-}
-
-#[test]
-fn files_of_webs(rt: HostRuntime) -> Result<(), Fail> {
-    for (text, files) in &FILES {
-        let tangled = tangle(rt.alloc(), text)?;
-        assert_outputs(&rt, tangled.store.outputs(), files);
-    }
-    Ok(())
-}
 
 // The weight and the depth of a node, whether it has a piece, whether it is expandable and whether
 // it contains itself.
@@ -193,8 +145,10 @@ fn a_chain_of_a_thousand_names(rt: HostRuntime) -> Result<(), Fail> {
 fn a_chain_of_a_name_less(rt: HostRuntime) -> Result<(), Fail> {
     let web = chain(rt.alloc(), b'k', 10_001, 10_999, 1)?;
     let tangled = tangle(rt.alloc(), web.as_slice())?;
-    let files: &[(&[u8], Node, bool)] = &[(b"a.c", Node::Program, true)];
-    assert_outputs(&rt, tangled.store.outputs(), files);
+    assert_nodes(&rt, tangled.store.outputs(), &[(Node::Program, true)]);
+    let output = tangled.store.outputs().first().ok_or("an output")?;
+    let name: &[u8] = b"a.c";
+    assert!(rt; output.name() == name);
     assert_eq!(rt; tangled.work.made(), 1000);
     assert!(rt; tangled.store.faults().is_empty());
     Ok(())
