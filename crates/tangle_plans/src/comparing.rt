@@ -19,7 +19,7 @@ ghost use Rattle.tangle_plans.specs.Runs.{IsKept, run_bytes};
 
 use crate::nodes::NodeBody;
 use crate::runs::{Run, end_of, no_run, pass_same, run_of, text_of};
-use crate::tags::{ItemKind, ItemTag, end_of_piece, is_tag_of_span, same_tag, tag_of};
+use crate::tags::{ItemKind, ItemTag, end_of_piece, same_tag, tag_of, tag_of_span};
 use itoa::Buffer;
 use tangle_names::{NameTable, Resolved};
 use tangle_scan::{Item, Span, Web};
@@ -139,7 +139,7 @@ fn behind_text<'w, 'o>(
     ensures run { IfSome result (λ next. IsKept web.now.texts next.run) }
     ensures position { GoesBehind (with_text web.now.texts kind span) tag position.entry result }
 {
-    if !is_tag_of_span(tag, kind, span) {
+    if !same_tag(tag, tag_of_span(kind, span)) {
         return None;
     }
     let text = behind_run(position.text, position.run)?;

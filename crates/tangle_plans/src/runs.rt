@@ -10,7 +10,7 @@ ghost use Rattle.tangle_plans.specs.Tags.{blank_tag};
 ghost use Rattle.tangle_plans.specs.Runs.{IsJoined, IsKept, IsRunOver, IsRunWith, IsTextOf};
 ghost use Rattle.tangle_plans.specs.Runs.{run_bytes};
 
-use crate::tags::{ItemKind, ItemTag, is_tag_of_span, same_tag, tag_of_blank, tag_of_span};
+use crate::tags::{ItemKind, ItemTag, same_tag, tag_of_blank, tag_of_span};
 use tangle_scan::{Item, Span, Web};
 
 /// The kind and the range of an item with a text.
@@ -169,29 +169,6 @@ pub(crate) fn pass_items(
     (end, passed)
 }
 
-/// Where a range ends with an item behind it, if the item has this tag, and its text is what comes
-/// next in the source.
-fn with_tagged(web: &Web, run: Run, item: &Item, tag: ItemTag) -> Option<usize>
-    requires { IsInRange web.now.texts item.now }
-    ensures { IfSome result (λ end. IsRunWith run.entry item.now tag
-        (record run.entry { end = end })) }
-{
-    match text_of(item) {
-        Some((kind, span)) => {
-            if !is_tag_of_span(tag, kind, span) {
-                return None;
-            }
-            joined(run, span)
-        }
-        None => {
-            if !same_tag(tag, tag_of_blank()) {
-                return None;
-            }
-            with_space(run, item)
-        }
-    }
-}
-
 /// Where a range ends with the items behind it that have these tags, one after the other, and whose
 /// texts come next in the source; and how many these are.
 pub(crate) fn pass_same(tags: &[ItemTag], web: &Web, run: Run, items: &[Item]) -> (usize, usize)
@@ -208,12 +185,12 @@ pub(crate) fn pass_same(tags: &[ItemTag], web: &Web, run: Run, items: &[Item]) -
     let mut end = run.end;
     let mut passed = 0;
     while passed < most {
-        match with_tagged(web, Run { end, ..run }, &items[passed], tags[passed]) {
-            Some(more) => {
+        match with_item(web, Run { end, ..run }, &items[passed]) {
+            Some((more, tag)) if same_tag(tags[passed], tag) => {
                 end = more;
                 passed += 1;
             }
-            None => return (end, passed),
+            _ => return (end, passed),
         }
     }
     (end, passed)

@@ -57,15 +57,6 @@ pub(crate) fn tag_of_span(kind: ItemKind, span: Span) -> ItemTag
     }
 }
 
-/// Whether a tag is that of an item of this kind whose text is a range of the source.
-// No tag is made for it: each of its parts is compared.
-pub(crate) fn is_tag_of_span(tag: ItemTag, kind: ItemKind, span: Span) -> bool
-    requires { span.start ≤ span.end }
-    ensures { (result ≡ true) ↔ (tag ≡ record { kind = kind; size = span.end - span.start }) }
-{
-    tag.kind == kind && tag.size == span.end - span.start
-}
-
 /// The tag of an item whose text has so many bytes.
 fn fixed_tag(kind: ItemKind, size: u16) -> ItemTag
     ensures { result ≡ record { kind = kind; size = size } }

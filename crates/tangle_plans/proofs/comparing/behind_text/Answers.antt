@@ -1,4 +1,4 @@
-use Rattle.std.proofs.Common.{◌-◌, [], ◌∷◌, refl}
+use Rattle.std.proofs.Common.{◌∙◌, ◌-◌, [], ◌∷◌, refl}
 use Rattle.tangle_plans.specs.Runs.{run_bytes}
 use Rattle.tangle_plans.specs.Fronts.{lists_at, with_bytes, with_text}
 use Rattle.tangle_plans.specs.declared.tags.ItemTag.{ItemTag}
@@ -11,7 +11,7 @@ returns-clause-position c =
     let s = c.args.span in
     let position = c.args.position in
     let expected : ItemTag = record { kind = c.args.kind; size = s.end - s.start } in
-    let same = c.is_tag_of_span.ensures.0 c.if-not-is_tag_of_span.false in
+    let same = c.same_tag.ensures.0 c.if-not-same_tag.false ∙ c.tag_of_span.ensures in
     let run = run_bytes position.run in
     let next = run_bytes c.run_of-run.result in
     λ tags. front_same _ _ (λ more. with_all expected run [] (with_bytes next more)) (λ more. with_bytes run (with_text texts c.args.kind s more)) (with_bytes next)

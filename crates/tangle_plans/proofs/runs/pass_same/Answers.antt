@@ -1,4 +1,4 @@
-use Rattle.std.proofs.Common.{◌∙◌, [], take, get_or, sym, subst, arith}
+use Rattle.std.proofs.Common.{◌≡◌, ◌∙◌, ◌++◌, ◌∷◌, [], take, get_or, ap, sym, subst, arith}
 use Rattle.std.proofs.lemmas.List.{take_more}
 use Rattle.std.proofs.lemmas.List.Elements.{All-get_or}
 use Rattle.tangle_scan.specs.SourceOrder.{IsInRange}
@@ -20,12 +20,12 @@ loop-passed-preserved c =
     let i = c.loop-passed.passed in
     let x = c.index-items-passed.result in
     let inside : IsInRange texts x = subst (IsInRange texts) (sym c.index-items-passed.is) (All-get_or (IsInRange texts) items i x (omega arith) c.requires.spans) in
-    let tag = get_or tags i no_tag in
+    let same : get_or tags i no_tag ≡ c.in-Some.tag = c.same_tag.ensures.0 c.if-same_tag.true in
     record {
       few = omega arith;
       tagged = omega arith;
-      range = over_next texts c.args.run (record c.args.run { end = c.loop-passed.end }) (record c.args.run { end = c.in-Some.more }) items i x x tag
+      range = over_next texts c.args.run (record c.args.run { end = c.loop-passed.end }) (record c.args.run { end = c.in-Some.more }) items i x x c.in-Some.tag
           (omega arith) c.index-items-passed.is inside c.loop-passed.invariant.range c.in-Some.ensures;
-      tags = λ table. take_more tags i no_tag (omega arith)
-          ∙ tags_over table items i x x tag [] (take i tags) (omega arith) c.index-items-passed.is (c.in-Some.ensures.item_tag table) (c.loop-passed.invariant.tags table);
+      tags = λ table. take_more tags i no_tag (omega arith) ∙ ap (λ t. take i tags ++ t ∷ []) same
+          ∙ tags_over table items i x x c.in-Some.tag [] (take i tags) (omega arith) c.index-items-passed.is (c.in-Some.ensures.item_tag table) (c.loop-passed.invariant.tags table);
     }
