@@ -1,5 +1,5 @@
 -- The pieces of each node, and the names that it uses, by number: the names in their order, and then the program.
-use Rattle.std.specs.Prelude.{ℕ, Bool, false, ◌==◌, List, [], length, filter, flat_map, Option, None, Some, option_to_list}
+use Rattle.std.specs.Prelude.{ℕ, Bool, false, ◌==◌, List, [], length, filter, flat_map, Option, None, Some, option_to_list, slice_index_or, take}
 use Rattle.tangle_scan.specs.declared.items.Item.{Item}
 use Rattle.tangle_scan.specs.declared.items.Item.TheVariants as item
 use Rattle.tangle_scan.specs.Web.{PieceRead}
@@ -7,6 +7,7 @@ use Rattle.tangle_names.specs.declared.Resolved.{Resolved}
 use Rattle.tangle_names.specs.declared.Resolved.TheVariants.{Name, NoFullName, Ambiguous}
 use Rattle.tangle_names.specs.NameTable.{TableRead}
 use Rattle.tangle_plans.specs.WebShapes.{resolved_at}
+use Rattle.digraph.specs.Graph.{row_at}
 use Rattle.digraph.specs.Users.{positions}
 
 -- the number of the name that is resolved to
@@ -32,6 +33,10 @@ module _ (table : TableRead) where
 abbrev pub is_number : ℕ → Option ℕ → Bool
 is_number n None = false
 is_number n (Some m) = m == n
+
+-- the first numbers of a row, as many as were passed
+abbrev pub passed_of : List (List ℕ) → List ℕ → ℕ → List ℕ
+passed_of rows passed n = take (slice_index_or passed n 0) (row_at rows n)
 
 module _ (table : TableRead) where
   -- the piece is one of the node with this number

@@ -13,7 +13,7 @@ use Rattle.tangle_graph.specs.declared.store.Store.TheInside.{Inside}
 abbrev pub store_read : Inside → StoreRead
 store_read s = record {
   names = s.skeleton.value.names;
-  pieces = rows_of s.pieces.items;
+  pieces = rows_of s.pieces.value.items;
   uses = node_rows s.skeleton.value.used_nodes.items;
   users = node_rows s.skeleton.value.user_nodes.items;
   self_containing = s.skeleton.value.self_containing.items;

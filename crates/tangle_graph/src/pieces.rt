@@ -1,11 +1,11 @@
 //! The pieces of each node, and the names that it uses.
 ghost use Rattle.std.specs.Prelude.{◌≡◌, ◌<◌, ◌+◌, ◌∷◌, [], IfOk, OnOk, IfSome};
-ghost use Rattle.std.specs.Prelude.{length, if◌then◌else◌, All};
-ghost use Rattle.digraph.specs.Graph.{rows_of};
+ghost use Rattle.std.specs.Prelude.{◌++◌, ℕ, length, if◌then◌else◌, All, true};
+ghost use Rattle.digraph.specs.Graph.{row_at, rows_of};
 ghost use Rattle.digraph.specs.Rows.{IsRowsOf, GrowsBy};
 ghost use Rattle.tangle_plans.specs.WebShapes.{ResolvesInside};
 ghost use Rattle.tangle_graph.specs.Grouping.{number_of_name, number_of, is_number};
-ghost use Rattle.tangle_graph.specs.Grouping.{positions_of};
+ghost use Rattle.tangle_graph.specs.Grouping.{passed_of, positions_of};
 
 use digraph::{empty_rows, push_to};
 use std::alloc::{AllocError, Global};
@@ -64,6 +64,75 @@ pub(crate) fn pieces_by_node(
         push_at(&mut rows, number_of(table, piece.occurrence()), i)?;
     }
     Ok(rows)
+}
+
+/// Passes a number in the row of the node, if there is one: whether it comes next there.
+fn pass_next(
+    rows: &[Vec<usize>],
+    passed: &mut Vec<usize>,
+    node: Option<usize>,
+    number: usize,
+) -> bool
+    requires node { IfSome node (λ n. n < length rows.now) }
+    requires size { length passed.old.items ≡ length rows.now }
+    ensures size { length passed.new.items ≡ length rows.now }
+    ensures rows { result ≡ true → (n : ℕ) → n < length rows.now
+        → passed_of (rows_of rows.now) passed.new.items n
+        ≡ passed_of (rows_of rows.now) passed.old.items n
+        ++ (if is_number n node then number ∷ [] else []) }
+{
+    match node {
+        None => true,
+        Some(n) => {
+            let at = passed[n];
+            if rows[n].get(at) != Some(&number) {
+                return false;
+            }
+            passed[n] = at + 1;
+            true
+        }
+    }
+}
+
+/// Whether all numbers of each row were passed.
+fn are_passed(rows: &[Vec<usize>], passed: &[usize]) -> bool
+    requires { length passed.now ≡ length rows.now }
+    ensures { result ≡ true → (n : ℕ) → n < length rows.now
+        → passed_of (rows_of rows.now) passed.now n ≡ row_at (rows_of rows.now) n }
+{
+    for n in 0..rows.len() {
+        if passed[n] != rows[n].len() {
+            return false;
+        }
+    }
+    true
+}
+
+/// Whether these rows are those of the pieces. An edit seldom changes them, and then no row is made
+/// anew.
+pub(crate) fn are_rows_of(
+    alloc: Global,
+    rows: &[Vec<usize>],
+    pieces: &[Piece],
+    table: &NameTable,
+) -> Result<bool, AllocError>
+    requires inside { ResolvesInside table.now }
+    requires names { All (λ p. IfSome p.occurrence
+        (λ occurrence. occurrence < length table.now.resolved)) pieces.now }
+    ensures { IfOk result (λ are. are ≡ true → IsRowsOf (length table.now.names + 1)
+        (positions_of table.now pieces.now) (rows_of rows.now)) }
+{
+    let count = table.count();
+    if rows.len() <= count || rows.len() - count != 1 {
+        return Ok(false);
+    }
+    let mut passed = vec![in alloc; 0; rows.len()]?;
+    for (i, piece) in pieces.iter().enumerate() {
+        if !pass_next(rows, &mut passed, number_of(table, piece.occurrence()), i) {
+            return Ok(false);
+        }
+    }
+    Ok(are_passed(rows, &passed))
 }
 
 /// An empty row for each name, and one for the program.

@@ -30,7 +30,7 @@ use crate::faults::{NodeFlags, faults};
 use crate::measures::Measures;
 use crate::nodes::{entry, number_of, row};
 use crate::outputs::outputs;
-use crate::pieces::pieces_by_node;
+use crate::pieces::{are_rows_of, pieces_by_node};
 use crate::skeleton::{Skeleton, are_names_of, have_same_uses};
 use std::alloc::Global;
 use std::marker::Model;
@@ -50,7 +50,7 @@ use tangle_scan::Web;
 #[derive(Drop)]
 pub struct Store {
     skeleton: Rc<Skeleton>,
-    pieces: Vec<Vec<usize>>,
+    pieces: Rc<Vec<Vec<usize>>>,
     filled: Vec<bool>,
     weights: Vec<u32>,
     depths: Vec<u16>,
@@ -91,8 +91,9 @@ impl Store {
         ensures { IfOk result (IsStoreOfWeb web.now table.now out.now) }
     {
         names_resolve_inside();
-        let pieces = pieces_by_node(alloc, web.pieces(), table)?;
-        let rows: &[Vec<usize>] = &pieces;
+        let pieces = shared_pieces(alloc, web, table)?;
+        let all: &Vec<Vec<usize>> = &pieces;
+        let rows: &[Vec<usize>] = all;
         let filled = filled_rows(alloc, rows)?;
         let flags: &[bool] = &filled;
         let names = table.names()?;
@@ -122,8 +123,9 @@ impl Store {
         ensures kept { IfOk result (λ made. KeepsBodies old.now made.store made.are_kept.items) }
     {
         names_resolve_inside();
-        let pieces = pieces_by_node(alloc, web.pieces(), table)?;
-        let rows: &[Vec<usize>] = &pieces;
+        let pieces = old.pieces_for(alloc, web, table)?;
+        let all: &Vec<Vec<usize>> = &pieces;
+        let rows: &[Vec<usize>] = all;
         let filled = filled_rows(alloc, rows)?;
         let flags: &[bool] = &filled;
         let before = old.bodies();
@@ -161,6 +163,36 @@ impl Store {
         }
     }
 
+    /// The numbers of the pieces of each node, one row for each.
+    fn rows(&self) -> &[Vec<usize>]
+        ensures { rows_of result.now ≡ self.now.pieces }
+    {
+        let all: &Vec<Vec<usize>> = &self.pieces;
+        all
+    }
+
+    /// The pieces of each node of a web: the store's own rows, where they are the same.
+    fn pieces_for(
+        &self,
+        alloc: Global,
+        web: &Web,
+        table: &NameTable,
+    ) -> Result<Rc<Vec<Vec<usize>>>, NoMemory>
+        requires { table.now ≡ record (table_of web.now) { faults = table.now.faults } }
+        ensures { IfOk result (λ rows. IsRowsOf (length table.now.names + 1)
+            (positions_of table.now web.now.pieces) (rows_of rows.value.items)) }
+    {
+        names_resolve_inside();
+        let all: &Vec<Vec<usize>> = &self.pieces;
+        if are_rows_of(alloc, all, web.pieces(), table)? {
+            return match self.pieces.clone() {
+                Ok(pieces) => Ok(pieces),
+                Err(_) => Err(NoMemory),
+            };
+        }
+        shared_pieces(alloc, web, table)
+    }
+
     /// The skeleton of the table's names and these bodies: the store's own, where it is the same.
     fn skeleton_for(
         &self,
@@ -195,19 +227,19 @@ impl Store {
         web: &Web,
         table: &NameTable,
         out: &[u8],
-        pieces: Vec<Vec<usize>>,
+        pieces: Rc<Vec<Vec<usize>>>,
         filled: Vec<bool>,
         bodies: Vec<Rc<NodeBody>>,
         skeleton: Rc<Skeleton>,
     ) -> Result<Store, NoMemory>
         requires table { table.now ≡ record (table_of web.now) { faults = table.now.faults } }
         requires grouped { IsRowsOf (length table.now.names + 1)
-            (positions_of table.now web.now.pieces) (rows_of pieces.items) }
-        requires filled { AreFilled (rows_of pieces.items) filled.items }
-        requires bodies { AreBodies web.now table.now (rows_of pieces.items)
+            (positions_of table.now web.now.pieces) (rows_of pieces.value.items) }
+        requires filled { AreFilled (rows_of pieces.value.items) filled.items }
+        requires bodies { AreBodies web.now table.now (rows_of pieces.value.items)
             (node_bodies bodies.items) }
         requires plans { ArePlans web.now table.now (λ id. slice_index_or filled.items id false)
-            (rows_of pieces.items) (slots_of bodies.items) (uses_of_plans bodies.items) }
+            (rows_of pieces.value.items) (slots_of bodies.items) (uses_of_plans bodies.items) }
         requires planned { ArePlanned table.now.names (λ id. slice_index_or filled.items id false)
             (node_bodies bodies.items) }
         requires names { skeleton.value.names ≡ table.now.names }
@@ -220,7 +252,8 @@ impl Store {
         filled_plans_are_right();
         let shared: &Skeleton = &skeleton;
         let defined: &[bool] = &filled;
-        let rows: &[Vec<usize>] = &pieces;
+        let all: &Vec<Vec<usize>> = &pieces;
+        let rows: &[Vec<usize>] = all;
         let uses: &[Vec<usize>] = &shared.uses;
         let order: &[usize] = &shared.order;
         let measures = Measures::take(alloc, web, table, rows, uses, order, &bodies)?;
@@ -275,7 +308,7 @@ impl Store {
     pub fn has_piece(&self, node: Node) -> bool
         ensures { result ≡ has_piece_at self.now node }
     {
-        !row(&self.pieces, self.number(node)).is_empty()
+        !row(self.rows(), self.number(node)).is_empty()
     }
 
     /// Whether the node contains itself: it reaches itself by one use or more.
@@ -363,6 +396,24 @@ impl Store {
     }
 }
 
+/// The pieces of each node of a web, to be shared.
+fn shared_pieces(
+    alloc: Global,
+    web: &Web,
+    table: &NameTable,
+) -> Result<Rc<Vec<Vec<usize>>>, NoMemory>
+    requires { table.now ≡ record (table_of web.now) { faults = table.now.faults } }
+    ensures { IfOk result (λ rows. IsRowsOf (length table.now.names + 1)
+        (positions_of table.now web.now.pieces) (rows_of rows.value.items)) }
+{
+    names_resolve_inside();
+    let pieces = pieces_by_node(alloc, web.pieces(), table)?;
+    match Rc::new(alloc, pieces) {
+        Ok(pieces) => Ok(pieces),
+        Err(_) => Err(NoMemory),
+    }
+}
+
 impl PiecesByNode for Store {
     ghost use Rattle.tangle_graph.specs.Stores.{pieces_of_node, body_at};
 
@@ -377,7 +428,7 @@ impl PiecesByNode for Store {
     }
 
     fn piece_numbers(&self, node: Node) -> &[usize] {
-        row(&self.pieces, self.number(node))
+        row(self.rows(), self.number(node))
     }
 
     fn node_body(&self, node: Node) -> Option<&Rc<NodeBody>> {

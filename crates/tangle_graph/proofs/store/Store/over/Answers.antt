@@ -1,4 +1,4 @@
-use Rattle.std.proofs.Common.{◌≡◌, ◌∙◌, ◌<◌, ◌+◌, ℕ, Bool, List, length, map, get_or, ap, refl, sym, subst, arith, false}
+use Rattle.std.proofs.Common.{◌≡◌, ◌∙◌, ◌<◌, ◌+◌, ℕ, Bool, List, length, map, get_or, ap, refl, sym, subst, arith, false, Vec}
 use Rattle.std.specs.Global.{Global}
 use Rattle.std.specs.declared.rc.Rc.{Rc}
 use Rattle.std.proofs.lemmas.List.{length-map}
@@ -33,11 +33,11 @@ pub take-requires-clause-graph : goal.take-requires-clause-graph
 take-requires-clause-graph c =
     let web = c.args.web.now in
     let table = c.args.table.now in
-    let graph = graph_over web table c.args.pieces.items (node_bodies c.args.bodies.items) c.args.skeleton.value
+    let graph = graph_over web table c.args.pieces.value.items (node_bodies c.args.bodies.items) c.args.skeleton.value
     (subst (λ (t : TableRead). IsDistinct bytes_eq t.names) (sym c.requires.table) (c.names_are_the_full_names.ensures.once web.occurrences))
     (subst ResolvesInside (sym c.requires.table) (c.names_resolve_inside.ensures web)) c.requires.grouped c.requires.bodies c.requires.skeleton in
-    subst (λ (g : Graph). IsGraphOf web table g c.deref-uses.result.now) (sym c.deref-rows.ensures.value)
-    (subst (λ (g : Graph). IsGraphOf web table c.args.pieces.items g) (sym (c.deref-uses.ensures.value ∙ ap (λ (s : Skeleton). s.uses.items) c.deref-shared.ensures)) graph)
+    subst (λ (g : Graph). IsGraphOf web table g c.deref-uses.result.now) (sym (c.deref-rows.ensures.value ∙ ap (λ (v : Vec (Vec ℕ Global) Global). v.items) c.deref-all.ensures))
+    (subst (λ (g : Graph). IsGraphOf web table c.args.pieces.value.items g) (sym (c.deref-uses.ensures.value ∙ ap (λ (s : Skeleton). s.uses.items) c.deref-shared.ensures)) graph)
 
 pub take-requires-clause-order : goal.take-requires-clause-order
 take-requires-clause-order c =
@@ -48,7 +48,7 @@ pub returns-clause-store : goal.returns-clause-store
 returns-clause-store c =
     let web = c.args.web.now in
     let table = c.args.table.now in
-    let pieces = c.args.pieces.items in
+    let pieces = c.args.pieces.value.items in
     let bodies = c.args.bodies.items in
     let skeleton = c.args.skeleton.value in
     let uses = skeleton.uses.items in
@@ -84,7 +84,7 @@ pub invariant_of-result : goal.invariant_of-result
 invariant_of-result c =
     let web = c.args.web.now in
     let table = c.args.table.now in
-    let pieces = c.args.pieces.items in
+    let pieces = c.args.pieces.value.items in
     let bodies = c.args.bodies.items in
     let skeleton = c.args.skeleton.value in
     let uses = skeleton.uses.items in
@@ -96,7 +96,7 @@ invariant_of-result c =
     let measured : (n : ℕ) → n < length uses → get_or measures.depths.items n 0 ≡ depth_of (shapes web table) (title_at table.names n) =
     (λ n room. c.in_ok-measures.ensures.depths n (omega (arith, room, same))) in
     let within : AreWithin (rows_of pieces) measures.weights.items measures.depths.items measures.expandable.items =
-    subst (λ (g : Graph). AreWithin (rows_of g) measures.weights.items measures.depths.items measures.expandable.items) c.deref-rows.ensures.value c.in_ok-measures.ensures.within in
+    subst (λ (g : Graph). AreWithin (rows_of g) measures.weights.items measures.depths.items measures.expandable.items) (c.deref-rows.ensures.value ∙ ap (λ (v : Vec (Vec ℕ Global) Global). v.items) c.deref-all.ensures) c.in_ok-measures.ensures.within in
     let count : length skeleton.names ≡ length table.names = ap length c.requires.names in
     let used : node_rows skeleton.used_nodes.items ≡ map (map (node_at (length table.names))) (rows_of uses) = c.requires.skeleton.used_nodes ∙ ap (λ k. map (map (node_at k)) (rows_of uses)) count in
     let nodes : skeleton.node_order.items ≡ map (node_at (length table.names)) skeleton.order.items = c.requires.skeleton.node_order ∙ ap (λ k. map (node_at k) skeleton.order.items) count in
@@ -113,7 +113,7 @@ pub outputs-requires-clause-program : goal.outputs-requires-clause-program
 outputs-requires-clause-program c =
     let web = c.args.web.now in
     let table = c.args.table.now in
-    let pieces = c.args.pieces.items in
+    let pieces = c.args.pieces.value.items in
     let skeleton = c.args.skeleton.value in
     let uses = skeleton.uses.items in
     let distinct = subst (λ (t : TableRead). IsDistinct bytes_eq t.names) (sym c.requires.table) (c.names_are_the_full_names.ensures.once web.occurrences) in
@@ -128,7 +128,7 @@ pub faults-requires-clause-flags : goal.faults-requires-clause-flags
 faults-requires-clause-flags c =
     let web = c.args.web.now in
     let table = c.args.table.now in
-    let pieces = c.args.pieces.items in
+    let pieces = c.args.pieces.value.items in
     let skeleton = c.args.skeleton.value in
     let uses = skeleton.uses.items in
     let distinct = subst (λ (t : TableRead). IsDistinct bytes_eq t.names) (sym c.requires.table) (c.names_are_the_full_names.ensures.once web.occurrences) in
@@ -139,7 +139,7 @@ faults-requires-clause-flags c =
     let same : length c.deref-uses.result.now ≡ length uses = ap length (c.deref-uses.ensures.value ∙ ap (λ (s : Skeleton). s.uses.items) c.deref-shared.ensures) in
     let containing : c.deref-2.result.now ≡ skeleton.self_containing.items = c.deref-2.ensures.value ∙ ap (λ (s : Skeleton). s.self_containing.items) c.deref-shared.ensures in
     let reaching : c.deref-3.result.now ≡ skeleton.reaching_cycles.items = c.deref-3.ensures.value ∙ ap (λ (s : Skeleton). s.reaching_cycles.items) c.deref-shared.ensures in
-    let rows_count : length (rows_of c.deref-rows.result.now) ≡ length table.names + 1 = ap (λ (g : Graph). length (rows_of g)) c.deref-rows.ensures.value ∙ rows_size pieces ∙ graph.rows_size in
+    let rows_count : length (rows_of c.deref-rows.result.now) ≡ length table.names + 1 = ap (λ (g : Graph). length (rows_of g)) (c.deref-rows.ensures.value ∙ ap (λ (v : Vec (Vec ℕ Global) Global). v.items) c.deref-all.ensures) ∙ rows_size pieces ∙ graph.rows_size in
     record {
       defined_size = defined_size web table pieces uses graph c.deref-defined.result.now filled;
       containing_size = ap length containing ∙ is.containing_size ∙ graph.uses_size;

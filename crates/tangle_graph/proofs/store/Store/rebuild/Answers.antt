@@ -1,9 +1,8 @@
-use Rattle.std.proofs.Common.{◌≡◌, ◌∙◌, ◌<◌, ℕ, List, Bool, arith, length, map, get_or, ap, sym, subst, true, false, true≢false}
+use Rattle.std.proofs.Common.{◌≡◌, ◌∙◌, ◌<◌, ℕ, List, Bool, arith, length, map, get_or, ap, sym, subst, true, false, true≢false, Vec}
 use Rattle.std.specs.Global.{Global}
 use Rattle.std.specs.declared.rc.Rc.{Rc}
 use Rattle.std.specs.Prelude.{All, slice_get}
 use Rattle.digraph.specs.Graph.{Graph, rows_of}
-use Rattle.tangle_scan.specs.Web.{PieceRead}
 use Rattle.tangle_graph.specs.Nodes.{title_at}
 use Rattle.tangle_plans.specs.NodeBodies.{node_uses, texts_at}
 use Rattle.tangle_plans.specs.WebShapes.{ResolvesInside}
@@ -16,10 +15,10 @@ use Rattle.tangle_graph.proofs.store.Store.rebuild.Goals.{then-same_names, else-
 
 pub bodies_by_node-requires-clause-inside : goal.bodies_by_node-requires-clause-inside
 bodies_by_node-requires-clause-inside c =
-    let rows = c.in_ok-pieces.pieces.items in
-    let inside = pieces_inside c.args.table.now c.pieces.result.now rows c.in_ok-pieces.ensures in
-    subst (ArePiecesInside (length c.args.web.now.pieces)) (sym c.deref-rows.ensures.value)
-    (subst (λ (ps : List PieceRead). ArePiecesInside (length ps) rows) c.pieces.ensures.pieces inside)
+    let rows = c.in_ok-pieces.pieces.value.items in
+    let inside = pieces_inside c.args.table.now c.args.web.now.pieces rows c.in_ok-pieces.ensures in
+    subst (ArePiecesInside (length c.args.web.now.pieces)) (sym (c.deref-rows.ensures.value ∙ ap (λ (v : Vec (Vec ℕ Global) Global). v.items) c.deref-all.ensures))
+    inside
 
 pub skeleton_for-requires-clause-inside : goal.skeleton_for-requires-clause-inside
 skeleton_for-requires-clause-inside c =
@@ -33,8 +32,8 @@ over-requires-clause-plans c =
     let web = c.args.web.now in
     let table = c.args.table.now in
     let bodies = c.in_ok-made.made.bodies.items in
-    subst (λ (fs : List Bool). ArePlans web table (λ id. get_or fs id false) (rows_of c.in_ok-pieces.pieces.items) (slots_of bodies) (uses_of_plans bodies)) c.deref-flags.ensures.value
-    (subst (λ (g : Graph). ArePlans web table (λ id. get_or c.deref-flags.result.now id false) (rows_of g) (slots_of bodies) (uses_of_plans bodies)) c.deref-rows.ensures.value c.in_ok-made.ensures.plans)
+    subst (λ (fs : List Bool). ArePlans web table (λ id. get_or fs id false) (rows_of c.in_ok-pieces.pieces.value.items) (slots_of bodies) (uses_of_plans bodies)) c.deref-flags.ensures.value
+    (subst (λ (g : Graph). ArePlans web table (λ id. get_or c.deref-flags.result.now id false) (rows_of g) (slots_of bodies) (uses_of_plans bodies)) (c.deref-rows.ensures.value ∙ ap (λ (v : Vec (Vec ℕ Global) Global). v.items) c.deref-all.ensures) c.in_ok-made.ensures.plans)
 
 pub over-requires-clause-planned : goal.over-requires-clause-planned
 over-requires-clause-planned c =
