@@ -15,7 +15,7 @@ finding_set graph flags found n p r = record {
   sound = flagged_set (ReachesFlagged graph flags) found n p.sound r;
 }
 
--- a use hands it up
+-- what a node uses reaches, the node reaches
 pub reaches_by_use : (graph : Graph) (flags : List Bool) (n m : ℕ) → HasUse graph n m → ReachesFlagged graph flags m → ReachesFlagged graph flags n
 reaches_by_use graph flags n m u r = (r.0, on u r.1, r.2)
 

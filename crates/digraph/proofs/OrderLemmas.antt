@@ -26,7 +26,7 @@ module _ (graph : Graph) (order : List ℕ) (placed : IsAfterUses graph order) (
   pub along : (n : ℕ) → Contains order n → P n
   along n c = subst P (get_or_default order c.0 0 n c.1 ∙ c.2) (below (suc c.0) c.0 (omega arith) c.1)
 
--- what a use hands up with one more fuel holds of each node that is left out
+-- what a node has of one that it uses, with one more fuel, holds of each node that is left out
 pub left_out_deep : (graph : Graph) (order : List ℕ) → IsOrder graph order → InRange graph → (P : ℕ → ℕ → Type 0) → ((n : ℕ) → P zero n)
     → ((fuel n m : ℕ) → HasUse graph n m → P fuel m → P (suc fuel) n) → (fuel n : ℕ) → n < length graph → (Contains order n → ⊥) → P fuel n
 left_out_deep graph order is range P start up zero n h out = start n

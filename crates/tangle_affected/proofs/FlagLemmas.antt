@@ -1,27 +1,32 @@
 -- One more node along the order is flagged or not.
-use Rattle.std.proofs.Common.{◌≡◌, ◌≢◌, ◌∙◌, ◌+◌, ◌<◌, ◌≤◌, ◌↔◌, ℕ, Bool, true, false, List, [], ◌∷◌, ◌++◌, length, take, get_or, set, refl, ap, sym, subst, inl, inr, arith, get_or-set_same, get_or-set_other, Contains}
+use Rattle.std.proofs.Common.{◌≡◌, ◌≢◌, ◌∙◌, ◌+◌, ◌<◌, ◌↔◌, ℕ, Bool, true, false, List, [], ◌∷◌, ◌++◌, length, take, get_or, refl, ap, sym, subst, inl, inr, arith, Contains}
 use Rattle.std.proofs.lemmas.List.{get_or_default, take_more}
+use mathlib.Core.HLevel.{Discrete}
 use Rattle.std.proofs.Math.Decide.{ℕ_discrete}
 use Rattle.std.proofs.lemmas.List.Elements.{Contains-get_or, Contains-push_cases, Contains-append_left, Contains-append_right}
 use Rattle.tangle_plans.specs.Shapes.{Title, Named, Shapes, Uses, Reaches, here, on}
 use Rattle.tangle_plans.specs.Shapes as title
 use Rattle.tangle_plans.specs.declared.nodes.Node.{Node}
 use Rattle.tangle_plans.specs.declared.nodes.Node.TheVariants.{Program, Name}
-use Rattle.tangle_graph.specs.Nodes.{IsNodeOf, UsesTitle}
+use Rattle.tangle_graph.specs.Nodes.{UsesTitle}
 use Rattle.tangle_graph.specs.Ordering.{IsOrderIn}
-use Rattle.tangle_graph.specs.Stores.{StoreRead, IsStoreOf, IsNodeIn, uses_at, title_in_store}
-use Rattle.tangle_affected.specs.Flags.{number_of_node, flag_of_node, ReachesChanged, AreFlagged, AreListed}
+use Rattle.tangle_graph.specs.Stores.{StoreRead, IsStoreOf, IsNodeIn, flag_at, uses_at, title_in_store, with_flag}
+use Rattle.tangle_graph.proofs.FlagLemmas.{flag_set, flag_stays}
+use Rattle.tangle_affected.specs.Flags.{ReachesChanged, AreFlagged, AreListed}
 use Rattle.tangle_affected.proofs.FilterLemmas.{in_front, out_of_take}
 
-pub number_low : (names : List (List ℕ)) (a : Node) → IsNodeOf names a → number_of_node (length names) a ≤ length names
-number_low names Program h = omega arith
-number_low names (Name id) h = omega (arith, h)
-
-pub same_number : (names : List (List ℕ)) (a b : Node) → IsNodeOf names a → IsNodeOf names b → number_of_node (length names) a ≡ number_of_node (length names) b → a ≡ b
-same_number names Program Program ha hb e = refl
-same_number names Program (Name id) ha hb e = absurd (omega (arith, hb, e))
-same_number names (Name id) Program ha hb e = absurd (omega (arith, ha, e))
-same_number names (Name id) (Name other) ha hb e = ap Name e
+-- nodes are the same or not
+pub node_discrete : Discrete Node
+node_discrete Program Program = yes refl
+node_discrete Program (Name id) = no (λ e. let both : Program ≡ Name id = e in absurd (cc))
+node_discrete (Name id) Program = no (λ e. let both : Name id ≡ Program = e in absurd (cc))
+node_discrete (Name id) (Name other) = elim (ℕ_discrete id other) [
+  | yes same ↦ yes (ap Name same)
+  | no apart ↦ no (λ e. apart (number_of_name e))
+]
+  where
+    number_of_name : {n m : ℕ} → Name n ≡ Name m → n ≡ m
+    number_of_name e = cc
 
 true_unless : (b : Bool) → ((e : b ≡ false) → ⊥) → b ≡ true
 true_unless true h = refl
@@ -44,21 +49,19 @@ module _ (store : StoreRead) (order : List Node) (placed : IsOrderIn store order
   module _ (old new : Shapes) (is : IsStoreOf new store) (flags : List Bool) (i : ℕ) (inside : i < length order) (are : AreFlagged old new store flags (take i order)) where
     pub flagged_next : (b : Bool) → length flags ≡ length store.names + 1
         → (b ≡ true → ReachesChanged old new (title_in_store store (get_or order i Program))) → (b ≡ false → ReachesChanged old new (title_in_store store (get_or order i Program)) → ⊥)
-        → AreFlagged old new store (set flags (number_of_node (length store.names) (get_or order i Program)) b) (take (i + 1) order)
+        → AreFlagged old new store (with_flag store flags (get_or order i Program) b) (take (i + 1) order)
     flagged_next b size reached not a c =
-        let low : number_of_node (length store.names) (get_or order i Program) < length flags = omega (arith, number_low store.names (get_or order i Program) (at_position i inside), size) in
-        let is_set = get_or-set_same flags (number_of_node (length store.names) (get_or order i Program)) b false low in
+        let there = at_position i inside in
+        let is_set = flag_set store flags (get_or order i Program) b there size in
         elim (Contains-push_cases (take i order) (get_or order i Program) a (subst (λ l. Contains l a) (take_more order i Program inside) c)) [
-          | inl before ↦ (let other : number_of_node (length store.names) a ≢ number_of_node (length store.names) (get_or order i Program) =
-              (λ e. apart i a inside before (same_number store.names a (get_or order i Program) (placed.inside a (out_of_take order i a before)) (at_position i inside) e)) in
-              let stays = get_or-set_other flags (number_of_node (length store.names) (get_or order i Program)) (number_of_node (length store.names) a) b false other in
+          | inl before ↦ (let stays = flag_stays store flags (get_or order i Program) a b there (placed.inside a (out_of_take order i a before)) (apart i a inside before) in
               ((λ f. (are a before).0 (sym stays ∙ f)), (λ r. stays ∙ (are a before).1 r)))
-          | inr e ↦ subst (λ m. (flag_of_node (length store.names) (set flags (number_of_node (length store.names) (get_or order i Program)) b) m ≡ true) ↔ ReachesChanged old new (title_in_store store m)) e
+          | inr e ↦ subst (λ m. (flag_at store (with_flag store flags (get_or order i Program) b) m ≡ true) ↔ ReachesChanged old new (title_in_store store m)) e
               ((λ f. reached (sym is_set ∙ f)), (λ r. is_set ∙ true_unless b (λ off. not off r)))
         ]
 
     -- a use that is flagged
-    pub reached_by_use : (m : Node) → Contains (uses_at store (get_or order i Program)) m → flag_of_node (length store.names) flags m ≡ true
+    pub reached_by_use : (m : Node) → Contains (uses_at store (get_or order i Program)) m → flag_at store flags m ≡ true
         → ReachesChanged old new (title_in_store store (get_or order i Program))
     reached_by_use m used is_flagged =
         let r = (are m (placed.after i m inside used)).0 is_flagged in
@@ -67,7 +70,7 @@ module _ (store : StoreRead) (order : List Node) (placed : IsOrderIn store order
 
     -- it is not changed, and no use is flagged
     pub not_reached : (changed : Bool) → ((changed ≡ true) ↔ (new (title_in_store store (get_or order i Program)) ≢ old (title_in_store store (get_or order i Program)))) → changed ≡ false
-        → ((m : Node) → Contains (uses_at store (get_or order i Program)) m → flag_of_node (length store.names) flags m ≡ false) → ReachesChanged old new (title_in_store store (get_or order i Program)) → ⊥
+        → ((m : Node) → Contains (uses_at store (get_or order i Program)) m → flag_at store flags m ≡ false) → ReachesChanged old new (title_in_store store (get_or order i Program)) → ⊥
     not_reached changed reported same none r = from (title_in_store store (get_or order i Program)) r.0 r.1 r.2 refl
       where
         from : (a c : Title) → Reaches new a c → new c ≢ old c → a ≡ title_in_store store (get_or order i Program) → ⊥
@@ -84,22 +87,21 @@ module _ (store : StoreRead) (order : List Node) (placed : IsOrderIn store order
 -- one more node of a list is flagged
 pub listed_next : (store : StoreRead) (nodes : List Node) (flags : List Bool) (i : ℕ) → i < length nodes → length flags ≡ length store.names + 1
     → IsNodeIn store (get_or nodes i Program) → AreListed store flags (take i nodes)
-    → AreListed store (set flags (number_of_node (length store.names) (get_or nodes i Program)) true) (take (i + 1) nodes)
+    → AreListed store (with_flag store flags (get_or nodes i Program) true) (take (i + 1) nodes)
 listed_next store nodes flags i h size there are a inside =
     let next = get_or nodes i Program in
-    let low : number_of_node (length store.names) (get_or nodes i Program) < length flags = omega (arith, number_low store.names (get_or nodes i Program) there, size) in
-    let is_set = get_or-set_same flags (number_of_node (length store.names) (get_or nodes i Program)) true false low in
+    let is_set = flag_set store flags (get_or nodes i Program) true there size in
     let split : take (i + 1) nodes ≡ take i nodes ++ get_or nodes i Program ∷ [] = take_more nodes i Program h in
-    elim (ℕ_discrete (number_of_node (length store.names) a) (number_of_node (length store.names) (get_or nodes i Program))) [
-      | yes same ↦ (let this : a ≡ get_or nodes i Program = same_number store.names a (get_or nodes i Program) inside there same in (
+    elim (node_discrete a (get_or nodes i Program)) [
+      | yes this ↦ (
         (λ f. subst (λ l. Contains l a) (sym split) (subst (Contains (take i nodes ++ get_or nodes i Program ∷ [])) (sym this) (Contains-append_right (take i nodes) (next ∷ []) next (0, omega arith, refl)))),
-        (λ c. ap (λ n. get_or (set flags (number_of_node (length store.names) (get_or nodes i Program)) true) n false) same ∙ is_set),
-      ))
-      | no other ↦ (let stays = get_or-set_other flags (number_of_node (length store.names) (get_or nodes i Program)) (number_of_node (length store.names) a) true false other in (
+        (λ c. ap (flag_at store (with_flag store flags (get_or nodes i Program) true)) this ∙ is_set),
+      )
+      | no other ↦ (let stays = flag_stays store flags (get_or nodes i Program) a true there inside other in (
         (λ f. subst (λ l. Contains l a) (sym split) (Contains-append_left (take i nodes) (next ∷ []) a ((are a inside).0 (sym stays ∙ f)))),
         (λ c. stays ∙ (are a inside).1 (elim (Contains-push_cases (take i nodes) (get_or nodes i Program) a (subst (λ l. Contains l a) split c)) [
           | inl before ↦ before
-          | inr this ↦ absurd (other (ap (number_of_node (length store.names)) (sym this)))
+          | inr same ↦ absurd (other (sym same))
         ])),
       ))
     ]

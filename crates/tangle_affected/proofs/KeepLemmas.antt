@@ -2,7 +2,6 @@
 use Rattle.std.proofs.Common.{◌≡◌, ◌≢◌, ◌∙◌, ◌+◌, ◌<◌, ◌≤◌, ℕ, Bool, true, false, List, [], length, take, get_or, refl, ap, sym, subst, inl, inr, arith, Contains}
 use Rattle.std.specs.Prelude.{nat_lt, if◌then◌else◌, Some, None, IsSome}
 use Rattle.std.specs.List.{filter}
-use Rattle.std.proofs.Math.Decide.{ℕ_discrete}
 use Rattle.std.proofs.lemmas.Bool.Decides.{nat_tests}
 use Rattle.std.proofs.lemmas.List.{take_more, take_all}
 use Rattle.std.proofs.lemmas.List.Elements.{Contains-get_or, Contains-push_cases}
@@ -15,14 +14,14 @@ use Rattle.tangle_plans.specs.declared.nodes.Node.{Node}
 use Rattle.tangle_plans.specs.declared.nodes.Node.TheVariants.{Program, Name}
 use Rattle.tangle_graph.specs.Nodes.{IsNodeOf, UsesTitle, number_in, entry}
 use Rattle.tangle_graph.specs.Ordering.{IsOrderIn}
-use Rattle.tangle_graph.specs.Stores.{StoreRead, IsNodeIn, IsStoreOf, KeepsUsed, UsesPiece, is_expandable_at, title_in_store}
+use Rattle.tangle_graph.specs.Stores.{StoreRead, IsNodeIn, IsStoreOf, KeepsUsed, UsesPiece, flag_at, is_expandable_at, title_in_store}
 use Rattle.tangle_graph.proofs.NodeLemmas.{title_inside}
 use Rattle.tangle_affected.specs.Keeping.{IsKeptRight, KeepsJust, KeepsDone, KeepsUnflagged, IsExpandableList, CanExpand}
 use Rattle.tangle_affected.specs.Affected.{ListsAffected}
-use Rattle.tangle_affected.specs.Flags.{number_of_node, flag_of_node, AreListed}
+use Rattle.tangle_affected.specs.Flags.{AreListed}
 use Rattle.tangle_affected.proofs.FilterLemmas.{into_filter}
 use Rattle.tangle_affected.proofs.ListLemmas.{expandable_list}
-use Rattle.tangle_affected.proofs.FlagLemmas.{apart, same_number}
+use Rattle.tangle_affected.proofs.FlagLemmas.{apart, node_discrete}
 
 -- a node that has a flag is the store's
 node_in : (names : List (List ℕ)) (flags : List Bool) (node : Node) → entry false flags (number_in (length names) node) ≡ true → IsNodeOf names node
@@ -71,14 +70,12 @@ module _ (shapes : Shapes) (store : StoreRead) (list : List Node) (is : IsStoreO
   }
     where
       expandable : (node : Node) → is_expandable_at store node ≡ true → (Contains list node → Contains (take (i + 1) list) node) → IsKeptRight shapes store after node
-      expandable node e listed = elim (ℕ_discrete (number_of_node (length store.names) node) (number_of_node (length store.names) (get_or list i Program))) [
-        | yes same ↦ (let is_this : node ≡ get_or list i Program =
-            same_number store.names node (get_or list i Program) (expandable_in store node e) (expandable_in store (get_or list i Program) (next_expandable i h)) same in
-            subst (λ m. kept_at after m ≡ Some (flat_of shapes (title_in_store store m))) (sym is_this) puts.put)
-        | no other ↦ puts.others node (λ same. other (ap (number_of_node (length store.names)) same)) ∙ keeps.expandable node e (λ c.
+      expandable node e listed = elim (node_discrete node (get_or list i Program)) [
+        | yes this ↦ subst (λ m. kept_at after m ≡ Some (flat_of shapes (title_in_store store m))) (sym this) puts.put
+        | no other ↦ puts.others node other ∙ keeps.expandable node e (λ c.
             elim (Contains-push_cases (take i list) (get_or list i Program) node (subst (λ l. Contains l node) (take_more list i Program h) (listed c))) [
               | inl old ↦ old
-              | inr is_this ↦ absurd (other (ap (number_of_node (length store.names)) (sym is_this)))
+              | inr this ↦ absurd (other (sym this))
             ])
       ]
 
@@ -102,13 +99,13 @@ module _ (shapes : Shapes) (store : StoreRead) (order : List Node) (placed : IsO
 
   -- the unflagged nodes are kept, and those of the list, which are flagged, are to come
   pub unflagged_done : (flags : List Bool) (list : List Node) (kept : Kept) → AreListed store flags list
-      → KeepsUnflagged shapes store (flag_of_node (length store.names) flags) order kept → KeepsDone shapes store list 0 kept
+      → KeepsUnflagged shapes store (flag_at store flags) order kept → KeepsDone shapes store list 0 kept
   unflagged_done flags list kept are keeps = record {
-    expandable = λ node e listed. by node e (flag_of_node (length store.names) flags node) refl listed;
+    expandable = λ node e listed. by node e (flag_at store flags node) refl listed;
     others = keeps.others;
   }
     where
-      by : (node : Node) → is_expandable_at store node ≡ true → (b : Bool) → flag_of_node (length store.names) flags node ≡ b
+      by : (node : Node) → is_expandable_at store node ≡ true → (b : Bool) → flag_at store flags node ≡ b
           → (Contains list node → Contains (take 0 list) node) → IsKeptRight shapes store kept node
       by node e true is_flagged listed = absurd (nothing_first list node (listed ((are node (expandable_in store node e)).0 is_flagged)))
       by node e false is_flagged listed = keeps.unflagged node (placed.expandable node (expandable_in store node e) e) e is_flagged
@@ -150,7 +147,7 @@ module _ (shapes : Shapes) (store : StoreRead) (order : List Node) (placed : IsO
   }
 
   pub affected_ready : (old : Shapes) (flags : List Bool) (list : List Node) (kept : Kept) → IsStoreOf shapes store → ListsAffected old shapes store list
-      → AreListed store flags list → KeepsUnflagged shapes store (flag_of_node (length store.names) flags) order kept → CanExpand shapes store list kept
+      → AreListed store flags list → KeepsUnflagged shapes store (flag_at store flags) order kept → CanExpand shapes store list kept
   affected_ready old flags list kept is lists are keeps = record {
     store_is = is;
     list_is = record {

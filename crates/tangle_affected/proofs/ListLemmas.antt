@@ -10,10 +10,10 @@ use Rattle.tangle_plans.specs.declared.nodes.Node.{Node}
 use Rattle.tangle_plans.specs.declared.nodes.Node.TheVariants.{Program}
 use Rattle.tangle_graph.specs.Nodes.{UsesTitle}
 use Rattle.tangle_graph.specs.Ordering.{IsOrderIn}
-use Rattle.tangle_graph.specs.Stores.{StoreRead, IsStoreOf, IsNodeIn, is_expandable_at, title_in_store}
+use Rattle.tangle_graph.specs.Stores.{StoreRead, IsStoreOf, IsNodeIn, flag_at, is_expandable_at, title_in_store}
 use Rattle.tangle_affected.specs.Affected.{ListsAffected}
 use Rattle.tangle_affected.specs.Keeping.{IsExpandableList, ListsExpandable}
-use Rattle.tangle_affected.specs.Flags.{flag_of_node, AreFlagged, AreListed, FlagsAffected, is_listed}
+use Rattle.tangle_affected.specs.Flags.{AreFlagged, AreListed, FlagsAffected, is_listed}
 use Rattle.tangle_affected.proofs.FilterLemmas.{filter_position, out_of_filter, into_filter}
 use Rattle.tangle_affected.proofs.FlagLemmas.{at_position}
 use Rattle.tangle_affected.proofs.NameLemmas.{node_with_piece}
@@ -47,7 +47,7 @@ module _ (shapes : Shapes) (store : StoreRead) (order : List Node) (is : IsStore
   }
 
   module _ (old : Shapes) (flags : List Bool) (are : AreFlagged old shapes store flags order) where
-    pub is_affected : (a : Node) → Contains order a → is_expandable_at store a ≡ true → flag_of_node (length store.names) flags a ≡ true → IsAffected levels heaviest old shapes (title_in_store store a)
+    pub is_affected : (a : Node) → Contains order a → is_expandable_at store a ≡ true → flag_at store flags a ≡ true → IsAffected levels heaviest old shapes (title_in_store store a)
     is_affected a c flag is_flagged =
         let r = (are a c).0 is_flagged in
         record {
@@ -71,12 +71,12 @@ module _ (shapes : Shapes) (store : StoreRead) (order : List Node) (is : IsStore
             let flag = (is.expandable at.0 at.1).1 (subst (IsExpandableNode shapes) (sym at.2) affected.expandable) in
             let c = placed.expandable at.0 at.1 flag in
             let is_flagged = (are at.0 c).1 (affected.cause, subst (λ t. Reaches shapes t affected.cause) (sym at.2) affected.reaches, affected.changed) in
-            (at.0, at.2, into_filter (is_listed store flags) order at.0 c (and_from (is_expandable_at store at.0) (flag_of_node (length store.names) flags at.0) flag is_flagged))
+            (at.0, at.2, into_filter (is_listed store flags) order at.0 c (and_from (is_expandable_at store at.0) (flag_at store flags at.0) flag is_flagged))
 
         only : (a : Node) → Contains (filter (is_listed store flags) order) a → IsNodeIn store a × IsAffected levels heaviest old shapes (title_in_store store a)
         only a c =
             let there = out_of_filter (is_listed store flags) order a c in
-            let both = and_parts (is_expandable_at store a) (flag_of_node (length store.names) flags a) there.1 in
+            let both = and_parts (is_expandable_at store a) (flag_at store flags a) there.1 in
             (placed.inside a there.0, is_affected a there.0 both.0 both.1)
 
 -- where the nodes of such a list are flagged, each affected one is

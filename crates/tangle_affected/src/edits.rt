@@ -3,16 +3,15 @@ ghost use Rattle.std.specs.Prelude.{◌≡◌, ◌≢◌, ◌↔◌, true, false
 ghost use Rattle.std.specs.Prelude.{IfSome, None, Contains};
 ghost use Rattle.tangle_plans.specs.Shapes.{Shapes};
 ghost use Rattle.tangle_plans.specs.declared.nodes.Node.{Node};
-ghost use Rattle.tangle_graph.specs.Nodes.{IsNodeOf, title_of_node};
 ghost use Rattle.tangle_graph.specs.Ordering.{IsOrderIn};
-ghost use Rattle.tangle_graph.specs.Stores.{IsStoreOf, IsNodeIn, KeepsBodies, title_in_store};
+ghost use Rattle.tangle_graph.specs.Stores.{IsStoreOf, IsNodeIn, KeepsBodies, flag_at};
+ghost use Rattle.tangle_graph.specs.Stores.{title_in_store};
 ghost use Rattle.tangle_affected.specs.Affected.{ListsAffected};
-ghost use Rattle.tangle_affected.specs.Flags.{number_of_node, flag_of_node, AreFlagged, is_listed};
+ghost use Rattle.tangle_affected.specs.Flags.{AreFlagged, is_listed};
 
 use std::alloc::Global;
 use tangle_graph::{Store, keeps_shape, same_shape};
 use tangle_lines::NoMemory;
-use tangle_names::NameTable;
 use tangle_plans::{Node, PiecesByNode};
 
 /// The nodes that an edit affects: those that are expandable in the new store and reach, in it, a
@@ -22,20 +21,12 @@ use tangle_plans::{Node, PiecesByNode};
 /// # Errors
 ///
 /// `NoMemory`.
-pub fn affected(
-    alloc: Global,
-    old: &Store,
-    old_names: &NameTable,
-    new: &Store,
-    new_names: &NameTable,
-) -> Result<Vec<Node>, NoMemory>
-    requires old_table { old_names.now.names ≡ old.now.names }
-    requires new_table { new_names.now.names ≡ new.now.names }
+pub fn affected(alloc: Global, old: &Store, new: &Store) -> Result<Vec<Node>, NoMemory>
     ensures { (old_shapes new_shapes : Shapes) → IsStoreOf old_shapes old.now
         → IsStoreOf new_shapes new.now
         → IfOk result (λ nodes. ListsAffected old_shapes new_shapes new.now nodes.items) }
 {
-    affected_over(alloc, old, old_names, new, new_names, &[])
+    affected_over(alloc, old, new, &[])
 }
 
 /// The same nodes, where the flags say which nodes have the bodies of before, and use names as
@@ -43,20 +34,16 @@ pub fn affected(
 pub(crate) fn affected_over(
     alloc: Global,
     old: &Store,
-    old_names: &NameTable,
     new: &Store,
-    new_names: &NameTable,
     are_kept: &[bool],
 ) -> Result<Vec<Node>, NoMemory>
-    requires old_table { old_names.now.names ≡ old.now.names }
-    requires new_table { new_names.now.names ≡ new.now.names }
     requires kept { KeepsBodies old.now new.now are_kept.now }
     ensures { (old_shapes new_shapes : Shapes) → IsStoreOf old_shapes old.now
         → IsStoreOf new_shapes new.now
         → IfOk result (λ nodes. ListsAffected old_shapes new_shapes new.now nodes.items) }
 {
     let order = new.order();
-    let flags = reaching_changed(alloc, old, old_names, new, new_names, are_kept, order)?;
+    let flags = reaching_changed(alloc, old, new, are_kept, order)?;
     listed_nodes(alloc, new, &flags, order)
 }
 
@@ -64,42 +51,27 @@ pub(crate) fn affected_over(
 fn reaching_changed(
     alloc: Global,
     old: &Store,
-    old_names: &NameTable,
     new: &Store,
-    new_names: &NameTable,
     are_kept: &[bool],
     order: &[Node],
 ) -> Result<Vec<bool>, NoMemory>
-    requires old_table { old_names.now.names ≡ old.now.names }
-    requires new_table { new_names.now.names ≡ new.now.names }
     requires kept { KeepsBodies old.now new.now are_kept.now }
     requires order { IsOrderIn new.now order.now }
     ensures { (old_shapes new_shapes : Shapes) → IsStoreOf old_shapes old.now
         → IsStoreOf new_shapes new.now
         → IfOk result (λ flags. AreFlagged old_shapes new_shapes new.now flags.items order.now) }
 {
-    let count = new.full_names().count();
-    let mut flags = vec![in alloc; false; count]?;
-    flags.push(false)?;
+    let mut flags = new.no_flags(alloc)?;
     for node in order {
-        let is_flagged = is_changed(old, old_names, new, new_names, are_kept, *node)
-            || any_flagged(count, &flags, new.uses(*node));
-        flags[number_of(count, *node)] = is_flagged;
+        let is_flagged = is_changed(old, new, are_kept, *node)
+            || any_flagged(new, &flags, new.uses(*node));
+        new.set_flag(&mut flags, *node, is_flagged);
     }
     Ok(flags)
 }
 
 /// Whether the shape of the node is not the old one.
-fn is_changed(
-    old: &Store,
-    old_names: &NameTable,
-    new: &Store,
-    new_names: &NameTable,
-    are_kept: &[bool],
-    node: Node,
-) -> bool
-    requires old_table { old_names.now.names ≡ old.now.names }
-    requires new_table { new_names.now.names ≡ new.now.names }
+fn is_changed(old: &Store, new: &Store, are_kept: &[bool], node: Node) -> bool
     requires kept { KeepsBodies old.now new.now are_kept.now }
     requires node { IsNodeIn new.now node }
     ensures { (old_shapes new_shapes : Shapes) → IsStoreOf old_shapes old.now
@@ -110,29 +82,24 @@ fn is_changed(
     if keeps_shape(old, new, are_kept, node) {
         return false;
     }
-    match node_before(old_names, new_names, node) {
+    match node_before(old, new, node) {
         Some(before) => !same_shape(old, before, new, node),
         None => new.has_piece(node),
     }
 }
 
-/// The node of the old table that has the title of this one of the new table, if there is one.
-pub(crate) fn node_before(old_names: &NameTable, new_names: &NameTable, node: Node) -> Option<Node>
-    requires { IsNodeOf new_names.now.names node }
-    ensures some { IfSome result (λ before. IsNodeOf old_names.now.names before
-        × (title_of_node old_names.now.names before ≡ title_of_node new_names.now.names node)) }
-    ensures none { result ≡ None → (other : Node) → IsNodeOf old_names.now.names other
-        → title_of_node old_names.now.names other ≢ title_of_node new_names.now.names node }
+/// The node of the old store that has the title of this one of the new store, if there is one.
+pub(crate) fn node_before(old: &Store, new: &Store, node: Node) -> Option<Node>
+    requires { IsNodeIn new.now node }
+    ensures some { IfSome result (λ before. IsNodeIn old.now before
+        × (title_in_store old.now before ≡ title_in_store new.now node)) }
+    ensures none { result ≡ None → (other : Node) → IsNodeIn old.now other
+        → title_in_store old.now other ≢ title_in_store new.now node }
 {
     match node {
         Node::Program => Some(Node::Program),
         Node::Name(id) => {
-            let text = new_names.text(id);
-            // Most edits leave each name its number, and then nothing is looked up.
-            if id < old_names.count() && old_names.text(id) == text {
-                return Some(Node::Name(id));
-            }
-            match old_names.find(text) {
+            match old.full_names().find_from(id, new.full_names().text(id)) {
                 Some(before) => Some(Node::Name(before)),
                 None => None,
             }
@@ -140,32 +107,15 @@ pub(crate) fn node_before(old_names: &NameTable, new_names: &NameTable, node: No
     }
 }
 
-/// The number of the node, where so many names come before the program.
-pub(crate) fn number_of(count: usize, node: Node) -> usize
-    ensures { result ≡ number_of_node count node }
-{
-    match node {
-        Node::Program => count,
-        Node::Name(id) => id,
-    }
-}
-
-/// Whether the node is flagged.
-pub(crate) fn is_flagged(count: usize, flags: &[bool], node: Node) -> bool
-    ensures { result ≡ flag_of_node count flags.now node }
-{
-    flags.get(number_of(count, node)) == Some(&true)
-}
-
 /// Whether some node of the row is flagged.
-fn any_flagged(count: usize, flags: &[bool], row: &[Node]) -> bool
+fn any_flagged(store: &Store, flags: &[bool], row: &[Node]) -> bool
     ensures one { result ≡ true → (m : Node) × Contains row.now m
-        × (flag_of_node count flags.now m ≡ true) }
-    ensures none { result ≡ false → (m : Node) → Contains row.now m → flag_of_node count flags.now m
-        ≡ false }
+        × (flag_at store.now flags.now m ≡ true) }
+    ensures none { result ≡ false → (m : Node) → Contains row.now m
+        → flag_at store.now flags.now m ≡ false }
 {
     for m in row {
-        if is_flagged(count, flags, *m) {
+        if store.is_flagged(flags, *m) {
             return true;
         }
     }
@@ -183,9 +133,8 @@ fn listed_nodes(
         ≡ filter (is_listed store.now flags.now) order.now) }
 {
     let mut nodes = Vec::new(alloc);
-    let count = store.full_names().count();
     for node in order {
-        if store.expandable(*node) && is_flagged(count, flags, *node) {
+        if store.expandable(*node) && store.is_flagged(flags, *node) {
             nodes.push(*node)?;
         }
     }

@@ -1,25 +1,24 @@
 //! The expansions of a web: all of them anew, or after an edit, where those that it doesn't affect
 //! are shared.
-ghost use Rattle.std.specs.Prelude.{◌≡◌, ◌++◌, ◌∷◌, [], length, true, false, filter, IfOk};
+ghost use Rattle.std.specs.Prelude.{◌≡◌, ◌++◌, ◌∷◌, [], true, filter, IfOk};
 ghost use Rattle.std.specs.Prelude.{OnOk, None, Contains};
 ghost use Rattle.tangle_expansion.specs.Kept.{kept_at, PutsKept};
 ghost use Rattle.tangle_expansion.specs.Limits.{flat_of};
 ghost use Rattle.tangle_plans.specs.Shapes.{Shapes};
 ghost use Rattle.tangle_graph.specs.Ordering.{IsOrderIn};
 ghost use Rattle.tangle_graph.specs.Stores.{IsStoreOf, IsNodeIn, KeepsBodies, KeepsUsed};
-ghost use Rattle.tangle_graph.specs.Stores.{is_expandable_at, title_in_store};
+ghost use Rattle.tangle_graph.specs.Stores.{flag_at, is_expandable_at, title_in_store};
 ghost use Rattle.tangle_affected.specs.Affected.{EditedShapes, ListsAffectedBehind};
 ghost use Rattle.tangle_affected.specs.Keeping.{KeepsJust, KeepsUnflagged, ListsExpandableBehind};
 ghost use Rattle.tangle_affected.specs.Keeping.{IsEditOf, IsUnaffected, CanExpand};
-ghost use Rattle.tangle_affected.specs.Flags.{AreListed, FlagsAffected, flag_of_node};
+ghost use Rattle.tangle_affected.specs.Flags.{AreListed, FlagsAffected};
 
-use crate::edits::{affected_over, is_flagged, node_before, number_of};
+use crate::edits::{affected_over, node_before};
 use std::alloc::Global;
 use tangle_expansion::{Expansion, Kept, Work, unaffected_nodes_stay, used_names_are_expandable};
 use tangle_graph::{Store, expand_one};
 use tangle_lines::NoMemory;
-use tangle_names::NameTable;
-use tangle_plans::{Node, PiecesByNode};
+use tangle_plans::Node;
 
 /// Expands each expandable node of the store, and keeps what it expands to. The nodes go last in
 /// the work's list.
@@ -49,15 +48,11 @@ pub fn expand_all(alloc: Global, store: &Store, work: &mut Work) -> Result<Kept,
 pub fn expand_again(
     alloc: Global,
     old: &Store,
-    old_names: &NameTable,
     old_kept: &Kept,
     new: &Store,
-    new_names: &NameTable,
     are_kept: &[bool],
     work: &mut Work,
 ) -> Result<Kept, NoMemory>
-    requires old_table { old_names.now.names ≡ old.now.names }
-    requires new_table { new_names.now.names ≡ new.now.names }
     requires bodies { KeepsBodies old.now new.now are_kept.now }
     requires change { (change : EditedShapes) × IsEditOf old.now new.now old_kept.now change }
     ensures kept { (change : EditedShapes) → IsEditOf old.now new.now old_kept.now change
@@ -65,13 +60,11 @@ pub fn expand_again(
     ensures work { (change : EditedShapes) → IsEditOf old.now new.now old_kept.now change
         → OnOk result (ListsAffectedBehind change.old change.new new.now work.old work.new) }
 {
-    let list = affected_over(alloc, old, old_names, new, new_names, are_kept)?;
+    let list = affected_over(alloc, old, new, are_kept)?;
     let flags = flags_of(alloc, new, &list)?;
     let order = new.order();
     let mut kept = Kept::new(alloc);
-    share_unflagged(
-        old, old_names, old_kept, new, new_names, order, &flags, &mut kept,
-    )?;
+    share_unflagged(old, old_kept, new, order, &flags, &mut kept)?;
     expand_list(alloc, new, &list, &mut kept, work)?;
     Ok(kept)
 }
@@ -94,26 +87,15 @@ fn flags_of(alloc: Global, store: &Store, list: &[Node]) -> Result<Vec<bool>, No
     requires { (node : Node) → Contains list.now node → IsNodeIn store.now node }
     ensures { IfOk result (λ flags. AreListed store.now flags.items list.now) }
 {
-    let count = store.full_names().count();
-    let mut flags = vec![in alloc; false; count]?;
-    flags.push(false)?;
+    let mut flags = store.no_flags(alloc)?;
     for node in list {
-        flags[number_of(count, *node)] = true;
+        store.set_flag(&mut flags, *node, true);
     }
     Ok(flags)
 }
 
 /// A share of the old expansion of the node, which is matched by name.
-fn share_old(
-    old: &Store,
-    old_names: &NameTable,
-    old_kept: &Kept,
-    new: &Store,
-    new_names: &NameTable,
-    node: Node,
-) -> Result<Expansion, NoMemory>
-    requires old_table { old_names.now.names ≡ old.now.names }
-    requires new_table { new_names.now.names ≡ new.now.names }
+fn share_old(old: &Store, old_kept: &Kept, new: &Store, node: Node) -> Result<Expansion, NoMemory>
     requires node { IsNodeIn new.now node }
     requires change { (change : EditedShapes) × IsEditOf old.now new.now old_kept.now change
         × IsUnaffected new.now change node }
@@ -122,22 +104,18 @@ fn share_old(
         → IfOk result (λ e. e ≡ flat_of change.new (title_in_store new.now node)) }
 {
     unaffected_nodes_stay();
-    let before = node_before(old_names, new_names, node).unwrap();
+    let before = node_before(old, new, node).unwrap();
     old_kept.get(before).unwrap().share()
 }
 
 /// Keeps a share of the old expansion of an expandable node that isn't affected.
 fn keep_share(
     old: &Store,
-    old_names: &NameTable,
     old_kept: &Kept,
     new: &Store,
-    new_names: &NameTable,
     node: Node,
     kept: &mut Kept,
 ) -> Result<(), NoMemory>
-    requires old_table { old_names.now.names ≡ old.now.names }
-    requires new_table { new_names.now.names ≡ new.now.names }
     requires node { IsNodeIn new.now node }
     requires change { (change : EditedShapes) × IsEditOf old.now new.now old_kept.now change
         × IsUnaffected new.now change node }
@@ -146,37 +124,31 @@ fn keep_share(
         → OnOk result (PutsKept kept.old kept.new node
         (flat_of change.new (title_in_store new.now node))) }
 {
-    let share = share_old(old, old_names, old_kept, new, new_names, node)?;
+    let share = share_old(old, old_kept, new, node)?;
     kept.put(node, share)
 }
 
 /// Keeps a share of the old expansion of each expandable node without a flag.
 fn share_unflagged(
     old: &Store,
-    old_names: &NameTable,
     old_kept: &Kept,
     new: &Store,
-    new_names: &NameTable,
     order: &[Node],
     flags: &[bool],
     kept: &mut Kept,
 ) -> Result<(), NoMemory>
-    requires old_table { old_names.now.names ≡ old.now.names }
-    requires new_table { new_names.now.names ≡ new.now.names }
     requires order { IsOrderIn new.now order.now }
     requires change { (change : EditedShapes) × IsEditOf old.now new.now old_kept.now change }
     requires flags { (change : EditedShapes) → IsEditOf old.now new.now old_kept.now change
         → FlagsAffected change.old change.new new.now flags.now }
     requires empty { (node : Node) → kept_at kept.old node ≡ None }
     ensures { (change : EditedShapes) → IsEditOf old.now new.now old_kept.now change
-        → OnOk result (KeepsUnflagged change.new new.now
-        (flag_of_node (length new.now.names) flags.now)
-        order.now kept.new) }
+        → OnOk result (KeepsUnflagged change.new new.now (flag_at new.now flags.now) order.now
+        kept.new) }
 {
-    let count = new.full_names().count();
     for node in order {
-        if new.expandable(*node) && !is_flagged(count, flags, *node) {
-            keep_share(old, old_names, old_kept, new, new_names, *node, kept)?;
+        if new.expandable(*node) && !new.is_flagged(flags, *node) {
+            keep_share(old, old_kept, new, *node, kept)?;
         }
     }
     Ok(())

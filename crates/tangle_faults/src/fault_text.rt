@@ -23,8 +23,8 @@ pub enum Ending {
 }
 
 /// The text of a fault of this kind up to its ending, and what that is.
-fn words(kind: FaultKind) -> (&'static [u8], Ending)
-    ensures words { result.0.now ≡ (wording kind).0 }
+fn wording(kind: FaultKind) -> (&'static [u8], Ending)
+    ensures text { result.0.now ≡ (wording kind).0 }
     ensures ending { result.1 ≡ (wording kind).1 }
 {
     match kind {
@@ -74,7 +74,7 @@ pub fn write_fault<S: Sink>(fault: &Fault, sink: &mut S) -> Result<u128, WriteFa
     ensures { IsWritten (S.stream sink.old) (S.stream sink.new) (fault_line fault.now) result }
 {
     let kind = fault.kind();
-    let (text, ending) = words(kind);
+    let (text, ending) = wording(kind);
     let placed = put_place(fault.place(), sink);
     let judged = put(sink, placed, severity(kind));
     let reported = put(sink, judged, text);

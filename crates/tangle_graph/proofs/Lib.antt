@@ -22,3 +22,4 @@ pub mod UsesLemmas
 mod SkeletonLemmas
 mod SuspectLemmas
 mod PlannedLemmas
+pub mod FlagLemmas

@@ -1,8 +1,7 @@
 -- Nodes, their numbers and their titles.
 use Rattle.std.proofs.Common.{◌≡◌, ◌∙◌, ◌<◌, ◌≤◌, ℕ, true, false, List, [], length, get_or, refl, ap, sym, subst, arith}
-use Rattle.std.specs.Prelude.{nat_lt, if◌then◌else◌, IfSome, Option, Some, None}
-use Rattle.std.specs.List.{IsDistinct, position}
-use Rattle.std.proofs.lemmas.List.Quantifiers.{position-Some}
+use Rattle.std.specs.Prelude.{nat_lt, if◌then◌else◌, Some, None}
+use Rattle.std.specs.List.{IsDistinct}
 use Rattle.std.specs.Str.{bytes_eq}
 use Rattle.std.proofs.Math.Decide.{dec_lt, ℕ_discrete}
 use Rattle.std.proofs.lemmas.Option.{slice_get-get_or, slice_get_past}
@@ -27,16 +26,6 @@ named_inside names n name e = elim (dec_lt n (length names)) [
   | yes low ↦ low
   | no past ↦ (let is : title_at names n ≡ title.Program = title_past names n (omega (arith, past)) in let both : Named name ≡ title.Program = sym e ∙ is in absurd (cc))
 ]
-
--- a name that is found by its text has this title
-pub name_found : (names : List (List ℕ)) (text : List ℕ) (id : ℕ) → position (bytes_eq text) names ≡ Some id → (id < length names) × (title_at names id ≡ Named text)
-name_found names text id found =
-    let at = position-Some (bytes_eq text) names id [] found in
-    (at.0, title_inside names id at.0 ∙ ap Named (sym ((bytes_eq-Decides text (get_or names id [])).0 at.1)))
-
-pub found_titled : (names : List (List ℕ)) (text : List ℕ) (found : Option ℕ) → found ≡ position (bytes_eq text) names → IfSome found (λ id. title_at names id ≡ Named text)
-found_titled names text None e = tt
-found_titled names text (Some id) e = (name_found names text id (sym e)).1
 
 pub body_of_named : (a b : List ℕ) → Named a ≡ Named b → a ≡ b
 body_of_named a b e = cc

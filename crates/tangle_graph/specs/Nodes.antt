@@ -1,5 +1,5 @@
 -- Nodes by name, by number and by title: the names of a table in their order, and then the program.
-use Rattle.std.specs.Prelude.{◌<◌, ℕ, nat_lt, if◌then◌else◌, List, [], length, slice_get, slice_index_or, Option, None, Some}
+use Rattle.std.specs.Prelude.{◌<◌, ℕ, nat_lt, if◌then◌else◌, List, [], length, set, slice_get, slice_index_or, Option, None, Some}
 use Rattle.tangle_plans.specs.Shapes.{Title, Named, Shape, Shapes, Uses}
 use Rattle.tangle_plans.specs.Shapes as title
 use Rattle.tangle_plans.specs.declared.nodes.Node.{Node}
@@ -40,6 +40,11 @@ entry none entries (Some n) = slice_index_or entries n none
 abbrev pub entry_if : {X : Type 0} → List X → Option ℕ → Option X
 entry_if entries None = None
 entry_if entries (Some n) = slice_get entries n
+
+-- the list with this entry for the node with this number, if there is one
+abbrev pub with_entry : {X : Type 0} → List X → Option ℕ → X → List X
+with_entry entries None x = entries
+with_entry entries (Some n) x = set entries n x
 
 -- the shape of the name with this text; without a text there is no piece
 abbrev pub shape_of_name : Shapes → Option (List ℕ) → Shape

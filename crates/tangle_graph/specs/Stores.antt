@@ -12,7 +12,7 @@ use Rattle.tangle_plans.specs.declared.nodes.NodeBody.{NodeBody}
 use Rattle.tangle_expansion.specs.declared.kept.Kept.{Kept}
 use Rattle.tangle_plans.specs.declared.nodes.Node.{Node}
 use Rattle.tangle_plans.specs.declared.nodes.Node.TheVariants as node_kind
-use Rattle.tangle_graph.specs.Nodes.{title_at, title_of_node, IsNodeOf, number_in, entry, entry_if, shape_of_node, UsesTitle}
+use Rattle.tangle_graph.specs.Nodes.{title_at, title_of_node, IsNodeOf, number_in, entry, entry_if, with_entry, shape_of_node, UsesTitle}
 
 -- the bytes of the names, and lists with an entry for each node: the names in their order, and then the program
 pub record StoreRead : Type 0 where
@@ -70,6 +70,14 @@ module _ (store : StoreRead) where
 
   abbrev pub body_at : Node → Option NodeBody
   body_at node = entry_if store.bodies (number_in (length store.names) node)
+
+  -- the flag of the node, of a list with one for each node
+  abbrev pub flag_at : List Bool → Node → Bool
+  flag_at flags node = entry false flags (number_in (length store.names) node)
+
+  -- the list with this flag for the node
+  abbrev pub with_flag : List Bool → Node → Bool → List Bool
+  with_flag flags node b = with_entry flags (number_in (length store.names) node) b
 
   abbrev pub title_in_store : Node → Title
   title_in_store node = title_of_node store.names node

@@ -90,26 +90,6 @@ pub(crate) fn no_bodies<'s>(names: &'s Names, filled: &'s [bool]) -> OldBodies<'
     }
 }
 
-/// Whether the name with this number has this text.
-fn is_name_at(names: &Names, id: usize, text: &[u8]) -> bool
-    ensures title { result ≡ true → title_at names.now id ≡ Named text.now }
-    ensures within { result ≡ true → id < length names.now }
-{
-    id < names.count() && names.text(id) == text
-}
-
-/// The number of the name with this text, if it is one. It is looked for at this number first.
-// Most edits leave each name its number, and then nothing is looked up.
-fn number_before(names: &Names, id: usize, text: &[u8]) -> Option<usize>
-    ensures title { IfSome result (λ before. title_at names.now before ≡ Named text.now) }
-    ensures within { IfSome result (λ before. before < length names.now) }
-{
-    if is_name_at(names, id, text) {
-        return Some(id);
-    }
-    names.find(text)
-}
-
 /// The number that the node with this number had, if it is the program, or one of the names.
 #[tactic(auto, using(crate::proofs::NodeLemmas::title_inside, crate::proofs::NodeLemmas::title_past))]
 fn node_before(names: &Names, table: &NameTable, n: usize) -> Option<usize>
@@ -118,7 +98,7 @@ fn node_before(names: &Names, table: &NameTable, n: usize) -> Option<usize>
     ensures within { IfSome result (λ m. m ≤ length names.now) }
 {
     if n < table.count() {
-        number_before(names, n, table.text(n))
+        names.find_from(n, table.text(n))
     } else {
         Some(names.count())
     }

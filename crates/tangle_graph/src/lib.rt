@@ -4,6 +4,7 @@
 
 mod bodies;
 mod faults;
+mod flags;
 mod laws;
 mod measures;
 mod nodes;

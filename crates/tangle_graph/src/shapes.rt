@@ -1,13 +1,11 @@
 //! Comparing the shapes of two nodes, each of a store of its own.
-ghost use Rattle.std.specs.Prelude.{◌≡◌, ◌↔◌, true, false, length};
+ghost use Rattle.std.specs.Prelude.{◌≡◌, ◌↔◌, true};
 ghost use Rattle.tangle_plans.specs.Shapes.{Shapes};
-ghost use Rattle.tangle_graph.specs.Nodes.{entry, number_in};
-ghost use Rattle.tangle_graph.specs.Stores.{IsNodeIn, IsStoreOf, KeepsBodies, shape_in_store};
-ghost use Rattle.tangle_graph.specs.Stores.{title_in_store};
+ghost use Rattle.tangle_graph.specs.Stores.{IsNodeIn, IsStoreOf, KeepsBodies, flag_at};
+ghost use Rattle.tangle_graph.specs.Stores.{shape_in_store, title_in_store};
 
-use crate::nodes::{entry, number_of};
 use crate::store::Store;
-use tangle_plans::{Node, PiecesByNode};
+use tangle_plans::Node;
 
 /// Whether the two nodes have the same shape: the same pieces, with section numbers, file names and
 /// line numbers struck out and each use as the name that it resolves to. What names have no piece,
@@ -31,10 +29,10 @@ pub fn same_shape(old: &Store, old_node: Node, new: &Store, new_node: Node) -> b
 /// bodies of before, and use names as before.
 pub fn keeps_shape(old: &Store, new: &Store, are_kept: &[bool], node: Node) -> bool
     requires { KeepsBodies old.now new.now are_kept.now }
-    ensures flag { result ≡ entry false are_kept.now (number_in (length new.now.names) node) }
+    ensures flag { result ≡ flag_at new.now are_kept.now node }
     ensures shape { (old_shapes new_shapes : Shapes) → IsStoreOf old_shapes old.now
         → IsStoreOf new_shapes new.now → IsNodeIn new.now node → result ≡ true
         → new_shapes (title_in_store new.now node) ≡ old_shapes (title_in_store new.now node) }
 {
-    entry(are_kept, number_of(new.full_names().count(), node), false)
+    new.is_flagged(are_kept, node)
 }

@@ -280,7 +280,7 @@ impl Store {
     }
 
     /// The number of the node, if the store has it.
-    fn number(&self, node: Node) -> Option<usize>
+    pub(crate) fn number(&self, node: Node) -> Option<usize>
         ensures { result ≡ number_in (length self.now.names) node }
     {
         number_of(self.skeleton.names.count(), node)

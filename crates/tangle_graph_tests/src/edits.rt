@@ -64,7 +64,7 @@ fn affected_without(
     let old = Store::build(alloc, old_web, &old_names, b"a.c")?;
     let new = Store::rebuild(alloc, new_web, &new_names, b"a.c", &old)?;
     let is_harnessed = fail_allocation(alloc, nth);
-    let nodes = affected(alloc, &old, &old_names, &new.store, &new_names);
+    let nodes = affected(alloc, &old, &new.store);
     Ok((nodes, end_refusals(alloc, is_harnessed)))
 }
 

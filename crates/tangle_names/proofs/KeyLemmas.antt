@@ -1,12 +1,14 @@
 -- The keys of the set of names, as texts.
-use Rattle.std.proofs.Common.{◌≡◌, ◌≤◌, ◌+◌, ◌∙◌, ◌||◌, ℕ, Bool, true, false, cond, not, ltb, List, [], ◌∷◌, ◌++◌, length, refl, ap, sym, subst, arith, Vec, position, Option, Some, None}
-use Rattle.std.specs.Prelude.{unwrap_or}
+use Rattle.std.proofs.Common.{◌≡◌, ◌<◌, ◌≤◌, ◌+◌, ◌∙◌, ◌||◌, ℕ, Bool, true, false, cond, not, ltb, List, [], ◌∷◌, ◌++◌, length, get_or, refl, ap, sym, subst, arith, Vec, position, Option, Some, None}
+use Rattle.std.specs.Prelude.{unwrap_or, IfSome}
 use Rattle.std.specs.List.{list_any, position_or_len}
 use Rattle.std.specs.Str.{bytes_eq}
 use Rattle.std.specs.Global.{Global}
 use Rattle.std.proofs.lemmas.List.{map_push, length-map}
+use Rattle.std.proofs.lemmas.List.Quantifiers.{position-Some}
 use Rattle.std.proofs.lemmas.List.Sums.{prefix_len-le-length}
 use Rattle.std.proofs.lemmas.Bool.Decides.{nat_tests}
+use Rattle.std.proofs.lemmas.Slice.Eq.{bytes_eq-Decides}
 use Rattle.tangle_names.specs.Names.{Text, One}
 use Rattle.tangle_names.specs.Resolving.{with_name}
 use Rattle.tangle_names.specs.Numbers.{key_texts}
@@ -52,3 +54,11 @@ position-keys keys text =
     let at = sym (position-map keys text) in
     let size = sym (length-map keys (λ (v : Vec ℕ Global). v.items)) in
     λ i. cond (ltb (at i) (size i)) (Some (at i)) None
+
+-- the name that is found has the text
+pub found_has_text : (names : List Text) (text : Text) (found : Option ℕ) → found ≡ position (bytes_eq text) names
+    → IfSome found (λ n. (n < length names) × (get_or names n [] ≡ text))
+found_has_text names text None e = tt
+found_has_text names text (Some n) e =
+    let at = position-Some (bytes_eq text) names n [] (sym e) in
+    (at.0, sym ((bytes_eq-Decides text (get_or names n [])).0 at.1))

@@ -31,11 +31,11 @@ first_at q os i o h read =
     by true = omega arith
     by false = omega arith
 
-pub number_step : (f : OccurrenceRead → Resolved) (counted : Counted) (os : List OccurrenceRead) (rs : List Resolved) (i id : ℕ) (o : OccurrenceRead) (r : Resolved) (needed : Bool) (old new : List ℕ)
-    → i < length os → o ≡ get_or os i o → rs ≡ map f os → r ≡ get_or rs i r → needed ≡ is_counted counted o → id < length old
-    → get_or old id 0 ≡ i + 1 + first_by_number f counted (drop (i + 1) os) id → NotesNumber old new needed i r
+pub number_step : (f : OccurrenceRead → Resolved) (counted : Counted) (os : List OccurrenceRead) (rs : List Resolved) (i id : ℕ) (o : OccurrenceRead) (r : Resolved) (counts : Bool) (old new : List ℕ)
+    → i < length os → o ≡ get_or os i o → rs ≡ map f os → r ≡ get_or rs i r → counts ≡ is_counted counted o → id < length old
+    → get_or old id 0 ≡ i + 1 + first_by_number f counted (drop (i + 1) os) id → NotesNumber old new counts i r
     → get_or new id 0 ≡ i + first_by_number f counted (drop i os) id
-number_step f counted os rs i id o r needed old new h read all at is within sofar notes =
+number_step f counted os rs i id o r counts old new h read all at is within sofar notes =
     let resolved = resolved_at f os rs i o r h read all at in
     notes.numbers id within ∙ ((λ j. cond (is j && is_number id (resolved j)) i (sofar j)) ∙ sym (first_at (λ (o : OccurrenceRead). is_counted counted o && is_number id (f o)) os i o h read))
 

@@ -43,11 +43,11 @@ is_counted Uses o = is_use o.role
 abbrev pub first_by_number : (OccurrenceRead → Resolved) → Counted → List OccurrenceRead → ℕ → ℕ
 first_by_number f counted os id = position_or_len (λ o. is_counted counted o && is_number id (f o)) os
 
--- the name that is resolved to has this number in place of its own, if the occurrence is needed
-pub record NotesNumber (old new : List ℕ) (is_needed : Bool) (number : ℕ) (resolved : Resolved) : Type 0 where
+-- the name that is resolved to has this number in place of its own, if the occurrence counts
+pub record NotesNumber (old new : List ℕ) (counts : Bool) (number : ℕ) (resolved : Resolved) : Type 0 where
   pub size : length new ≡ length old
   pub numbers : (id : ℕ) → id < length old → slice_index_or new id 0
-      ≡ (if is_needed && is_number id resolved then number else slice_index_or old id 0)
+      ≡ (if counts && is_number id resolved then number else slice_index_or old id 0)
 
 -- a number below the count
 abbrev pub number_below : ℕ → ℕ → Option ℕ

@@ -39,8 +39,8 @@ pub(crate) fn first_numbers(
     let mut i = occurrences.len();
     while i > 0 {
         i -= 1;
-        let needed = is_counted(&occurrences[i], counted);
-        note(&mut numbers, needed, i, resolved[i]);
+        let counts = is_counted(&occurrences[i], counted);
+        note(&mut numbers, counts, i, resolved[i]);
     }
     Ok(numbers)
 }
@@ -56,12 +56,12 @@ fn is_counted(occurrence: &Occurrence, counted: Counted) -> bool
     }
 }
 
-/// Gives the name that is resolved to this number, if the occurrence is needed.
-fn note(numbers: &mut Vec<usize>, is_needed: bool, number: usize, resolved: Resolved)
-    ensures { NotesNumber numbers.old.items numbers.new.items is_needed number resolved }
+/// Gives the name that is resolved to this number, if the occurrence counts.
+fn note(numbers: &mut Vec<usize>, counts: bool, number: usize, resolved: Resolved)
+    ensures { NotesNumber numbers.old.items numbers.new.items counts number resolved }
 {
     if let Resolved::Name(id) = resolved {
-        if is_needed && id < numbers.len() {
+        if counts && id < numbers.len() {
             numbers[id] = number;
         }
     }

@@ -1,5 +1,6 @@
 //! The full names of a web, for those who keep them beside its table.
-ghost use Rattle.std.specs.Prelude.{◌≡◌, ◌<◌, [], IfOk, length, position, slice_index_or};
+ghost use Rattle.std.specs.Prelude.{◌≡◌, ◌<◌, [], IfOk, IfSome, None, length, position};
+ghost use Rattle.std.specs.Prelude.{slice_index_or};
 ghost use Rattle.std.specs.Str.{bytes_eq};
 ghost use Rattle.tangle_names.specs.Numbers.{key_texts};
 
@@ -67,5 +68,18 @@ impl Names {
         ensures { result ≡ position (bytes_eq text.now) self.now }
     {
         self.resolution.find(text)
+    }
+
+    /// The same, where the text is compared with that of the name of this number first. After most
+    /// edits a name has the number of before, and then nothing is looked up.
+    pub fn find_from(&self, id: usize, text: &[u8]) -> Option<usize>
+        ensures some { IfSome result (λ n. (n < length self.now)
+            × (slice_index_or self.now n [] ≡ text.now)) }
+        ensures none { result ≡ None → position (bytes_eq text.now) self.now ≡ None }
+    {
+        if id < self.count() && self.text(id) == text {
+            return Some(id);
+        }
+        self.find(text)
     }
 }

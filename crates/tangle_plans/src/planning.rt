@@ -213,10 +213,7 @@ fn end_run(plan: &mut Vec<Step>, start: usize, end: usize) -> Result<(), NoMemor
 fn has_piece_at(has_piece: &[bool], id: usize) -> bool
     ensures { result ≡ slice_index_or has_piece.now id false }
 {
-    match has_piece.get(id) {
-        Some(flag) => *flag,
-        None => false,
-    }
+    has_piece.get(id) == Some(&true)
 }
 
 /// Adds a use of what is resolved to.

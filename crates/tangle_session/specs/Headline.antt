@@ -8,7 +8,7 @@
 --
 -- Below are plain tangling (1), a history of edits (2), and what is shown at its end (3). The calls
 -- that promise it:
--- - `start_and_edit` starts a session and hands it any edits. These edits, each with the answer that
+-- - `start_and_edit` starts a session and gives it any edits. These edits, each with the answer that
 --   was given, are a `History`, and it ends with the session that is given.
 -- - `ask_all` asks a session everything. At the end of any `History` it `ShowsPlainTangling` of the
 --   files and roles of the start with the accepted edits made, and it `ShowsLastWork`.

@@ -40,8 +40,8 @@ pub enum Edits {
     Several(Vec<Edit>),
 }
 
-/// Hands one edit, or a list of edits, to a session. The refusal of one edit has the number 0.
-fn hand_over(session: &mut Session, edits: &Edits) -> Result<(), ListRefusal>
+/// Gives one edit, or a list of edits, to a session. The refusal of one edit has the number 0.
+fn apply_edits(session: &mut Session, edits: &Edits) -> Result<(), ListRefusal>
     ensures { IsAnswered session.old (edits_read edits.now) result session.new }
 {
     match edits {
@@ -53,7 +53,7 @@ fn hand_over(session: &mut Session, edits: &Edits) -> Result<(), ListRefusal>
     }
 }
 
-/// Hands edits to a session, one call after another, and adds to the list how each was answered.
+/// Gives edits to a session, one call after another, and adds to the list how each was answered.
 fn edit_each(
     session: &mut Session,
     edits: &[Edits],
@@ -66,12 +66,12 @@ fn edit_each(
         → History files roles (zip (map edits_read edits.now) result.items) session.new }
 {
     for call in edits {
-        answers.push_reserved(hand_over(session, call));
+        answers.push_reserved(apply_edits(session, call));
     }
     answers
 }
 
-/// Starts a session and hands it edits, one call after another: the session, and how each call was
+/// Starts a session and gives it edits, one call after another: the session, and how each call was
 /// answered.
 ///
 /// # Errors

@@ -110,10 +110,8 @@ fn expand_over(
     let kept = expand_again(
         alloc,
         &old.analysis.store,
-        &old.analysis.table,
         &old.kept,
         &analysis.store,
-        &analysis.table,
         &analysis.are_kept,
         &mut work,
     )?;

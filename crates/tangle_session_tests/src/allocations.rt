@@ -202,7 +202,7 @@ fn changed_cycle(alloc: Global) -> Result<(Files, Roles), Fail> {
     Ok((files, roles))
 }
 
-// Starts with this allocation failing, and says whether none did; else files and roles are handed
+// Starts with this allocation failing, and says whether none did; else files and roles are given
 // back as they were.
 fn start_is_spared(rt: &impl Abort, alloc: Global, nth: u32) -> Result<bool, Fail> {
     let (files, roles) = changed_cycle(alloc)?;

@@ -1,20 +1,13 @@
-use Rattle.std.proofs.Common.{◌≡◌, ◌∙◌, ◌+◌, true, false, arith, get_or, length, length-set, set, subst, sym, take, Contains, ap}
+use Rattle.std.proofs.Common.{◌≡◌, ◌∙◌, ◌+◌, true, false, ap, arith, get_or, length, subst, sym, take, Contains}
 use Rattle.std.proofs.lemmas.List.{take_all}
 use Rattle.tangle_plans.specs.Shapes.{here}
 use Rattle.tangle_plans.specs.declared.nodes.Node.TheVariants.{Program}
 use Rattle.tangle_graph.specs.Stores.{title_in_store}
-use Rattle.tangle_affected.specs.Flags.{number_of_node, ReachesChanged, AreFlagged}
-use Rattle.tangle_affected.proofs.FlagLemmas.{at_position, number_low, flagged_next, reached_by_use, not_reached}
+use Rattle.tangle_affected.specs.Flags.{AreFlagged, ReachesChanged}
+use Rattle.tangle_graph.proofs.FlagLemmas.{flag_size}
+use Rattle.tangle_affected.proofs.FlagLemmas.{flagged_next, reached_by_use, not_reached}
 use Rattle.tangle_affected.proofs.edits.reaching_changed.Goals as goal
 use Rattle.tangle_affected.proofs.edits.reaching_changed.Goals.{then-is_changed, else-is_changed}
-
-pub index_mut-requires : goal.index_mut-requires
-index_mut-requires c =
-    let names = c.args.new.now.names in
-    let node = get_or c.args.order.now c.loop-node.node-index Program in
-    let low = number_low names node (at_position c.args.new.now c.args.order.now c.requires.order c.loop-node.node-index c.loop-node-test.true) in
-    let is = rw (c.count-count.ensures ∙ ap length c.full_names.ensures) at c.number_of.ensures in
-    omega (arith, low, c.loop-node.invariant.size, is)
 
 pub loop-node-preserved : goal.loop-node-preserved
 loop-node-preserved c =
@@ -24,22 +17,21 @@ loop-node-preserved c =
     let flags = c.loop-node.flags.items in
     let b = c.if-is_changed.is_flagged in
     let inside = c.loop-node-test.true in
-    let is : c.number_of.result ≡ number_of_node (length c.args.new.now.names) (get_or c.args.order.now c.loop-node.node-index Program) = rw (c.count-count.ensures ∙ ap length c.full_names.ensures) at c.number_of.ensures in
     record {
-      size = length-set flags c.number_of.result b ∙ c.loop-node.invariant.size;
+      size = ap length c.set_flag.ensures ∙ flag_size new flags (get_or order i Program) b ∙ c.loop-node.invariant.size;
       flagged = λ old_shapes new_shapes old_is new_is.
           let are = c.loop-node.invariant.flagged old_shapes new_shapes old_is new_is in
           let reported = c.is_changed.ensures old_shapes new_shapes old_is new_is in
-          subst (λ n. AreFlagged old_shapes new_shapes new (set flags n b) (take (i + 1) order)) (sym is)
+          subst (λ fs. AreFlagged old_shapes new_shapes new fs (take (i + 1) order)) (sym c.set_flag.ensures)
           (flagged_next new order c.requires.order old_shapes new_shapes new_is flags i inside are b c.loop-node.invariant.size
           (elim c.if-is_changed.branch as (λ _. c.if-is_changed.is_flagged ≡ true → ReachesChanged old_shapes new_shapes (title_in_store c.args.new.now (get_or c.args.order.now c.loop-node.node-index Program))) [
             | then-is_changed w ↦ (λ e. (title_in_store new (get_or order i Program), here, reported.0 w.if-is_changed.true))
-            | else-is_changed w ↦ (λ e. (let one = rw (w.deref.ensures.value, w.uses.ensures, c.count-count.ensures ∙ ap length c.full_names.ensures) at (w.any_flagged-is_flagged.ensures.one (sym w.is_flagged-is ∙ e)) in
+            | else-is_changed w ↦ (λ e. (let one = rw (w.deref.ensures.value, w.uses.ensures) at (w.any_flagged-is_flagged.ensures.one (sym w.is_flagged-is ∙ e)) in
                 reached_by_use new order c.requires.order old_shapes new_shapes new_is flags i inside are one.0 one.1 one.2))
           ])
           (elim c.if-is_changed.branch as (λ _. c.if-is_changed.is_flagged ≡ false → ReachesChanged old_shapes new_shapes (title_in_store c.args.new.now (get_or c.args.order.now c.loop-node.node-index Program)) → ⊥) [
             | then-is_changed w ↦ (λ e. (let both : true ≡ false = sym w.if-is_changed.true ∙ (sym w.is_flagged-is ∙ e) in absurd (cc)))
-            | else-is_changed w ↦ (λ e. (let none = rw (w.deref.ensures.value, w.uses.ensures, c.count-count.ensures ∙ ap length c.full_names.ensures) at (w.any_flagged-is_flagged.ensures.none (sym w.is_flagged-is ∙ e)) in
+            | else-is_changed w ↦ (λ e. (let none = rw (w.deref.ensures.value, w.uses.ensures) at (w.any_flagged-is_flagged.ensures.none (sym w.is_flagged-is ∙ e)) in
                 not_reached new order c.requires.order old_shapes new_shapes new_is flags i inside are c.is_changed.result reported w.if-is_changed.false none))
           ]));
     }

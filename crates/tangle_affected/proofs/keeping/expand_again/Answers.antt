@@ -1,7 +1,8 @@
-use Rattle.std.proofs.Common.{◌∙◌, ◌++◌, ap, length, subst, sym, Contains}
+use Rattle.std.proofs.Common.{◌∙◌, ◌++◌, ap, subst, sym, Contains}
+use Rattle.tangle_graph.specs.Stores.{flag_at}
 use Rattle.tangle_affected.specs.Affected.{ListsAffected}
 use Rattle.tangle_affected.specs.Keeping.{KeepsUnflagged}
-use Rattle.tangle_affected.specs.Flags.{AreListed, FlagsAffected, flag_of_node}
+use Rattle.tangle_affected.specs.Flags.{AreListed, FlagsAffected}
 use Rattle.tangle_affected.proofs.KeepLemmas.{affected_ready}
 use Rattle.tangle_affected.proofs.ListLemmas.{listed_flagged}
 use Rattle.tangle_affected.proofs.keeping.expand_again.Goals as goal
@@ -33,7 +34,7 @@ expand_list-requires c =
     let is = c.requires.change.1 in
     let lists = subst (ListsAffected change.old change.new new) (sym c.deref-3.ensures.value) (c.in_ok-list.ensures change.old change.new is.before is.after) in
     let listed = subst (AreListed new flags) (c.deref.ensures.value ∙ sym c.deref-3.ensures.value) c.in_ok-flags.ensures in
-    let keeps = subst (λ ms. KeepsUnflagged change.new new (flag_of_node (length new.names) ms) order kept) c.deref-2.ensures.value (c.in_ok-share_unflagged.ensures change is) in
+    let keeps = subst (λ ms. KeepsUnflagged change.new new (flag_at new ms) order kept) c.deref-2.ensures.value (c.in_ok-share_unflagged.ensures change is) in
     (change.new, affected_ready change.new new order c.order-order.ensures change.old flags c.deref-3.result.now kept is.after lists listed keeps)
 
 pub returns-clause-kept : goal.returns-clause-kept
@@ -44,7 +45,7 @@ returns-clause-kept c = λ change is.
     let kept = c.share_unflagged.new.kept in
     let lists = subst (ListsAffected change.old change.new new) (sym c.deref-3.ensures.value) (c.in_ok-list.ensures change.old change.new is.before is.after) in
     let listed = subst (AreListed new flags) (c.deref.ensures.value ∙ sym c.deref-3.ensures.value) c.in_ok-flags.ensures in
-    let keeps = subst (λ ms. KeepsUnflagged change.new new (flag_of_node (length new.names) ms) order kept) c.deref-2.ensures.value (c.in_ok-share_unflagged.ensures change is) in
+    let keeps = subst (λ ms. KeepsUnflagged change.new new (flag_at new ms) order kept) c.deref-2.ensures.value (c.in_ok-share_unflagged.ensures change is) in
     c.in_ok-expand_list.ensures.kept change.new (affected_ready change.new new order c.order-order.ensures change.old flags c.deref-3.result.now kept is.after lists listed keeps)
 
 pub returns-clause-work : goal.returns-clause-work

@@ -1,19 +1,14 @@
-use Rattle.std.proofs.Common.{◌∙◌, ap, subst, sym}
 use Rattle.tangle_expansion.specs.Limits.{levels, heaviest}
-use Rattle.tangle_graph.specs.Nodes.{IsNodeOf, title_of_node}
 use Rattle.tangle_graph.specs.Stores.{title_in_store}
 use Rattle.tangle_affected.proofs.NameLemmas.{node_with_piece, some_unless}
 use Rattle.tangle_affected.proofs.keeping.share_old.Goals as goal
 
 pub unwrap-before-requires : goal.unwrap-before-requires
 unwrap-before-requires c =
-    let old_table = c.requires.old_table in
-    let new_table = c.requires.new_table in
     let node = c.args.node in
     let change = c.requires.change.0 in
     let is = c.requires.change.1 in
     let unaffected = c.requires.change.2 in
     let stays = c.unaffected_nodes_stay.ensures levels heaviest change.old change.new (title_in_store c.args.new.now node) unaffected.0 unaffected.1 in
     let at = node_with_piece change.old c.args.old.now (title_in_store c.args.new.now node) is.before stays.0.has_piece in
-    some_unless c.node_before.result (λ none. c.node_before.ensures.none none at.0 (subst (λ l. IsNodeOf l at.0) (sym old_table) at.1)
-    (ap (λ l. title_of_node l at.0) old_table ∙ at.2 ∙ ap (λ l. title_of_node l node) (sym new_table)))
+    some_unless c.node_before.result (λ none. c.node_before.ensures.none none at.0 at.1 at.2)

@@ -1,6 +1,6 @@
-use Rattle.std.proofs.Common.{◌∙◌, get_or, length, sym, ap}
+use Rattle.std.proofs.Common.{◌∙◌, get_or, sym}
 use Rattle.tangle_plans.specs.declared.nodes.Node.TheVariants.{Program}
-use Rattle.tangle_affected.specs.Flags.{flag_of_node}
+use Rattle.tangle_graph.specs.Stores.{flag_at}
 use Rattle.tangle_affected.proofs.KeepLemmas.{true_false, unflagged_more, unflagged_same}
 use Rattle.tangle_affected.proofs.FlagLemmas.{at_position}
 use Rattle.tangle_affected.proofs.keeping.share_unflagged.Goals as goal
@@ -17,17 +17,15 @@ keep_share-requires c =
     let placed = c.requires.order in
     let node = get_or order i Program in
     let inside = at_position new order placed i h in
-    let unflagged = rw (c.count-count.ensures ∙ ap length c.full_names.ensures) at (sym c.is_flagged.ensures ∙ c.if-not-is_flagged.true) in
+    let unflagged = sym c.is_flagged.ensures ∙ c.if-not-is_flagged.true in
     record {
-      old_table = c.requires.old_table;
-      new_table = c.requires.new_table;
       node = inside;
       change = (
         change,
         is,
         (
           (is.after.expandable node inside).0 (sym c.expandable.ensures ∙ c.if-expandable.true),
-          λ affected. true_false (flag_of_node (length new.names) c.args.flags.now node) (c.requires.flags change is node inside affected) unflagged,
+          λ affected. true_false (flag_at new c.args.flags.now node) (c.requires.flags change is node inside affected) unflagged,
         ),
       );
     }
@@ -40,16 +38,16 @@ loop-node-preserved c =
     let h = c.loop-node-test.true in
     let placed = c.requires.order in
     let node = get_or order i Program in
-    let flagged = flag_of_node (length new.names) c.args.flags.now in
+    let flagged = flag_at new c.args.flags.now in
     elim c.if-expandable.branch [
       | then-expandable+then-not-is_flagged+in_ok-keep_share w ↦ rw w.kept-is (λ change is.
           let flag = sym c.expandable.ensures ∙ w.if-expandable.true in
-          let unflagged = rw (c.count-count.ensures ∙ ap length c.full_names.ensures) at (sym w.is_flagged.ensures ∙ w.if-not-is_flagged.true) in
+          let unflagged = sym w.is_flagged.ensures ∙ w.if-not-is_flagged.true in
           let inside = at_position new order placed i h in
           unflagged_more change.new new order placed flagged i c.loop-node.kept _ h flag (c.loop-node.invariant change is)
-          (w.in_ok-keep_share.ensures change is ((is.after.expandable node inside).0 flag, λ affected. true_false (flag_of_node (length new.names) c.args.flags.now node) (c.requires.flags change is node inside affected) unflagged)))
+          (w.in_ok-keep_share.ensures change is ((is.after.expandable node inside).0 flag, λ affected. true_false (flag_at new c.args.flags.now node) (c.requires.flags change is node inside affected) unflagged)))
       | else-expandable w ↦ rw w.kept-is (λ change is. unflagged_same change.new new order placed flagged i c.loop-node.kept h (λ e m. elim w.else-expandable.branch [
-        | else-expandable-via-then-expandable+else-not-is_flagged v ↦ true_false (flag_of_node (length new.names) c.args.flags.now (get_or order i Program)) (rw (c.count-count.ensures ∙ ap length c.full_names.ensures) at (sym v.is_flagged.ensures ∙ v.if-not-is_flagged.false)) m
+        | else-expandable-via-then-expandable+else-not-is_flagged v ↦ true_false (flag_at new c.args.flags.now (get_or order i Program)) (sym v.is_flagged.ensures ∙ v.if-not-is_flagged.false) m
         | else-expandable-via-else-expandable v ↦ true_false c.expandable.result (c.expandable.ensures ∙ e) v.if-expandable.false
       ]) (c.loop-node.invariant change is))
     ]

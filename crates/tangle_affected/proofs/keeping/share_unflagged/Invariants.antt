@@ -1,8 +1,8 @@
-use Rattle.std.proofs.Common.{length, take}
+use Rattle.std.proofs.Common.{take}
+use Rattle.tangle_graph.specs.Stores.{flag_at}
 use Rattle.tangle_affected.specs.Affected.{EditedShapes}
 use Rattle.tangle_affected.specs.Keeping.{IsEditOf, KeepsUnflagged}
-use Rattle.tangle_affected.specs.Flags.{flag_of_node}
 use Rattle.tangle_affected.proofs.keeping.share_unflagged.Given as goal
 
 abbrev pub invariant-loop-node : goal.invariant-loop-node
-invariant-loop-node l = (change : EditedShapes) → IsEditOf l.old l.new l.old_kept change → KeepsUnflagged change.new l.new (flag_of_node (length l.new.names) l.flags) (take l.node-index l.order) l.kept
+invariant-loop-node l = (change : EditedShapes) → IsEditOf l.old l.new l.old_kept change → KeepsUnflagged change.new l.new (flag_at l.new l.flags) (take l.node-index l.order) l.kept

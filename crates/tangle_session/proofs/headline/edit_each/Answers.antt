@@ -20,13 +20,13 @@ loop-call-preserved c =
     (let taken = length-take at edits in let mapped = length-map (take at edits) edits_read in let answered = so_far.answered in
     grind (arith, taken, mapped, answered, inside)) in
     let calls : zip (map edits_read (take (at + 1) edits)) c.push_reserved.new.self.items
-    ≡ zip (map edits_read (take at edits)) c.loop-call.answers.items ++ (edits_read call, c.hand_over.result) ∷ [] =
+    ≡ zip (map edits_read (take at edits)) c.loop-call.answers.items ++ (edits_read call, c.apply_edits.result) ∷ [] =
     ap (λ l. zip l c.push_reserved.new.self.items) read ∙ ap (zip (map edits_read (take at edits) ++ edits_read call ∷ [])) c.push_reserved.ensures.items
-    ∙ zip_more (map edits_read (take at edits)) c.loop-call.answers.items (edits_read call) c.hand_over.result same in
+    ∙ zip_more (map edits_read (take at edits)) c.loop-call.answers.items (edits_read call) c.apply_edits.result same in
     record {
       counted = c.push_reserved.ensures.len ∙ ap (λ n. n + 1) so_far.counted;
-      answered = ap length c.push_reserved.ensures.items ∙ length_push c.loop-call.answers.items c.hand_over.result ∙ ap (λ n. n + 1) so_far.answered;
+      answered = ap length c.push_reserved.ensures.items ∙ length_push c.loop-call.answers.items c.apply_edits.result ∙ ap (λ n. n + 1) so_far.answered;
       room = c.push_reserved.ensures.capacity ∙ so_far.room;
-      history = λ files roles started. subst (λ calls. History files roles calls c.hand_over.new.session) (sym calls)
-          (Edited c.loop-call.session (edits_read call) c.hand_over.result (so_far.history files roles started) c.hand_over.ensures);
+      history = λ files roles started. subst (λ calls. History files roles calls c.apply_edits.new.session) (sym calls)
+          (Edited c.loop-call.session (edits_read call) c.apply_edits.result (so_far.history files roles started) c.apply_edits.ensures);
     }

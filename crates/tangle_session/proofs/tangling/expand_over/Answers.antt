@@ -1,14 +1,6 @@
-use Rattle.std.proofs.Common.{◌∙◌, ap, sym}
-use Rattle.tangle_names.specs.NameTable.{TableRead}
 use Rattle.tangle_session.specs.Files.{shapes_of, web_at}
 use Rattle.tangle_session.proofs.TangleLemmas.{lists_titles}
 use Rattle.tangle_session.proofs.tangling.expand_over.Goals as goal
-
-pub expand_again-requires-clause-old_table : goal.expand_again-requires-clause-old_table
-expand_again-requires-clause-old_table c = ap (λ (t : TableRead). t.names) c.requires.held.2.analysis.table ∙ sym c.requires.held.2.analysis.store_names
-
-pub expand_again-requires-clause-new_table : goal.expand_again-requires-clause-new_table
-expand_again-requires-clause-new_table c = ap (λ (t : TableRead). t.names) c.requires.held.3.table ∙ sym c.requires.held.3.store_names
 
 pub expand_again-requires-clause-change : goal.expand_again-requires-clause-change
 expand_again-requires-clause-change c = (

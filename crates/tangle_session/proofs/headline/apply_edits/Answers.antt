@@ -1,5 +1,5 @@
 use Rattle.tangle_session.proofs.HeadlineLemmas.{one_refused}
-use Rattle.tangle_session.proofs.headline.hand_over.Goals as goal
+use Rattle.tangle_session.proofs.headline.apply_edits.Goals as goal
 
 pub returns-in-Err : goal.returns-in-Err
 returns-in-Err c =

@@ -1,0 +1,44 @@
+//! Flags of the nodes of a store: a list with one for each node.
+ghost use Rattle.std.specs.Prelude.{◌≡◌, ◌+◌, ℕ, IfOk, false, length};
+ghost use Rattle.tangle_graph.specs.Stores.{flag_at, with_flag};
+
+use crate::nodes::entry;
+use crate::store::Store;
+use std::alloc::Global;
+use tangle_lines::NoMemory;
+use tangle_plans::{Node, PiecesByNode};
+
+impl Store {
+    /// Flags of the nodes of the store. None is set.
+    ///
+    /// # Errors
+    ///
+    /// `NoMemory`, where an allocation failed.
+    pub fn no_flags(&self, alloc: Global) -> Result<Vec<bool>, NoMemory>
+        ensures size { IfOk result (λ flags. length flags.items ≡ length self.now.names + 1) }
+        ensures none { IfOk result
+            (λ flags. (node : Node) → flag_at self.now flags.items node ≡ false) }
+    {
+        let mut flags = vec![in alloc; false; self.full_names().count()]?;
+        flags.push(false)?;
+        Ok(flags)
+    }
+
+    /// Whether the flag of the node is set. That of a node that the store doesn't have is not.
+    pub fn is_flagged(&self, flags: &[bool], node: Node) -> bool
+        ensures { result ≡ flag_at self.now flags.now node }
+    {
+        entry(flags, self.number(node), false)
+    }
+
+    /// Gives the node this flag. A node that the store doesn't have has none, and nothing changes.
+    pub fn set_flag(&self, flags: &mut Vec<bool>, node: Node, flag: bool)
+        ensures { flags.new.items ≡ with_flag self.now flags.old.items node flag }
+    {
+        if let Some(n) = self.number(node) {
+            if n < flags.len() {
+                flags[n] = flag;
+            }
+        }
+    }
+}
