@@ -81,16 +81,24 @@ fn check_rebuilt(rt: &impl Abort, alloc: Global, new: &[u8], lines: &[u8]) -> Re
     assert_faults(rt, alloc, made.faults(), lines)
 }
 
-#[test]
-fn a_table_of_names_that_only_moved(rt: HostRuntime) -> Result<(), Fail> {
-    let lines = b"a.w:4: error: several full names for <a...>\n\
-        a.w:4: error: no full name for <c...>\na.w:4: warning: begins another name: <a>\n";
-    check_rebuilt(&rt, rt.alloc(), MOVED, lines)
-}
+// Texts of webs after an edit, and the lines of the faults of their names.
+const EDITED: [(&[u8], &[u8]); 2] = [
+    (
+        MOVED,
+        b"a.w:4: error: several full names for <a...>\n\
+            a.w:4: error: no full name for <c...>\na.w:4: warning: begins another name: <a>\n",
+    ),
+    (
+        NOW_A_FILE,
+        b"a.w:3: error: several full names for <a...>\n\
+            a.w:3: error: no full name for <c...>\na.w:3: warning: begins another name: <a>\n",
+    ),
+];
 
 #[test]
-fn a_table_of_a_name_that_became_a_file(rt: HostRuntime) -> Result<(), Fail> {
-    let lines = b"a.w:3: error: several full names for <a...>\n\
-        a.w:3: error: no full name for <c...>\na.w:3: warning: begins another name: <a>\n";
-    check_rebuilt(&rt, rt.alloc(), NOW_A_FILE, lines)
+fn tables_built_beside_that_of_before(rt: HostRuntime) -> Result<(), Fail> {
+    for (new, lines) in &EDITED {
+        check_rebuilt(&rt, rt.alloc(), new, lines)?;
+    }
+    Ok(())
 }

@@ -59,27 +59,57 @@ fn check_names(
     assert_faults(rt, alloc, table.faults(), lines)
 }
 
-#[test]
-fn an_abbreviation_gives_its_name_the_first_number(rt: HostRuntime) -> Result<(), Fail> {
-    let text = b"@ A.\n@c\n@<b...@>@<a@>@<bc@>\n";
-    let resolved = [Resolved::Name(0), Resolved::Name(1), Resolved::Name(0)];
-    check_names(&rt, rt.alloc(), text, &[b"bc", b"a"], &resolved, b"")
-}
+// Texts of webs, their names, what their occurrences resolve to, and the lines of their faults.
+const WEBS: [(&[u8], &[&[u8]], &[Resolved], &[u8]); 4] = [
+    // An abbreviation gives its name the first number.
+    (
+        b"@ A.\n@c\n@<b...@>@<a@>@<bc@>\n",
+        &[b"bc", b"a"],
+        &[Resolved::Name(0), Resolved::Name(1), Resolved::Name(0)],
+        b"",
+    ),
+    // A name begins another.
+    (
+        b"@ A @<In it@>.\n@c\n@<  In   @>@<Zz...@>\n@<b@>=\n@<q\n@ B.\n",
+        &[b"In it", b"In", b"b", b"q"],
+        &[
+            Resolved::Name(0),
+            Resolved::Name(1),
+            Resolved::NoFullName,
+            Resolved::Name(2),
+            Resolved::Name(3),
+        ],
+        b"a.w:3: error: no full name for <Zz...>\na.w:3: warning: begins another name: <In>\n",
+    ),
+    // The empty name and its abbreviation.
+    (
+        b"@ A.\n@c\n@<...@>@<@>\n",
+        &[b""],
+        &[Resolved::Name(0), Resolved::Name(0)],
+        b"",
+    ),
+    // Dots in front of other bytes, and bytes past 127.
+    (
+        b"@ A.\n@c\n@<....@>@<...@>\n@<.x@>@<@>@<\xFF\x80@>@<\xFF...@>\n",
+        &[b".x", b"", b"\xFF\x80"],
+        &[
+            Resolved::Name(0),
+            Resolved::Ambiguous,
+            Resolved::Name(0),
+            Resolved::Name(1),
+            Resolved::Name(2),
+            Resolved::Name(2),
+        ],
+        b"a.w:3: error: several full names for <...>\na.w:4: warning: begins another name: <>\n",
+    ),
+];
 
 #[test]
-fn a_name_that_begins_another(rt: HostRuntime) -> Result<(), Fail> {
-    let text = b"@ A @<In it@>.\n@c\n@<  In   @>@<Zz...@>\n@<b@>=\n@<q\n@ B.\n";
-    let resolved = [
-        Resolved::Name(0),
-        Resolved::Name(1),
-        Resolved::NoFullName,
-        Resolved::Name(2),
-        Resolved::Name(3),
-    ];
-    let lines =
-        b"a.w:3: error: no full name for <Zz...>\na.w:3: warning: begins another name: <In>\n";
-    let names = [b"In it".as_slice(), b"In", b"b", b"q"];
-    check_names(&rt, rt.alloc(), text, &names, &resolved, lines)
+fn names_of_webs(rt: HostRuntime) -> Result<(), Fail> {
+    for (text, names, resolved, lines) in &WEBS {
+        check_names(&rt, rt.alloc(), text, names, resolved, lines)?;
+    }
+    Ok(())
 }
 
 #[test]
@@ -108,26 +138,6 @@ fn a_file_named_by_an_abbreviation(rt: HostRuntime) -> Result<(), Fail> {
     assert_first(&rt, &table, 0, 0, None);
     assert_first(&rt, &table, 1, 1, Some(2));
     Ok(())
-}
-
-#[test]
-fn empty_names_and_dots(rt: HostRuntime) -> Result<(), Fail> {
-    let resolved = [Resolved::Name(0), Resolved::Name(0)];
-    let text = b"@ A.\n@c\n@<...@>@<@>\n";
-    check_names(&rt, rt.alloc(), text, &[b""], &resolved, b"")?;
-    let text = b"@ A.\n@c\n@<....@>@<...@>\n@<.x@>@<@>@<\xFF\x80@>@<\xFF...@>\n";
-    let names = [b".x".as_slice(), b"", b"\xFF\x80"];
-    let resolved = [
-        Resolved::Name(0),
-        Resolved::Ambiguous,
-        Resolved::Name(0),
-        Resolved::Name(1),
-        Resolved::Name(2),
-        Resolved::Name(2),
-    ];
-    let lines =
-        b"a.w:3: error: several full names for <...>\na.w:4: warning: begins another name: <>\n";
-    check_names(&rt, rt.alloc(), text, &names, &resolved, lines)
 }
 
 #[test]
