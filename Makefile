@@ -2,8 +2,9 @@
 # make install     copies them and their manual pages to DESTDIR and PREFIX (/usr/local)
 # make uninstall   removes what make install copied
 # make example     tangles the web in examples/, compiles it and runs it, and edits it by a script
-# make check       runs the gate and the tests over the built programs; 'N passed, M failed' ends it
+# make check       runs the gate (rt ci) and the tests over the built programs; 'N passed, M failed' ends it
 # make further     tries the wrong bodies that the gate leaves out for their time
+# make bench       measures the instructions, time and memory that the built programs take
 #
 # The kit's command rt, cc and python3 have to be on the path. To build and install, rt is enough.
 

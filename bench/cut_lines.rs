@@ -1,5 +1,5 @@
-//! Cuts a file into lines without their trailing spaces, each a vector of its own: what a plain Rust program
-//! would do in place of the table of files.
+//! Cuts a file into lines without their trailing spaces, each a vector of its own: what a plain Rust
+//! program would do instead of the table of files.
 use std::{env, fs};
 
 fn main() {

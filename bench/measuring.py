@@ -25,11 +25,11 @@ class Run:
 
 
 class Bench:
-    """A room with folders and scripts, in which the programs run."""
+    """A temporary folder with folders and scripts, in which the programs run."""
 
-    def __init__(self, program, editor, room):
-        self.program, self.editor, self.room = program, editor, room
-        self.measurer = os.path.join(room, 'measure')
+    def __init__(self, program, retangle, temporary):
+        self.program, self.retangle, self.temporary = program, retangle, temporary
+        self.measurer = os.path.join(temporary, 'measure')
         source = os.path.join(HERE, '..', 'tests', 'measure.c')
         subprocess.check_call(['cc', '-O2', '-o', self.measurer, source])
         self.counter = find_counter()
@@ -37,7 +37,7 @@ class Bench:
 
     def folder(self, files):
         """A new folder with these files, each a list of lines; of None a folder is made."""
-        path = tempfile.mkdtemp(dir=self.room)
+        path = tempfile.mkdtemp(dir=self.temporary)
         for name, lines in files.items():
             if lines is None:
                 os.mkdir(os.path.join(path, name))
@@ -54,13 +54,13 @@ class Bench:
 
     def script(self, lines):
         """A new file with these lines."""
-        handle, path = tempfile.mkstemp(dir=self.room)
+        handle, path = tempfile.mkstemp(dir=self.temporary)
         with os.fdopen(handle, 'w') as out:
             out.writelines(line + '\n' for line in lines)
         return path
 
     def run_once(self, command, folder, errors='/dev/full', script=os.devnull):
-        used = os.path.join(self.room, 'used')
+        used = os.path.join(self.temporary, 'used')
         with open(errors, 'w') as reported, open(script) as given:
             status = subprocess.call([self.measurer, used] + command, cwd=folder, stdin=given,
                                      stdout=subprocess.DEVNULL, stderr=reported)
@@ -68,9 +68,9 @@ class Bench:
             microseconds, kilobytes = map(int, taken.read().split())
         return Run(microseconds / 1e6, kilobytes, status)
 
-    def measure(self, folder, words, program=None, runs=RUNS, ends=(3,)):
+    def measure(self, folder, arguments, program=None, runs=RUNS, ends=(3,)):
         """The fastest of some runs that can report nothing, and have to end with such a status."""
-        command = [program or self.program] + words
+        command = [program or self.program] + arguments
         best = fastest(self.run_once(command, folder) for _ in range(runs))
         if best.status not in ends:
             sys.exit('%s ended with status %d' % (' '.join(command), best.status))
@@ -86,24 +86,24 @@ class Bench:
             run.instructions = self.counter and self.counter(command, web.folder, os.devnull)
         return best
 
-    def instructions(self, folder, words, program=None):
-        return self.counter and self.counter([program or self.program] + words, folder)
+    def instructions(self, folder, arguments, program=None):
+        return self.counter and self.counter([program or self.program] + arguments, folder)
 
     def of_script(self, folder, lines):
-        """The instructions of a run of the editor that is given these lines."""
+        """The instructions of a run of retangle that is given these lines."""
         if not self.counter:
             return None
-        return self.counter([self.editor, 'a'], folder, os.devnull, self.script(lines))
+        return self.counter([self.retangle, 'a'], folder, os.devnull, self.script(lines))
 
     def run_of_script(self, folder, lines, runs=1):
-        """The fastest run of the editor that is given these lines."""
+        """The fastest run of retangle that is given these lines."""
         script = self.script(lines)
-        command = [self.editor, 'a']
+        command = [self.retangle, 'a']
         return fastest(self.run_once(command, folder, os.devnull, script) for _ in range(runs))
 
     def answers(self, folder, lines):
         with open(self.script(lines)) as given:
-            run = subprocess.run([self.editor, 'a'], cwd=folder, stdin=given,
+            run = subprocess.run([self.retangle, 'a'], cwd=folder, stdin=given,
                                  stdout=subprocess.PIPE)
         return run.stdout.decode().splitlines()
 
@@ -116,7 +116,7 @@ class Bench:
             sys.exit('wrong answer: %s' % next(pair for pair in pairs if pair[0] != pair[1])[0])
 
     def cost_of_one(self, folder, commands, few=2):
-        """The instructions that one takes of the commands behind the first few."""
+        """The instructions that one takes of the commands after the first few."""
         self.check(folder, commands)
         if not self.counter:
             return None

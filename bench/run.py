@@ -12,11 +12,11 @@ What a layer takes is found by where a run ends, and by what it finds. A change 
 there ends it once the web is cut into lines, an inclusion that cannot be read once the sources
 were read, and a fault that cannot be reported, since standard error is full, once all is tangled
 and before the first file is written. Scanning has no end of its own. But a part whose name is an
-abbreviation of no name is read and scanned like any other, and then dropped: no text, weight or
+abbreviation of no name is read and scanned like any other, and then dropped: no body, weight or
 number of it is made. So a run over such parts that ends at its first fault is a run up to the end
 of scanning, but for what these names and their faults take, which is found by two webs with the
 names alone and with control texts in their place. Where parts with names are compared with
-dropped ones, what is behind scanning lies between two numbers: with the table of names in it, and
+dropped ones, what is after scanning lies between two numbers: with the table of names in it, and
 without, but also without the faults of names that are none. What an edit or a list of edits takes
 is found by two scripts, one with more of them than the other. Instructions are counted by perf
 where it counts them here, else by valgrind; without both they are left out.
@@ -31,7 +31,7 @@ import tempfile
 import webs
 from measuring import HERE, RUNS, UNREPORTED, Bench, Command, lines_of, own_instructions
 
-DROPPED = '...'             # behind the names of parts: they are abbreviations of none
+DROPPED = '...'             # after the names of parts: they are abbreviations of none
 REQUIRED = {'hiformat.w': 0.49, 'mp.w': 0.52, 'hitex.w': 0.57}    # beside CTANGLE 4.11
 
 
@@ -73,7 +73,7 @@ def bench_cutting(bench):
     folder = bench.folder({'a.w': lines})
     ours = bench.measure(folder, ['a', 'none'])
     rows = [['ctangle', ours.seconds, ours.kilobytes, '1.000']]
-    rust = os.path.join(bench.room, 'cut_lines')
+    rust = os.path.join(bench.temporary, 'cut_lines')
     source = os.path.join(HERE, 'cut_lines.rs')
     if shutil.which('rustc') and subprocess.call(['rustc', '-O', '-o', rust, source]) == 0:
         theirs = bench.measure(folder, ['a.w'], rust, ends=(0,))
@@ -136,7 +136,7 @@ def bench_scanning(bench):
 def bench_names(bench):
     # What names take, in time and memory, is found by a web with control texts in their place. A
     # run whose faults can't be reported ends when the session is started: the table of names, the
-    # graph and the expansions are made, and no text.
+    # graph and the expansions are made, and no output.
     rows = []
     for count in (1000, 10000, 50000, 100000):
         named, plain = (bench.folder({'a.w': webs.names(count, as_names) + [UNREPORTED]})
@@ -199,9 +199,9 @@ def bench_whole(bench):
         if other:
             beside.append([web.title] + compared(*runs) + [web.required])
     table('Whole runs (required: at most 1,700,000 instructions per 1,000 lines of generated webs, '
-          'flat within a tenth, of them at most 700,000 behind scanning, for store, expansions and '
+          'flat within a tenth, of them at most 700,000 after scanning, for store, expansions and '
           'writing; at most 7.5 bytes of memory a byte)',
-          ['', 'instructions per 1,000 lines', 'behind scanning, at least', 'at most',
+          ['', 'instructions per 1,000 lines', 'after scanning, at least', 'at most',
            'milliseconds', 'KB', 'memory per byte', 'status'], rows)
     if other:
         compare_table('Whole runs beside ' + other, beside)
@@ -280,14 +280,14 @@ def bench_edits(bench):
     few, many = (bench.run_of_script(folder, lines_of(replaces(lines, count))).kilobytes
                  for count in (10, 1000))
     table('Edits by retangle of a web of 35,000 lines with 3,000 names, of which ctangle takes %s '
-          'instructions, behind scanning %s' % (show(whole), show(of_whole)),
+          'instructions, after scanning %s' % (show(whole), show(of_whole)),
           ['', 'instructions or KB', 'ratio', 'required'],
           [['one replace of a line of a leaf', edit, ratio(edit, whole),
             'at most 0.76 of a whole run, and 72,000,000'],
-           ['one line more in front of all others', moves, ratio(moves, whole), 'no more than it'],
+           ['one line more before all others', moves, ratio(moves, whole), 'no more than it'],
            ['one use more', use, ratio(use, whole), 'at most 0.95 of a whole run'],
            ['one name more', name, ratio(name, whole), 'at most 0.95 of a whole run'],
-           ['behind scanning one replace takes at least', least, ratio(least, of_whole),
+           ['after scanning one replace takes at least', least, ratio(least, of_whole),
             'at most 0.15 of the same part of a whole run'],
            ['  at most, with the table of names', most, ratio(most, of_whole), ''],
            ['one refused edit', refused, '', 'under 10,000'],
@@ -341,7 +341,7 @@ def replaces(lines, count):
 
 
 def insertions(lines, count):
-    """So many commands that each insert a line in front of all sections, and so move all others."""
+    """So many commands that each insert a line before all sections, and so move all others."""
     return [Command(['insert 1 a.w', '% line ' + str(number), 'work'], ['ok', 'work 0'])
             for number in range(count)]
 
@@ -394,9 +394,9 @@ PARTS = {'cutting': bench_cutting, 'reading': bench_reading, 'scanning': bench_s
 
 def main():
     os.environ['CWEBINPUTS'] = '.'                  # where another ctangle looks for its webs
-    program, editor = map(os.path.abspath, sys.argv[1:3])
-    with tempfile.TemporaryDirectory() as room:
-        bench = Bench(program, editor, room)
+    program, retangle = map(os.path.abspath, sys.argv[1:3])
+    with tempfile.TemporaryDirectory() as temporary:
+        bench = Bench(program, retangle, temporary)
         for part in sys.argv[3:] or PARTS:
             PARTS[part](bench)
 

@@ -2,7 +2,7 @@
 import random
 
 FUNCTION = '''\
-@ Function {n} adds up a part of the table, and this line reports so with |code| between bars.
+@ Function {n} adds up a part of the table, and this line repeats it with |code| between bars.
 The sum stops at a limit that grows with the number of the function.
 @d LIMIT_{n} ({n} * 10)
 
@@ -66,7 +66,7 @@ def named_program(lines, parts=1000, files=10, tail=''):
     """A program of so many lines in parts with names, which the program and named files use.
 
     There are at most so many parts, and each tenth begins a named file or the program: it uses
-    those behind it. The tail is the end of each name but a file's; dots make it an abbreviation.
+    those after it. The tail is the end of each name but a file's; dots make it an abbreviation.
     """
     size = max(16, lines // parts)
     made, bodies = [], []

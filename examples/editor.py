@@ -7,7 +7,7 @@ It starts retangle on the web and reads commands from standard input, a line eac
 
     save FILE    the editor has written FILE: sends what has changed in it, and prints the faults
     faults       prints the faults of the web, as FILE:LINE: lines
-    work         prints how many parts of the program the last save affected
+    work         prints how many names, the program being one, the last save affected
     show FILE    prints the output file of this name
     quit         ends the conversation, as does the end of the input
 
@@ -148,7 +148,7 @@ def lines_of(name):
 # ---------------------------------------------------------------------- the edits of a save
 
 def edits(name, old, new):
-    """The edits that turn the old lines into the new ones; None in place of lines is no file.
+    """The edits that turn the old lines into the new ones; None instead of lines is no file.
 
     An edit is a request and its line of text, or None where it takes none.
     """
@@ -183,7 +183,7 @@ def common_front(old, new):
 
 
 def block_edits(name, line, count, texts):
-    """Puts texts in place of so many lines, the first of which is this one."""
+    """The edits that replace so many lines, the first of which is this one, by these texts."""
     replaced = min(count, len(texts))
     made = [(b'replace %d %s' % (line + at, name), texts[at]) for at in range(replaced)]
     made += [(b'remove %d %s' % (line + replaced, name), None)] * (count - replaced)

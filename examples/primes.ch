@@ -1,6 +1,6 @@
 A change file gives a web other lines without touching it. Text outside the changes is a comment.
 
-This change looks further than the web does.
+This change has a greater bound than the web.
 
 @x
 enum { LIMIT = 50 };

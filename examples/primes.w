@@ -5,7 +5,7 @@
 A number is prime if the sieve of the included file does not cross it out.
 
 A text in angle brackets is the name of a part that has sections of its own. The text of the part
-goes where its name is. A name that begins like one other may be cut short with three dots.
+goes where its name is. A name may be given by its beginning and three dots if no other begins so.
 
 @c
 #include <stdio.h>
@@ -29,7 +29,7 @@ int main(void)
     return 0;
 }
 
-@ The bound is a part of its own, so that a change file can put another in its place.
+@ The bound is a part of its own, so that a change file can replace it.
 
 @<Bound of the search@>=
 enum { LIMIT = 50 };

@@ -1,4 +1,4 @@
-"""Holds the built programs against the reference tangler of tests/reference.
+"""Compares the built programs with the reference tangler of tests/reference.
 
 usage: compare.py generated CTANGLE FIRST COUNT      generated webs, by their seeds
        compare.py short CTANGLE MOST                 short webs over small alphabets, so many of
@@ -22,6 +22,7 @@ sys.path.insert(0, os.path.join(os.path.dirname(os.path.abspath(__file__)), 'ref
 import generator
 import programs
 import short_webs
+from checks import finish, lay, same
 from faults import fault_line, status_of
 from files import Roles, add
 from scripts import Script
@@ -29,8 +30,6 @@ from sessions import Session
 from tangling import Tangling
 
 SECONDS = 60
-SHOWN = 5
-LONGEST = 2000
 ROLES = Roles(b'a.w', None, b'a.c')
 
 
@@ -47,15 +46,15 @@ def tangled(arguments, folder):
     return status_of(tangling.faults), faults, dict(tangling.files())
 
 
-def lay(folder, files):
+def make_folder(folder, files):
     """Makes a folder with these files, (name, lines) each."""
     shutil.rmtree(folder, ignore_errors=True)
     os.makedirs(folder)
-    for name, lines in files:
-        path = os.path.join(os.fsencode(folder), name)
-        os.makedirs(os.path.dirname(path), exist_ok=True)
-        with open(path, 'wb') as out:
-            out.write(b''.join(line + b'\n' for line in lines))
+    lay(os.fsencode(folder), {name: bytes_of(lines) for name, lines in files})
+
+
+def bytes_of(lines):
+    return b''.join(line + b'\n' for line in lines)
 
 
 def files_of(folder):
@@ -86,37 +85,23 @@ def arguments_of(project, seed):
     return arguments
 
 
-def shown(ended):
-    text = str(ended)
-    return text if len(text) <= LONGEST else text[:LONGEST] + ' ..'
-
-
 class Comparison:
     def __init__(self, program):
         self.program = os.path.abspath(program)
-        self.passed = self.failed = 0
-
-    def count(self, name, expected, found):
-        if expected == found:
-            self.passed += 1
-            return
-        self.failed += 1
-        if self.failed <= SHOWN:
-            print('FAIL %s:\n    expected %s\n    found  %s' % (name, shown(expected), shown(found)))
 
     def compare_run(self, name, arguments, folder):
         status, faults, files = tangled(arguments, folder)
         before = files_of(folder)
         done = run(self.program, arguments, folder)
-        self.count(name, (status, b'', faults, {**before, **files}),
-                   (done.returncode, done.stdout, done.stderr, files_of(folder)))
+        same((done.returncode, done.stdout, done.stderr, files_of(folder)),
+             (status, b'', faults, {**before, **files}), name)
 
     def generated(self, folder, first, count):
         for seed in range(first, first + count):
             project = generator.Project(seed)
             name = 'generated web %d' % seed
             if project.is_small():
-                lay(folder, project.files)
+                make_folder(folder, project.files)
                 self.compare_run(name, arguments_of(project, seed), folder)
             else:
                 print('%s is too large' % name)
@@ -129,9 +114,8 @@ class Comparison:
                 self.compare_web('%s cut after %d bytes' % (web, size), text[:size], folder)
 
     def compare_web(self, name, text, folder):
-        lay(folder, [])
-        with open(os.path.join(folder, 'a.w'), 'wb') as out:
-            out.write(text)
+        make_folder(folder, [])
+        lay(folder, {'a.w': text})
         self.compare_run(name, ['a'], folder)
 
     def short(self, folder, most):
@@ -142,7 +126,7 @@ class Comparison:
     def scripts(self, folder, first, count):
         for seed in range(first, first + count):
             project, text = generator.script(seed)
-            lay(folder, project.files)
+            make_folder(folder, project.files)
             arguments = ['a', '--out', os.fsdecode(project.out)] + (['--change', 'a'] if project.change else [])
             loaded = programs.load(programs.read_retangle(arguments), programs.Folder(folder))
             try:
@@ -151,8 +135,8 @@ class Comparison:
                 print('generated script %d is too large' % seed)
                 continue
             done = run(self.program, arguments, folder, text)
-            self.count('generated script %d' % seed, (answers.status, answers.written, b''),
-                       (done.returncode, done.stdout, done.stderr))
+            same((done.returncode, done.stdout, done.stderr), (answers.status, answers.written, b''),
+                 'generated script %d' % seed)
 
     def edited(self, folder, webs):
         """A session that is edited from a whole web into one of its cuts, and back, edit by edit or
@@ -171,17 +155,16 @@ class Comparison:
         there, back = edits_into_front(whole, part), edits_into_whole(whole, part)
         questions = questions_about(whole, part)
         of_part, of_whole = (answers_to(questions, lines) for lines in (part, whole))
-        self.count(name + ', started there', (of_part.status, of_part.written, b''), self.answers(folder, part, questions))
+        same(self.answers(folder, part, questions), (of_part.status, of_part.written, b''), name + ', started there')
         answers = b'ok\n' * len(there) + of_part.written + b'ok\n' * len(back) + of_whole.written
-        self.count(name, (of_whole.status, answers, b''),
-                   self.answers(folder, whole, b''.join(there) + questions + b''.join(back) + questions))
+        script = b''.join(there) + questions + b''.join(back) + questions
+        same(self.answers(folder, whole, script), (of_whole.status, answers, b''), name)
         answers = listed(there) + of_part.written + listed(back) + of_whole.written
         script = as_list(there) + questions + as_list(back) + questions
-        self.count(name + ', by lists', (of_whole.status, answers, b''),
-                   self.answers(folder, whole, script))
+        same(self.answers(folder, whole, script), (of_whole.status, answers, b''), name + ', by lists')
 
     def answers(self, folder, lines, script):
-        lay(folder, [(b'a.w', lines)])
+        make_folder(folder, [(b'a.w', lines)])
         done = run(self.program, ['a'], folder, script)
         return done.returncode, done.stdout, done.stderr
 
@@ -222,7 +205,7 @@ def answers_to(script, web):
 
 
 def files_with(lines):
-    return add([], b'a.w', b''.join(line + b'\n' for line in lines))
+    return add([], b'a.w', bytes_of(lines))
 
 
 class TooLarge(Exception):
@@ -237,8 +220,8 @@ def watch(tangling):
 def main():
     mode, rest = sys.argv[1], sys.argv[2:]
     comparison = Comparison(rest.pop(0))
-    with tempfile.TemporaryDirectory() as room:
-        folder = os.path.join(room, 'folder')
+    with tempfile.TemporaryDirectory() as temporary:
+        folder = os.path.join(temporary, 'folder')
         if mode == 'cut':
             comparison.cut(folder, rest)
         elif mode == 'edited':
@@ -249,8 +232,7 @@ def main():
             comparison.generated(folder, *map(int, rest))
         else:
             comparison.scripts(folder, *map(int, rest))
-    print('%d passed, %d failed' % (comparison.passed, comparison.failed))
-    return 1 if comparison.failed else 0
+    return finish()
 
 
 if __name__ == '__main__':

@@ -1,6 +1,6 @@
 #!/usr/bin/env python3
-"""Holds the definitions of expansions against the reference: writes a crate of lemmas, one for each generated web, each of
-which says by computing alone what the depths, weights and texts of the web's nodes and its output files are.
+"""Compares the definitions of expansions with the reference: writes a crate of lemmas, one for each generated web, each of
+which says by computing alone what the depths, weights and bytes of the web's nodes and its output files are.
 
 usage: tests/computed_webs.py FOLDER FIRST COUNT
 
@@ -25,7 +25,7 @@ from tangling import Tangling  # noqa: E402
 
 MOST_LINES, MOST_STEPS, MOST_BYTES, WEBS_A_FILE = 60, 20000, 3000, 20
 
-HEAD = '''-- Generated webs: the depths, weights and texts of their nodes, and their output files.
+HEAD = '''-- Generated webs: the depths, weights and bytes of their nodes, and their output files.
 use Rattle.std.proofs.Common.{◌≡◌, ℕ, List, [], ◌∷◌, ◌++◌, refl}
 use Rattle.std.specs.Prelude.{codes, map, true, false}
 use Rattle.std.specs.Fmt.{digits}
@@ -38,24 +38,24 @@ use Rattle.%s.proofs.Shown.{line, shown}
 
 SHOWN = '''-- What is shown of a web.
 use Rattle.std.specs.Prelude.{ℕ, Bool, true, false, List, [], ◌∷◌, ◌++◌, map}
-use Rattle.tangle_lines.specs.Reading.{Line, SourceRead}
+use Rattle.tangle_lines.specs.Reading.{SourceLine, SourceRead}
 use Rattle.tangle_scan.specs.Web.{WebRead, web_of}
 use Rattle.tangle_names.specs.NameTable.{table_of}
 use Rattle.tangle_plans.specs.Shapes.{Title}
 use Rattle.tangle_plans.specs.Flat.{flat, weight, depth}
 use Rattle.tangle_expansion.specs.Limits.{levels}
 use Rattle.tangle_plans.specs.WebShapes.{shapes}
-use Rattle.tangle_expansion.specs.Numbers.{numbers_of, text}
-use Rattle.tangle_expansion.specs.Outputs.{file_text}
+use Rattle.tangle_expansion.specs.Numbers.{numbers_of, expansion_bytes}
+use Rattle.tangle_expansion.specs.Outputs.{output_file_bytes}
 use Rattle.tangle_files.specs.declared.marks.MarkMode.TheVariants.{Full}
 use Rattle.tangle_graph.specs.Nodes.{title_of_node}
 use Rattle.tangle_graph.specs.Outputs.{outputs}
 
--- the depth, the weight and the text of a node
+-- the depth and the weight of a node, and the bytes that are written for it
 pub record Node : Type 0 where
   pub depth : ℕ
   pub weight : ℕ
-  pub text : List ℕ
+  pub bytes : List ℕ
 
 pub record File : Type 0 where
   pub name : List ℕ
@@ -63,32 +63,32 @@ pub record File : Type 0 where
 
 pub record Shown : Type 0 where
   pub nodes : List Node
-  pub circular : List ℕ
+  pub cyclic : List ℕ
   pub files : List File
 
-abbrev pub line : List ℕ → ℕ → ℕ → Bool → Line
+abbrev pub line : List ℕ → ℕ → ℕ → Bool → SourceLine
 line bytes file n changed = record { bytes = bytes; origin = record { file = file; line = n }; changed = changed }
 
-abbrev pub source : List (List ℕ) → List Line → SourceRead
+abbrev pub source : List (List ℕ) → List SourceLine → SourceRead
 source files lines = record { files = map (λ name. (name, [])) files; lines = lines; faults = [] }
 
 abbrev pub node_of : WebRead → Title → Node
 node_of web title = record {
   depth = depth levels (shapes web (table_of web)) title;
   weight = weight levels (shapes web (table_of web)) title;
-  text = text (numbers_of web (table_of web) Full) (flat levels (shapes web (table_of web)) title);
+  bytes = expansion_bytes (numbers_of web (table_of web) Full) (flat levels (shapes web (table_of web)) title);
 }
 
 -- of the nodes the first, of those that reach a name that contains itself the depth, and the output files
 abbrev pub shown_of : WebRead → List ℕ → List Title → List Title → Shown
-shown_of web out nodes circular = record {
+shown_of web out nodes cyclic = record {
   nodes = map (node_of web) nodes;
-  circular = map (depth levels (shapes web (table_of web))) circular;
-  files = map (λ o. record { name = o.name; bytes = file_text (numbers_of web (table_of web) Full) o.has_macros o.has_piece (flat levels (shapes web (table_of web)) (title_of_node (table_of web).names o.node)) }) (outputs web (table_of web) out);
+  cyclic = map (depth levels (shapes web (table_of web))) cyclic;
+  files = map (λ o. record { name = o.name; bytes = output_file_bytes (numbers_of web (table_of web) Full) o.has_macros o.has_piece (flat levels (shapes web (table_of web)) (title_of_node (table_of web).names o.node)) }) (outputs web (table_of web) out);
 }
 
-abbrev pub shown : List (List ℕ) → List Line → List ℕ → List Title → List Title → Shown
-shown files lines out nodes circular = shown_of (web_of (source files lines)) out nodes circular
+abbrev pub shown : List (List ℕ) → List SourceLine → List ℕ → List Title → List Title → Shown
+shown files lines out nodes cyclic = shown_of (web_of (source files lines)) out nodes cyclic
 '''
 
 
@@ -145,24 +145,24 @@ def lemma(seed):
     writer = Writer(tangling.web, graph, tangling.marks)
     lines = ['line %s %d %d %s' % (bytes_term(line), numbers[origin[0]], origin[1], 'true' if changed else 'false')
              for line, origin, changed in tangling.source]
-    plain = [node for node in graph.nodes if node not in graph.reaches_circle]
-    circular = [node for node in graph.nodes if node in graph.reaches_circle]
+    plain = [node for node in graph.nodes if node not in graph.reaches_cycle]
+    cyclic = [node for node in graph.nodes if node in graph.reaches_cycle]
     if any(graph.pieces[node] and node not in graph.expandable for node in plain):
         return None
-    nodes = ['record { depth = %d; weight = %d; text = %s }'
+    nodes = ['record { depth = %d; weight = %d; bytes = %s }'
              % (graph.depth[node], graph.weight[node], bytes_term(writer.text(node))) for node in plain]
     made = ['record { name = %s; bytes = %s }' % (bytes_term(name), bytes_term(text)) for name, text in tangling.files()]
     name = 'web_%d' % seed
     return '''%s : shown %s %s %s %s %s ≡ record {
   nodes = %s;
-  circular = %s;
+  cyclic = %s;
   files = %s;
 }
 unfolding lexeme tokens_from occurrences_from digits levels heaviest
 %s = refl
 ''' % (name, list_term([bytes_term(file) for file, _ in files]), list_term(lines), bytes_term(roles.out),
-        list_term(list(map(title_term, plain))), list_term(list(map(title_term, circular))), list_term(nodes),
-        list_term([str(graph.depth[node]) for node in circular]), list_term(made), name)
+        list_term(list(map(title_term, plain))), list_term(list(map(title_term, cyclic))), list_term(nodes),
+        list_term([str(graph.depth[node]) for node in cyclic]), list_term(made), name)
 
 
 def write(folder, path, text):

@@ -1,4 +1,5 @@
-"""Conversations with the built retangle, held against the reference, and scripts that try to break it.
+"""Conversations with the built retangle, compared with the reference, and malformed and very long
+scripts.
 
 usage: conversations.py PROGRAM TOP        TOP is the folder of the repository
 
@@ -6,10 +7,8 @@ In a conversation each command is sent when the command before it is answered, t
 'N passed, M failed'.
 """
 import os
-import re
 import resource
 import select
-import signal
 import socket
 import subprocess
 import sys
@@ -18,18 +17,19 @@ import time
 
 program, top = (os.path.abspath(path) for path in sys.argv[1:3])
 sys.path[:0] = [os.path.join(top, 'tests'), os.path.join(top, 'tests', 'reference')]
-from checks import check, folder_with, run_all
+from checks import check, conversation_of, folder_with, run_all
 from files import Roles, add
+from limits import FILE_BYTES
 from scripts import Script
 from sessions import Session
 
 PATIENCE = 60           # seconds for an answer, and for a script
-SCRIPT_BYTES = 67108864
 LIST_BYTES = 10 ** 9    # what all held edits of a script fit into
 WEB = b'@ A.\n@c\nint x;\n'
 ROLES = Roles(b'a.w', None, b'a.c')
 
-class Room:
+
+class Project:
     """A folder with these files, in which retangle runs."""
 
     def __init__(self, files):
@@ -38,7 +38,7 @@ class Room:
     def start(self, arguments, **streams):
         running = subprocess.Popen([program] + arguments, cwd=self.folder.name, bufsize=0,
                                    stderr=subprocess.PIPE, **streams)
-        running.room = self     # the folder goes with its room, so the room stays with the program
+        running.project = self      # the folder is removed with its project
         return running
 
 
@@ -54,11 +54,11 @@ def send(pipe, text, size):
     pipe.close()
 
 
-def run_script(room, arguments, script, size=1 << 20, **options):
-    """What is written and the status for a script that is sent in pieces of this size, without
+def run_script(project, arguments, script, size=1 << 20, **options):
+    """What is written and the status for a script that is sent in chunks of this size, without
     waiting."""
     with tempfile.TemporaryFile() as answers:
-        running = room.start(arguments, stdin=subprocess.PIPE, stdout=answers, **options)
+        running = project.start(arguments, stdin=subprocess.PIPE, stdout=answers, **options)
         try:
             send(running.stdin, script, size)
         except BrokenPipeError:
@@ -72,7 +72,7 @@ def run_script(room, arguments, script, size=1 << 20, **options):
 
 def converse(name, files, arguments, turns):
     """Sends each command and waits for its answer before the next one."""
-    running = Room(files).start(arguments, stdin=subprocess.PIPE, stdout=subprocess.PIPE)
+    running = Project(files).start(arguments, stdin=subprocess.PIPE, stdout=subprocess.PIPE)
     for command, answer in turns:
         running.stdin.write(command)
         got, end = b'', time.monotonic() + PATIENCE
@@ -88,29 +88,9 @@ def converse(name, files, arguments, turns):
     return running.wait(PATIENCE)
 
 
-def turns_of(conversation):
-    """The commands, with their texts, and the answers of a conversation in which > is before what is typed."""
-    turns, takes_text = [], False
-    for line in conversation.splitlines(True):
-        if line.startswith(b'> '):
-            if takes_text:
-                turns[-1][0] += line[2:]
-                takes_text = False
-                continue
-            turns.append([line[2:], b''])
-            takes_text = line[2:].startswith((b'insert ', b'replace '))
-        else:
-            turns[-1][1] += line
-    return turns
-
-
 def test_document():
-    with open(os.path.join(top, 'docs', 'sessions.md'), 'rb') as source:
-        blocks = re.findall(rb'(?:^(?:    .*)?\n)*^    .*\n', source.read(), re.M)
-    at = next(number for number, block in enumerate(blocks) if b'$ retangle a\n' in block)
-    web, whole = (re.sub(b'^    ', b'', block, flags=re.M).strip(b'\n') + b'\n' for block in blocks[at - 1:at + 1])
-    conversation = whole.split(b'\n', 1)[1]
-    status = converse('docs/sessions.md', {'a.w': web}, ['a'], turns_of(conversation))
+    web, turns = conversation_of(top)
+    status = converse('docs/sessions.md', {'a.w': web}, ['a'], turns)
     check(status == 0, 'docs/sessions.md', 'status %d' % status)
 
 
@@ -126,12 +106,12 @@ def test_stored_conversations():
             with open(os.path.join(folder, name, 'in', file_name), 'rb') as file:
                 files[file_name] = file.read()
         for size in (1, 7, 1 << 20):
-            written, status, errors = run_script(Room(files), case['arguments'].decode().split(), case['stdin'], size)
+            written, status, errors = run_script(Project(files), case['arguments'].decode().split(), case['stdin'], size)
             check((written, status) == (case['stdout'], int(case['status'])), name, '%r, status %d' % (written, status))
             check(not errors, name, errors)
 
 
-# ------------------------------------------------------------------ scripts that try to break it
+# ------------------------------------------------------------------ malformed and very long scripts
 
 def answered(script, files=(), roles=ROLES):
     table = []
@@ -143,9 +123,9 @@ def answered(script, files=(), roles=ROLES):
 
 def check_script(name, script, expected, status=0, files=None, size=1 << 20):
     """What is written for a script over these files, the web of one piece if none are given."""
-    written, ended, _ = run_script(Room(files or {'a.w': WEB}), ['a'], script, size)
+    written, ended, _ = run_script(Project(files or {'a.w': WEB}), ['a'], script, size)
     check((written, ended) == (expected, status), name,
-          'to %r, in pieces of %d, the answer is %r, status %d'
+          'to %r, in chunks of %d, the answer is %r, status %d'
           % (script[-100:], size, written[-200:], ended))
 
 
@@ -205,22 +185,15 @@ def test_long_texts():
     for size in (1 << 20, 4096, 1000):
         script = b'replace 3 a.w\n' + b'x' * 60000000 + b'\nwork\nshow a.c\n'
         start = time.monotonic()
-        written, status, _ = run_script(Room({'a.w': WEB}), ['a'], script, size)
+        written, status, _ = run_script(Project({'a.w': WEB}), ['a'], script, size)
         check((written, status) == (b'no LineTooLong\nwork 1\n= a.c 36\n' + answered(b'show a.c\n')[0].split(b'\n', 1)[1], 0),
-              'text of 60,000,000 bytes', 'in pieces of %d: %r, status %d' % (size, written[:100], status))
+              'text of 60,000,000 bytes', 'in chunks of %d: %r, status %d' % (size, written[:100], status))
         check(time.monotonic() - start < 30, 'text of 60,000,000 bytes', 'it took too long')
     fits = b'replace 3 a.w\n' + b'x' * 65535 + b'\nreplace 3 a.w\n' + b'x' * 65535 + b'   \nreplace 3 a.w\n' + b'x' * 65536 + b'\n'
-    written, status, _ = run_script(Room({'a.w': WEB}), ['a'], fits)
+    written, status, _ = run_script(Project({'a.w': WEB}), ['a'], fits)
     check((written, status) == (b'ok\nok\nno LineTooLong\n', 0), 'texts at the limit', '%r' % written)
     check_script('texts at the limit, in a list', b'begin\n' + fits + b'commit\nwork\n',
                  b'ok\nheld\nheld\nheld\nno LineTooLong 3\nwork 1\n')
-
-
-def test_longest_script():
-    whole = b'work\n' + b'\n' * (SCRIPT_BYTES - 10) + b'work\n'
-    for more, status in ((b'', 0), (b'\n', 3), (b'work\n', 3)):
-        written, ended, _ = run_script(Room({'a.w': WEB}), ['a'], whole + more)
-        check((written, ended) == (b'work 1\nwork 1\n', status), 'longest script', '%r, status %d' % (written, ended))
 
 
 def test_longest_lists():
@@ -229,9 +202,9 @@ def test_longest_lists():
     def limited():
         resource.setrlimit(resource.RLIMIT_AS, (LIST_BYTES, LIST_BYTES))
     for held, refusal in ((b'create \n', b'BadName'), (b'insert 1 x\ny\n', b'UnknownFile')):
-        edits = (SCRIPT_BYTES - len(b'begin\ncommit\n')) // len(held)
+        edits = (FILE_BYTES - len(b'begin\ncommit\n')) // len(held)
         script = b'begin\n' + held * edits + b'commit\n'
-        written, status, _ = run_script(Room({'a.w': WEB}), ['a'], script, preexec_fn=limited)
+        written, status, _ = run_script(Project({'a.w': WEB}), ['a'], script, preexec_fn=limited)
         check((written, status) == (b'ok\n' + b'held\n' * edits + b'no %s 1\n' % refusal, 0),
               'longest list', '%r .. %r, status %d' % (written[:20], written[-40:], status))
 
@@ -239,7 +212,7 @@ def test_longest_lists():
 def test_many_edits():
     script = b''.join(b'replace 3 a.w\nint x%d;\n' % (n % 7) if n % 3 else b'insert 4 a.w\n%d\nremove 4 a.w\n' % n
                       for n in range(7500)) + b'show a.c\nwork\n'
-    written, status, _ = run_script(Room({'a.w': WEB}), ['a'], script)
+    written, status, _ = run_script(Project({'a.w': WEB}), ['a'], script)
     check(written.count(b'ok\n') == 10000 and status == 0, 'ten thousand edits', 'status %d' % status)
     check(written.endswith(answered(b'replace 3 a.w\nint x%d;\nshow a.c\n' % (7499 % 7))[0][3:] + b'work 1\n'), 'ten thousand edits',
           '%r' % written[-100:])
@@ -263,7 +236,7 @@ def test_change_file():
               b'begin\nreplace 2 a.ch\nint q;\nreplace 3 a.w\nint q;\nmarks none\ncommit\n'
               b'show a.c\nwork\nbegin\nremove 1 a.ch\ndiscard a.ch\ncommit\nshow a.c\n')
     roles = Roles(b'a.w', b'a.ch', b'a.c')
-    written, status, _ = run_script(Room(files), ['a', '--change', 'a'], script)
+    written, status, _ = run_script(Project(files), ['a', '--change', 'a'], script)
     check((written, status) == answered(script, [(b'a.ch', files['a.ch'])], roles), 'change file', '%r' % written)
 
 
@@ -287,7 +260,7 @@ def test_failing_reader():
         server = socket.create_server(('127.0.0.1', 0))
         here = socket.create_connection(server.getsockname())
         there, _ = server.accept()
-        running = Room({'a.w': WEB}).start(['a'], stdin=there, stdout=subprocess.PIPE)
+        running = Project({'a.w': WEB}).start(['a'], stdin=there, stdout=subprocess.PIPE)
         there.close()
         here.sendall(b'work\n' + rest)
         got, end = b'', time.monotonic() + PATIENCE
@@ -301,33 +274,14 @@ def test_failing_reader():
         check((got + running.stdout.read(), status) == (b'work 1\n' + more, 3), 'failing reader',
               '%r: status %d' % (rest, status))
     folder = os.open('/', os.O_RDONLY)
-    running = Room({'a.w': WEB}).start(['a'], stdin=folder, stdout=subprocess.PIPE)
+    running = Project({'a.w': WEB}).start(['a'], stdin=folder, stdout=subprocess.PIPE)
     os.close(folder)
     check((running.stdout.read(), running.wait(PATIENCE)) == (b'', 3), 'standard input is a folder', 'another end')
 
 
-def test_failing_writer():
-    """The writer fails at each byte of the answers: what was written is the front of them, and the status is 3."""
-    script = (b'work\nreplace 3 a.w\nint y;\nshow a.c\nshow b\nfaults\nmarks none\nbegin\n'
-              b'remove 9 a.w\nwork\ncommit\nbegin\nreplace 3 a.w\nint z;\ncommit\nshow a.c\nbegin\n'
-              b'cancel\nquit\n')
-    whole, _ = answered(script)
-    for room in range(len(whole)):
-        def limited():
-            signal.signal(signal.SIGXFSZ, signal.SIG_IGN)
-            resource.setrlimit(resource.RLIMIT_FSIZE, (room, room))
-        with tempfile.TemporaryFile() as answers:
-            running = Room({'a.w': WEB}).start(['a'], stdin=subprocess.PIPE, stdout=answers, preexec_fn=limited)
-            try:
-                send(running.stdin, script, len(script))
-            except BrokenPipeError:
-                pass
-            status = running.wait(PATIENCE)
-            answers.seek(0)
-            written = answers.read()
-        check((written, status) == (whole[:room], 3), 'failing writer', 'at byte %d: %r, status %d' % (room, written, status))
+def test_full_disk():
     full = open('/dev/full', 'wb')
-    running = Room({'a.w': WEB}).start(['a'], stdin=subprocess.PIPE, stdout=full)
+    running = Project({'a.w': WEB}).start(['a'], stdin=subprocess.PIPE, stdout=full)
     send(running.stdin, b'work\n', 5)
     check(running.wait(PATIENCE) == 3, 'full disk', 'another status')
 
@@ -339,7 +293,7 @@ def test_arguments():
                             (['a', '--nothing'], b'--nothing'), ([b'\xff'], b'<WEB>'),
                             (['--help'], b'Usage: retangle [OPTIONS] <WEB>'),
                             (['-V'], b'retangle 1.0')):
-        written, status, errors = run_script(Room({'a.w': WEB}), arguments, b'work\n')
+        written, status, errors = run_script(Project({'a.w': WEB}), arguments, b'work\n')
         check((written, status) == (b'', 2) and part in errors, 'arguments',
               '%r: %r, status %d' % (arguments, errors, status))
     too_long = 'x' * 254
@@ -348,22 +302,22 @@ def test_arguments():
                                    (['a'], {'a.w': b'x' * 65536}, b'a.w: LineTooLong'),
                                    (['a', '--out', too_long], {'a.w': WEB},
                                     b'%s.c: BadName' % too_long.encode())):
-        written, status, errors = run_script(Room(files), arguments, b'work\n')
+        written, status, errors = run_script(Project(files), arguments, b'work\n')
         check((written, status, errors) == (b'', 3, b'retangle: %s\n' % line), 'loading',
               '%r: %r, status %d' % (arguments, errors, status))
     _, text = answered(b'show a.c\n')[0].split(b'\n', 1)
     for arguments, name in ((['a', '--out', 'z'], b'z.c'), (['--out=d/z.h', 'a.w'], b'd/z.h'),
                             (['--change', '-', 'a'], b'a.c')):
-        written, status, _ = run_script(Room({'a.w': WEB}), arguments, b'show %s\n' % name)
+        written, status, _ = run_script(Project({'a.w': WEB}), arguments, b'show %s\n' % name)
         check((written, status) == (b'= %s 36\n' % name + text, 0), 'arguments',
               '%r: %r' % (arguments, written))
 
 
 def main():
     return run_all((test_document, test_stored_conversations, test_malformed, test_ends,
-                    test_change_file, test_arguments, test_failing_reader, test_failing_writer,
+                    test_change_file, test_arguments, test_failing_reader, test_full_disk,
                     test_many_edits, test_long_lists, test_most_lines, test_long_texts,
-                    test_longest_script, test_longest_lists))
+                    test_longest_lists))
 
 
 if __name__ == '__main__':

@@ -1,4 +1,4 @@
-# Conversations with the built retangle, and scripts that try to break it (tests/conversations.py).
+# Conversations with the built retangle, and malformed and very long scripts (tests/conversations.py).
 
 test_conversations() {
     retangle=${RETANGLE:-$top/bin/retangle}
@@ -6,6 +6,6 @@ test_conversations() {
         fail conversations "$retangle is not there: run make first"
         return
     fi
-    python3 -B "$top/tests/conversations.py" "$retangle" "$top" >"$room/log" 2>&1
-    count_last_line conversations "$room/log"
+    python3 -B "$top/tests/conversations.py" "$retangle" "$top" >"$temporary/log" 2>&1
+    count_last_line conversations "$temporary/log"
 }

@@ -1,13 +1,14 @@
 """Counts the allocations of starts and of edits. An expansion takes allocations, so one that is made
-in vain shows here: twice, or in a second work.
+needlessly is seen here: twice, or in a second work.
 
 usage: counted.py RETANGLE REFUSE      REFUSE is tests/refuse.c as a library
 
 A conversation is counted with and without its last edit: the difference is what this edit took.
 Files are read and scanned anew for each edit and at a start, with allocations for each name; what
-names resolve to is kept by an edit that leaves them written as they were, and so are the texts of
+names resolve to is kept by an edit that leaves them written as they were, and so are the bodies of
 nodes whose pieces it leaves. These allocations are the same in both of what is compared here. What
-is left is the expansions, the texts of the nodes that changed, and some lists, whose room doubles.
+is left is the expansions, the bodies of the nodes that changed, and some lists, whose capacity
+doubles.
 The last line is 'N passed, M failed'.
 """
 import os
@@ -21,14 +22,14 @@ retangle, refuse = (os.path.abspath(path) for path in sys.argv[1:3])
 SECONDS = 60
 SIZES = (10, 1000, 10000)
 
-# What an edit takes for a node that it changed, and that uses none: the expansion; and for its text
+# What an edit takes for a node that it changed, and that uses none: the expansion; and for its body
 # the name, the bytes, the plan, what determines the shape, and what holds these. For the first one it
-# takes the list of the affected nodes, that of the work, and two buffers for planning besides.
+# takes besides the list of the affected nodes, that of the work, and two buffers for planning.
 ANOTHER = 6
 ONE_NODE = ANOTHER + 4
-# Allocations of lists that have a place for each node: each of them doubles the room of one list.
+# Allocations of lists with an entry for each node: each of them doubles the capacity of one list.
 DOUBLINGS = 60
-CIRCULAR = '@<z@>'
+CYCLE = '@<z@>'
 
 def allocations(web, script, answers):
     """How many allocations a conversation takes."""
@@ -59,7 +60,7 @@ class Project:
         self.web = '\n'.join(lines) + '\n'
         self.line_of_last = len(lines) - 4
         self.lines_of_files = len(lines) - 2, len(lines)
-        work = 2 if last == CIRCULAR else count + 4
+        work = 2 if last == CYCLE else count + 4
         self.start = allocations(self.web, 'work\n', 'work %d\n' % work)
 
 
@@ -99,21 +100,21 @@ def check_one(name, project, before):
 
 def check_size(count):
     name = '%d names' % count
-    project, circular = Project(count, '1'), Project(count, CIRCULAR)
+    project, cyclic = Project(count, '1'), Project(count, CYCLE)
     nothing = check_one(name, project, [])
     check_one(name + ', after an edit', project, [(project.line_of_last, '3')])
 
     # An edit that affects nothing expands nothing, though all could be expanded.
-    in_circle = taken(circular, [], [(circular.lines_of_files[0], '1')], 0)
-    check(abs(nothing - in_circle) <= DOUBLINGS, name,
+    in_cycle = taken(cyclic, [], [(cyclic.lines_of_files[0], '1')], 0)
+    check(abs(nothing - in_cycle) <= DOUBLINGS, name,
           'an edit that affects nothing: %d allocations, and %d where nothing can be expanded'
-          % (nothing, in_circle))
+          % (nothing, in_cycle))
 
     # The expansion of the last name takes one allocation, and that of each name that uses it two,
-    # since it has a list of its uses. The program's list doubles its room. So do lists of names that
-    # may have a fault, which are longer where nothing can be expanded.
+    # since it has a list of its uses. The program's list doubles its capacity. So do lists of names
+    # that may have a fault, which are longer where nothing can be expanded.
     least = 2 * count + 1
-    start = project.start - circular.start
+    start = project.start - cyclic.start
     check(abs(start - least) <= DOUBLINGS, name,
           'expansions at the start: %d allocations, about %d' % (start, least))
     everything = taken(project, [], [(project.line_of_last, '2')], count + 2) - nothing

@@ -5,14 +5,16 @@ usage: documents.py [FOLDER]      the folder of the repository
 - docs/definitions.md: each definition is in the file beside it, each file of code is there, and
   each promise is a function of the file beside it, with that clause; each file of specs/ is in the
   map, and each page of docs/ that names it has a part there.
-- docs/DECISIONS.md: each crate re-exports what the table of the surface says.
-- docs/promises.md: each public call of a crate that has a table there is in it.
-- docs/sessions.md, where it is: the reference answers its conversation so; each line of a script is
-  in its table and in docs/retangle.1. README.md names each page of docs/.
+- docs/words.md: each name of the code is in the crate beside it. No word that these replaced is in the sources, the
+  definitions, the proofs or the documents.
+- docs/DECISIONS.md: each crate exports what the table of the surface says, and besides only laws.
+- docs/promises.md: each public call of a crate that has a table there is in it, and each clause is one of the calls.
+- docs/sessions.md: the reference gives the answers of its conversation; each line of a script is in
+  its table and in docs/retangle.1. README.md names each page of docs/.
 - crates/*/must-fail and tests/wrong-bodies: each public function that is no law has an edit of its own, or of a private
   function that it calls, unless docs/wrong-bodies.md has it in a row '| `CRATE` | without an edit: `TYPE::NAME`, `NAME` |
   why |'. Each text that an edit replaces is once in its file.
-- The crates from the expansions upwards: works are begun, nodes expanded and texts written where
+- The crates from the expansions upwards: works are begun, nodes expanded and expansions written where
   CALLS and MADE say, and nowhere else; bugs that are planted in a copy of the code are seen.
 The last line is 'N passed, M failed'.
 """
@@ -21,7 +23,7 @@ import re
 import sys
 
 sys.path.insert(0, os.path.join(os.path.dirname(os.path.abspath(__file__)), 'reference'))
-from checks import check, finish
+from checks import check, conversation_of, finish
 from files import Roles, add
 from scripts import Script
 from sessions import Session
@@ -29,14 +31,20 @@ from sessions import Session
 DEFINITION = r'^ *(?:(?:abbrev|unfoldable) )?pub (?:record |data )?%s(?: |$)'
 FUNCTION = re.compile(r'^\s*(pub |pub\(crate\) )?(?:const )?fn (\w+)', re.M)
 CODED = re.compile(r'`([^`]+)`')
+TAKES_NOTHING = re.compile(r'fn \w+(?:<[^(]*>)?\(\)(?!\s*->)')     # a law has no arguments and no result
 
-# The crates in which nodes are expanded and texts written.
+# Words that those of docs/words.md replaced.
+REPLACED = re.compile(
+    r'\b(?:told|tells?|wanted|wants|talk|put\s+out|hands\s+on|handed\s+on|handed\s+over|Ground|Tangled|byte_count|Spot|'
+    r'RoleNames|ItemCode|NodeText|Placed|is_extended|name_after_mark|PutsOut|Telling|behind(?!\s+an\s+`Rc`))\b')
+
+# The crates in which nodes are expanded and expansions written.
 EXPANDING = ('tangle_plans', 'tangle_expansion', 'tangle_graph', 'tangle_affected', 'tangle_session', 'ctangle_cli',
              'ctangle', 'retangle')
 
 # Which function calls what, once in its text. A session begins one work in a start, one in an edit
 # and one in a list of edits; each expansion is made in `expand`, which notes its node in the work.
-# So last_work() counts all that was expanded. Texts are written into the writer as they are made.
+# So last_work() counts all that was expanded. Outputs are written into the writer as they are made.
 CALLS = {
     'Work::new': ['tangle_session/session.rt: ' + caller for caller in ('start', 'apply', 'apply_all')],
     'expand_all': ['tangle_session/session.rt: start'],
@@ -47,15 +55,13 @@ CALLS = {
     'expand_next': ['tangle_affected/keeping.rt: expand_list'],
     'expand_one': ['tangle_affected/keeping.rt: expand_next'],
     'expand': ['tangle_graph/store.rt: expand_one'],
-    # files.rt has a function of this name of its own, which reads what is kept
-    'expansion_of': ['tangle_expansion/expanding.rt: expand', 'tangle_expansion/files.rt: write_file'],
+    'expansion_of': ['tangle_expansion/expanding.rt: expand'],
     'plan_node': ['tangle_graph/bodies.rt: body_of_node'],
-    'put_text': ['tangle_expansion/writing.rt: put_text', 'tangle_expansion/writing.rt: write_text',
-                 'tangle_expansion/files.rt: write_file'],
+    'write_text_after': ['tangle_expansion/writing.rt: write_text_after', 'tangle_expansion/writing.rt: write_text',
+                         'tangle_expansion/files.rt: write_file'],
     'write_text': [],
-    # so has ctangle_cli, which creates the file and asks the session for its bytes
-    'write_file': ['tangle_expansion/files.rt: file_size', 'tangle_session/session.rt: write_output_at',
-                   'ctangle_cli/writing.rt: write_outputs'],
+    'write_file': ['tangle_expansion/files.rt: file_size', 'tangle_session/session.rt: write_output_at'],
+    'create_output': ['ctangle_cli/writing.rt: create_outputs'],
 }
 
 # Where a value is made by its fields. A second work or expansion is made in no other way: neither
@@ -66,10 +72,10 @@ MADE = {
     'Expansion': ['tangle_expansion/expanding.rt: expansion_of', 'tangle_expansion/expansion.rt: share'],
 }
 
-# The callers that have a loop, and what they do in it: each node of a list is expanded, what a text
-# uses is written where it is used, and the outputs are written one by one.
+# The callers that have a loop, and what they do in it: each node of a list is expanded, what an
+# expansion uses is written where it is used, and the outputs are written one by one.
 LOOPS = ['tangle_affected/keeping.rt: expand_list', 'tangle_expansion/expanding.rt: expansion_of',
-         'tangle_expansion/writing.rt: put_text', 'ctangle_cli/writing.rt: write_outputs']
+         'tangle_expansion/writing.rt: write_text_after', 'ctangle_cli/writing.rt: create_outputs']
 
 # Bugs that no clause sees, in a file of a crate: what is replaced, and by what.
 PLANTED = {
@@ -171,12 +177,12 @@ class Map:
             with open(os.path.join(self.top, 'docs', page), encoding='utf-8') as source:
                 leads = '`%s` leads from each rule' % self.name in source.read()
             check(not leads or '`docs/%s`' % page in heads, self.name, 'nothing of docs/%s' % page)
-        behind = dict(re.findall(r'^- \*\*`(\w+)`\*\*: (.*(?:\n  .*)*)$', self.text, re.M))
+        after = dict(re.findall(r'^- \*\*`(\w+)`\*\*: (.*(?:\n  .*)*)$', self.text, re.M))
         for crate, here in self.crates.items():
             for file in here.specs:
-                where = '`%s/specs/%s`' % (crate, file) in self.text or '`%s`' % file in behind.get(crate, '')
+                where = '`%s/specs/%s`' % (crate, file) in self.text or '`%s`' % file in after.get(crate, '')
                 check(where or file == 'Lib.antt', self.name, '%s of %s is not in it' % (file, crate))
-        for crate, files in behind.items():
+        for crate, files in after.items():
             for file in re.findall(r'`(\w+\.antt)`', files):
                 check(crate in self.crates and file in self.crates[crate].specs, self.name,
                       'no file %s of %s' % (file, crate))
@@ -185,20 +191,12 @@ class Map:
 # ------------------------------------------------------------------ the conversation
 
 def check_conversation(top):
-    """What is behind '$ retangle a': lines that begin with > are typed, over the file shown before."""
-    path = os.path.join(top, 'docs', 'sessions.md')
-    if not os.path.exists(path):
-        return
-    with open(path, encoding='utf-8') as source:
-        blocks = re.findall(r'(?:^(?:    .*)?\n)*^    .*\n', source.read(), re.M)
-    at = next(number for number, block in enumerate(blocks) if '$ retangle a\n' in block)
-    web, whole = (re.sub('^    ', '', block, flags=re.M).strip('\n') + '\n' for block in blocks[at - 1:at + 1])
-    lines = whole.splitlines(True)[1:]
-    typed = ''.join(line[2:] for line in lines if line.startswith('> '))
-    answered = ''.join(line for line in lines if not line.startswith('> '))
-    session = Session(add([], b'a.w', web.encode()), Roles(b'a.w', None, b'a.c'))
-    done = Script(session, typed.encode())
-    check(done.written == answered.encode(), 'docs/sessions.md', 'another conversation')
+    """The reference gives the answers of the conversation in docs/sessions.md."""
+    web, turns = conversation_of(top)
+    typed, answered = (b''.join(parts) for parts in zip(*turns))
+    session = Session(add([], b'a.w', web), Roles(b'a.w', None, b'a.c'))
+    done = Script(session, typed)
+    check(done.written == answered, 'docs/sessions.md', 'another conversation')
 
 
 def check_commands(crates, top):
@@ -215,6 +213,37 @@ def check_commands(crates, top):
     for command in sorted(commands):
         check(command in rows, 'docs/sessions.md', '%s is in no table' % command)
         check(command in entries, 'docs/retangle.1', '%s has no entry' % command)
+
+
+# ------------------------------------------------------------------ words
+
+def check_words(top, crates):
+    """The rows of docs/words.md: WORD | MEANING | its crate | NAME, .. | CWEB's word. A name may be TYPE::NAME."""
+    with open(os.path.join(top, 'docs', 'words.md'), encoding='utf-8') as source:
+        rows = [line.strip('|').split(' | ') for line in re.findall(r'^\|.*\|$', source.read(), re.M)[2:]]
+    check(rows, 'docs/words.md', 'no row')
+    for row in rows:
+        names = CODED.findall(row[3]) if len(row) == 5 else []
+        crate = crates.get(row[2].strip(' `')) if names else None
+        check(crate, 'docs/words.md', 'no row: %s' % ' | '.join(row))
+        for name in names if crate else []:
+            texts = '\n'.join([crate.whole, *crate.specs.values()])
+            found = all(re.search(r'\b%s\b' % word, texts) for word in name.split('::'))
+            check(found, 'docs/words.md', '%s is not in %s' % (name, row[2].strip(' `')))
+
+
+def check_replaced_words(top):
+    """None of REPLACED is in the sources, the definitions, the proofs or the documents."""
+    folders = [os.path.join('crates', crate, part) for crate in sorted(os.listdir(os.path.join(top, 'crates')))
+               for part in ('src', 'specs', 'proofs')]
+    paths = ['README.md'] + [os.path.relpath(os.path.join(folder, file), top)
+                             for part in folders + ['docs']
+                             for folder, _, files in os.walk(os.path.join(top, part)) for file in sorted(files)]
+    for path in paths:
+        with open(os.path.join(top, path), encoding='utf-8') as source:
+            text = source.read()
+        found = ['line %d: %s' % (text.count('\n', 0, word.start()) + 1, word.group()) for word in REPLACED.finditer(text)]
+        check(not found, path, ', '.join(found))
 
 
 def check_readme(top):
@@ -242,15 +271,22 @@ def functions_of(here):
     return [(file,) + one for file, text in here.code.items() for one in functions_in(text)]
 
 
+def exported_of(here):
+    """The names that the crate exports."""
+    root = here.code['lib.rt']
+    exported = set(re.findall(r'\w+', ' '.join(re.findall(r'^pub use (?:\w+::)*([^;]*);', root, re.M))))
+    return exported | set(re.findall(r'^pub (?:struct|enum|trait|fn) (\w+)', root, re.M))
+
+
 def surface_of(here, functions):
     """The public functions that the crate passes on, and the methods of the types that it passes on."""
-    exported = set(re.findall(r'\w+', ' '.join(re.findall(r'^pub use ([^;]*);', here.code['lib.rt'], re.M))))
-    exported |= set(re.findall(r'^pub (?:struct|enum|trait|fn) (\w+)', here.code['lib.rt'], re.M))
+    exported = exported_of(here)
     return [one for one in functions if one[4] and (one[2] or one[3]) in exported]
 
 
 def check_surface(crates, top):
-    """Each name in the table of docs/DECISIONS.md, CRATE | of its own | re-exported, is re-exported by the crate."""
+    """The names in the table of docs/DECISIONS.md, CRATE | of its own | re-exported, are what the crate exports, but for
+    laws."""
     name = 'docs/DECISIONS.md'
     with open(os.path.join(top, name), encoding='utf-8') as source:
         table = re.search(r'^\| Crate \| Of its own \| Re-exported \|\n.*\n((?:\|.*\n)*)', source.read(), re.M)
@@ -258,11 +294,14 @@ def check_surface(crates, top):
     for row in table.group(1).splitlines() if table else []:
         crate, *words = CODED.findall(row)
         check(crate in crates and words, name, 'no row: %s' % row)
-        root = crates[crate].code['lib.rt'] if crate in crates else ''
-        exported = set(re.findall(r'\w+', ' '.join(re.findall(r'^pub use ([^;]*);', root, re.M))))
-        exported |= set(re.findall(r'^pub (?:struct|enum|trait|fn) (\w+)', root, re.M))
+        if crate not in crates:
+            continue
+        exported = exported_of(crates[crate])
         for word in words:
-            check(word in exported, name, '%s does not re-export %s' % (crate, word))
+            check(word in exported, name, '%s does not export %s' % (crate, word))
+        laws = {one[3] for one in functions_of(crates[crate]) if TAKES_NOTHING.search(one[5])}
+        missing = sorted(exported - laws - set(words))
+        check(not missing, name, '%s exports %s' % (crate, ', '.join(missing)))
 
 
 def check_promises(crate, here, part):
@@ -270,6 +309,19 @@ def check_promises(crate, here, part):
     reported = {word.split('::')[-1] for word in CODED.findall(part)}
     missing = sorted({one[3] for one in surface_of(here, functions_of(here))} - reported)
     check(not missing, 'docs/promises.md', '%s of %s' % (', '.join(missing), crate))
+
+
+def check_clauses(crates, functions, part):
+    """Each name in the last cell of a row CALL, .. | what is proved | clauses is a clause of the calls, a definition, a
+    call or a crate."""
+    definitions = '\n'.join(text for here in crates.values() for text in here.specs.values())
+    for first, last in re.findall(r'^\| (.*?) \| .* \| (.*) \|$', part, re.M):
+        calls = {word.split('::')[-1] for word in CODED.findall(first)}
+        texts = '\n'.join(text for name, text in functions if name in calls)
+        for word in CODED.findall(last):
+            found = re.search(r'ensures %s\b' % re.escape(word), texts) or '::' in word or word in calls or word in crates
+            check(found or re.search(DEFINITION % re.escape(word), definitions, re.M), 'docs/promises.md',
+                  'no clause %s of %s' % (word, first))
 
 
 def check_edits(crate, here, excused):
@@ -356,9 +408,9 @@ def check_calls(crates):
     for problem in problems_of_calls(sources) or ['']:
         check(not problem, 'what expands and writes', problem)
     for bug, (crate, file, old, new) in PLANTED.items():
-        place = '%s/%s' % (crate, file)
-        check(sources[place].count(old) == 1, 'a planted bug', 'where %s is planted' % bug)
-        planted = {**sources, place: sources[place].replace(old, new)}
+        path = '%s/%s' % (crate, file)
+        check(sources[path].count(old) == 1, 'a planted bug', 'where %s is planted' % bug)
+        planted = {**sources, path: sources[path].replace(old, new)}
         check(problems_of_calls(planted), 'a planted bug', '%s, and it is not seen' % bug)
 
 
@@ -380,7 +432,7 @@ def edited_functions(here, edit):
 
 
 def identity(one):
-    """A function by its file, type, name and whether it is public; places move while an edit is made."""
+    """A function by its file, type, name and whether it is public; positions change while an edit is made."""
     return one[0], one[2:5]
 
 
@@ -403,13 +455,17 @@ def main():
     Map(top, crates).check()
     check_conversation(top)
     check_commands(crates, top)
+    check_words(top, crates)
+    check_replaced_words(top)
     check_readme(top)
     check_surface(crates, top)
     with open(os.path.join(top, 'docs', 'promises.md'), encoding='utf-8') as source:
         parts = re.split(r'^## `(\w+)`.*$', source.read(), flags=re.M)
+    functions = [(one[3], one[5]) for here in crates.values() for one in functions_of(here)]
     for crate, part in zip(parts[1::2], parts[2::2]):
         if crate in crates and '| Call |' in part:
             check_promises(crate, crates[crate], part)
+            check_clauses(crates, functions, part)
     with open(os.path.join(top, 'docs', 'wrong-bodies.md'), encoding='utf-8') as source:
         rows = re.findall(r'^\| `(\w+)` \| without an edit: ([^|]*)', source.read(), re.M)
     for crate, here in crates.items():

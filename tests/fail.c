@@ -1,4 +1,4 @@
-// Lets streams and files of a program fail: preloaded, it is in front of read and write of the C
+// Makes streams and files of a program fail: preloaded, it comes before read and write of the C
 // library.
 //
 // FAIL_INPUT=N    standard input gives N bytes and then fails
@@ -6,7 +6,7 @@
 // FAIL_ERRORS=N   standard error takes N bytes and then fails
 // FAIL_READ=N     files give N bytes, all together, and then fail
 // FAIL_WRITE=N    files take N bytes, all together, and then fail
-// PIECES=N        no call gives or takes more than N bytes
+// CHUNK=N         no call gives or takes more than N bytes
 #define _GNU_SOURCE
 #include <errno.h>
 #include <stdlib.h>
@@ -15,7 +15,7 @@
 
 // How many bytes are left of input, output, errors, files read and files written; below 0 no end.
 static long left[] = {-1, -1, -1, -1, -1};
-static long pieces = -1;
+static long chunk = -1;
 
 static long number(const char *name) {
     const char *text = getenv(name);
@@ -27,7 +27,7 @@ __attribute__((constructor)) static void start(void) {
                                         "FAIL_WRITE"};
     for (int at = 0; at < 5; at++)
         left[at] = number(names[at]);
-    pieces = number("PIECES");
+    chunk = number("CHUNK");
 }
 
 static ssize_t do_some(long call, int file, void *bytes, size_t size, long *left) {
@@ -37,8 +37,8 @@ static ssize_t do_some(long call, int file, void *bytes, size_t size, long *left
     }
     if (*left > 0 && size > (size_t)*left)
         size = *left;
-    if (pieces > 0 && size > (size_t)pieces)
-        size = pieces;
+    if (chunk > 0 && size > (size_t)chunk)
+        size = chunk;
     ssize_t done = syscall(call, file, bytes, size);
     if (*left > 0 && done > 0)
         *left -= done;

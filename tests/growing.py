@@ -1,5 +1,5 @@
-"""What runs over a web of 40,000 names take beside runs over one of 10,000: four times as much, and
-not sixteen times.
+"""What runs over a web of 40,000 names take, compared with runs over one of 10,000: four times as
+much, and not sixteen times.
 
 usage: growing.py CTANGLE RETANGLE MEASURE REFUSE TOP
 
@@ -37,7 +37,7 @@ def chain(count, last='1'):
     return lines + ['@ @<n%05d@>=' % (count - 1), last]
 
 
-def circle(count):
+def cycle(count):
     return chain(count, '@<n00000@>')
 
 
@@ -91,7 +91,7 @@ def compare(name, few, many):
 
 def main():
     counter = find_counter()
-    for web, program, script in ((star, ctangle, ''), (circle, ctangle, ''), (files, ctangle, ''),
+    for web, program, script in ((star, ctangle, ''), (cycle, ctangle, ''), (files, ctangle, ''),
                                  (chain, retangle, SCRIPT)):
         few, many = (Taken(web(count), [program, 'a'], script, counter) for count in (FEW, MANY))
         compare('a %s of names' % web.__name__ if web != files else 'named files', few, many)

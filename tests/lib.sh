@@ -1,8 +1,8 @@
 # What the shell tests share: running a case, and counting.
 #
-# A case is a folder: in/ (the folder in which the program runs), arguments (one a
-# line), expected/ (the files that the run creates, and no other), stderr, status. A missing in/ or
-# expected/ is an empty one.
+# A case is a folder: in/ (the folder in which the program runs), arguments (one a line), expected/
+# (the files that the run creates, and no other), stderr, status. A missing in/ or expected/ is an
+# empty one.
 
 passed=0
 failed=0
@@ -21,12 +21,12 @@ skip() { # NAME REASON
 }
 
 # Starts a case that a test makes, in $case: it needs status 0, no file and nothing on standard error.
-begin_case() { # WORDS..
-    case=$room/case
+begin_case() { # ARGUMENT..
+    case=$temporary/case
     rm -rf "$case"
     mkdir "$case" "$case/in" "$case/expected"
-    for word; do
-        printf '%s\n' "$word"
+    for argument; do
+        printf '%s\n' "$argument"
     done >"$case/arguments"
     : >"$case/stderr"
     echo 0 >"$case/status"
@@ -46,39 +46,42 @@ plainly() {
 }
 
 # Runs the program on $1 by the runner $2, a function that is passed the program and its arguments.
-# Leaves the folder in $room/run, what it should hold in $room/expected, the streams and $status.
+# Leaves the folder in $temporary/run, what it has to have in $temporary/expected, the streams and
+# $status.
 run_program() { # CASE RUNNER
-    rm -rf "$room/run" "$room/expected"
-    mkdir "$room/run" "$room/expected"
-    chmod 777 "$room/run"
+    rm -rf "$temporary/run" "$temporary/expected"
+    mkdir "$temporary/run" "$temporary/expected"
+    chmod 777 "$temporary/run"
     if [ -d "$1/in" ]; then
-        cp -R "$1/in/." "$room/run"
-        cp -R "$1/in/." "$room/expected"
+        cp -R "$1/in/." "$temporary/run"
+        cp -R "$1/in/." "$temporary/expected"
     fi
-    [ ! -d "$1/expected" ] || cp -R "$1/expected/." "$room/expected"
+    [ ! -d "$1/expected" ] || cp -R "$1/expected/." "$temporary/expected"
     _case=$1 _runner=$2
     set --
-    while IFS= read -r word; do
-        set -- "$@" "$word"
+    while IFS= read -r argument; do
+        set -- "$@" "$argument"
     done <"$_case/arguments"
     status=0
-    (cd "$room/run" && "$_runner" "$room/ctangle" "$@") >"$room/stdout" 2>"$room/stderr" || status=$?
+    (cd "$temporary/run" && "$_runner" "$temporary/ctangle" "$@") \
+        >"$temporary/stdout" 2>"$temporary/stderr" || status=$?
 }
 
 # Whether the last run ended as $1 says: its status, its streams, and the files that are there.
 ended_so() { # CASE
     problem=
     [ "$status" = "$(cat "$1/status")" ] || problem="status $status, not $(cat "$1/status")"
-    [ ! -s "$room/stdout" ] || problem="something on standard output"
-    cmp -s "$room/stderr" "$1/stderr" || problem="${problem:+$problem; }another standard error"
-    diff -r "$room/expected" "$room/run" >"$room/difference" 2>&1 || problem="${problem:+$problem; }other files"
+    [ ! -s "$temporary/stdout" ] || problem="something on standard output"
+    cmp -s "$temporary/stderr" "$1/stderr" || problem="${problem:+$problem; }another standard error"
+    diff -r "$temporary/expected" "$temporary/run" >"$temporary/difference" 2>&1 \
+        || problem="${problem:+$problem; }other files"
     [ -z "$problem" ]
 }
 
 report() { # NAME
     fail "$1" "$problem"
-    sed 's/^/    /' "$room/difference" | head -n 20
-    sed 's/^/    standard error: /' "$room/stderr" | head -n 10
+    sed 's/^/    /' "$temporary/difference" | head -n 20
+    sed 's/^/    standard error: /' "$temporary/stderr" | head -n 10
 }
 
 run_case() { # NAME CASE [RUNNER]

@@ -71,9 +71,9 @@ longest_file() { # FILE END
     {
         repeated 65535 x
         printf '\n'
-    } >"$room/line"
-    for _number in $(seq 64); do cat "$room/line"; done >"$room/lines"
-    for _number in $(seq 16); do cat "$room/lines"; done >"$1"
+    } >"$temporary/line"
+    for _number in $(seq 64); do cat "$temporary/line"; done >"$temporary/lines"
+    for _number in $(seq 16); do cat "$temporary/lines"; done >"$1"
     truncate -s "-$(printf "$2" | wc -c)" "$1"
     printf "$2" >>"$1"
 }
@@ -168,12 +168,12 @@ test_file_count() {
 }
 
 measured() {
-    "$room/measure" "$room/used" "$@"
+    "$temporary/measure" "$temporary/used" "$@"
 }
 
 run_timed_case() { # NAME MICROSECONDS
     run_case "$1" "$case" measured
-    microseconds=$(cut -d ' ' -f 1 "$room/used")
+    microseconds=$(cut -d ' ' -f 1 "$temporary/used")
     if [ "$microseconds" -lt "$2" ]; then
         pass
     else
@@ -195,9 +195,9 @@ test_lines_taken() {
 ' >"$case/in/b.w"
     must_end 1 'b.w:999999: error: too many lines' 'warning: no program text'
     : >"$case/expected/a.c"
-    cc -O2 -o "$room/measure" "$top/tests/measure.c"
+    cc -O2 -o "$temporary/measure" "$top/tests/measure.c"
     run_case 'more than 2,000,000 lines taken' "$case" measured
-    kilobytes=$(cut -d ' ' -f 2 "$room/used")
+    kilobytes=$(cut -d ' ' -f 2 "$temporary/used")
     if [ "$kilobytes" -lt 250000 ]; then
         pass
     else
@@ -216,13 +216,9 @@ test_long_name() {
     run_case 'name of 60,000 bytes' "$case"
 }
 
-# The program uses k0001, k0001 uses k0002, and so on: a name in each section but the first, two lines each.
+# A name in each section but the first, two lines each.
 chain_of_names() { # COUNT
-    awk -v count="$1" 'BEGIN {
-        printf "@ P.\n@c\n@<k0001@>\n"
-        for (n = 1; n < count; n++) printf "@ @<k%04d@>=\n@<k%04d@>\n", n, n + 1
-        printf "@ @<k%04d@>=\n1\n", count
-    }' >"$case/in/a.w"
+    python3 -B "$top/tests/chain.py" "$1" >"$case/in/a.w"
 }
 
 test_depth() {
@@ -242,8 +238,8 @@ test_depth() {
     run_case 'chain of 1,000 names below the program' "$case"
 }
 
-# A file that uses a part of weight 65,790 so often, and a word of so many bytes, weighs 5 + 255 * (2 + 65,790) and
-# the word. Each use is a space, the part and a line mark.
+# A file that uses a name of weight 65,790 so often, and a word of so many bytes, weighs 5 + 255 * (2 + 65,790) and
+# the word. Each use is a space, the C of the name and a line mark.
 heavy_file() { # BYTES
     {
         printf '@ P.\n@(s.h@>=\n'
@@ -268,8 +264,8 @@ test_weight() {
             printf ' /*2:*/\n#line 4 "a.w"\n\n'
             sed -n 5,6p "$case/in/a.w"
             printf '/*:2*/\n#line 3 "a.w"\n'
-        } >"$room/used"
-        for number in $(seq 255); do cat "$room/used"; done
+        } >"$temporary/used"
+        for number in $(seq 255); do cat "$temporary/used"; done
         repeated 251 x
         printf '\n/*:1*/\n'
     } >"$case/expected/s.h"
@@ -289,7 +285,7 @@ many_sections() { # COUNT
     }' >"$case/expected/a.c"
 }
 
-# More than a small number can count: sections, and names that are used in front of their definitions.
+# More than 16 bits can count: sections, and names that are used before their definitions.
 test_many() {
     begin_case a
     many_sections 70000
@@ -317,18 +313,12 @@ test_many() {
         repeated 300 "$(repeated 65000 x)
 "
     } >"$case/in/a.w"
-    {
-        printf '/*1:*/\n#line 2 "a.w"\n\n'
-        sed 1,2d "$case/in/a.w"
-        printf '/*:1*/\n'
-    } >"$case/expected/a.c"
     must_end 1 'error: too large: the unnamed program'
-    rm "$case/expected/a.c"
     run_case '19,500,000 bytes of C in one part' "$case"
 }
 
-# Between these two words is nothing but what joins take away.
-needs_joined_words() {
+# Between these two words is nothing but what joins remove.
+expect_joined_words() {
     printf '/*1:*/\n#line 2 "a.w"\n\nxy\n/*:1*/\n' >"$case/expected/a.c"
 }
 
@@ -341,7 +331,7 @@ test_rare_tokens() {
 "
         printf 'y\n'
     } >"$case/in/a.w"
-    needs_joined_words
+    expect_joined_words
     run_timed_case 'part of 1,000,000 joins' 1000000
 
     begin_case a
@@ -365,7 +355,7 @@ test_rare_tokens() {
 '
         printf 'y\n'
     } >"$case/in/a.w"
-    needs_joined_words
+    expect_joined_words
     run_timed_case 'join before 60,000 line ends' 1000000
 
     begin_case a
@@ -375,28 +365,28 @@ test_rare_tokens() {
 '
         printf 'y\n'
     } >"$case/in/a.w"
-    needs_joined_words
+    expect_joined_words
     run_timed_case 'joins and line ends in turn' 1000000
 }
 
-# Webs whose names use each other in ways that a careless tangler takes forever for, or a stack without end.
+# Webs whose names use each other in ways that would take quadratic time, or overflow the stack of a recursive program.
 test_graphs() {
-    python3 -B "$top/tests/hostile.py" >"$room/graphs"
+    python3 -B "$top/tests/hostile.py" >"$temporary/graphs"
     while IFS= read -r graph; do
         begin_case a
         python3 -B "$top/tests/hostile.py" "$graph" "$case"
         run_timed_case "$graph" 5000000
-    done <"$room/graphs"
+    done <"$temporary/graphs"
 }
 
 # A web of 40,000 names beside one of 10,000: memory and instructions.
 test_growing() {
     if [ ! -x "${RETANGLE:-$top/bin/retangle}" ] \
-        || ! cc -O2 -shared -fPIC -o "$room/refuse.so" "$top/tests/refuse.c"; then
+        || ! cc -O2 -shared -fPIC -o "$temporary/refuse.so" "$top/tests/refuse.c"; then
         fail '40,000 names' 'retangle is not there, or tests/refuse.c does not compile'
         return
     fi
-    python3 -B "$top/tests/growing.py" "$room/ctangle" "${RETANGLE:-$top/bin/retangle}" \
-        "$room/measure" "$room/refuse.so" "$top" >"$room/log" 2>&1
-    count_last_line '40,000 names' "$room/log"
+    python3 -B "$top/tests/growing.py" "$temporary/ctangle" "${RETANGLE:-$top/bin/retangle}" \
+        "$temporary/measure" "$temporary/refuse.so" "$top" >"$temporary/log" 2>&1
+    count_last_line '40,000 names' "$temporary/log"
 }

@@ -1,4 +1,4 @@
-# Runs in which the machine refuses something: a stream, a permission, room on the disk.
+# Runs in which the machine refuses something: a stream, a permission, space on the disk.
 
 one_piece="$top/tests/cases/reading/one-web-makes-one-c-file"
 two_outputs="$top/tests/cases/output/name-over-two-sections-and-a-named-file"
@@ -73,7 +73,7 @@ test_permissions() {
     run_case 'output folder without permission' "$case" locked_away
 }
 
-# A folder is where the named file is to be written, behind the main file. Of three files the last is not tried.
+# A folder is where the named file is to be written, after the main file. Of three files the last is not tried.
 test_second_output() {
     begin_case a
     cp -R "$two_outputs/in/." "$case/in"
@@ -122,16 +122,16 @@ test_full_disk() {
     } >"$case/in/a.w"
     must_end 3 'ctangle: cannot write a.c'
     run_program "$case" onto_one_block
-    sed -n '3,$p' "$case/in/a.w" >"$room/lines"
+    sed -n '3,$p' "$case/in/a.w" >"$temporary/lines"
     {
         printf '/*1:*/\n#line 2 "a.w"\n\n'
-        cat "$room/lines"
+        cat "$temporary/lines"
         printf '/*:1*/\n'
-    } >"$room/whole"
-    cp "$room/run/a.c" "$room/expected" 2>/dev/null
+    } >"$temporary/whole"
+    cp "$temporary/run/a.c" "$temporary/expected" 2>/dev/null
     if ! ended_so "$case"; then
         report 'disk fills while writing'
-    elif ! is_prefix "$room/run/a.c" "$room/whole"; then
+    elif ! is_prefix "$temporary/run/a.c" "$temporary/whole"; then
         fail 'disk fills while writing' 'a.c is no prefix of the output'
     else
         pass

@@ -1,7 +1,7 @@
 // Runs a program, ends with its status, and writes what the run took into a file: microseconds of the
 // processor, and the most memory that it held, in KB.
 //
-// usage: measure FILE PROGRAM WORDS..
+// usage: measure FILE PROGRAM ARGUMENT..
 //
 // The program is started by this small one, since a process counts the memory of the one that starts it.
 #include <stdio.h>
@@ -13,7 +13,7 @@ static long microseconds(struct timeval time) {
     return time.tv_sec * 1000000 + time.tv_usec;
 }
 
-int main(int count, char **words) {
+int main(int count, char **arguments) {
     int status;
     struct rusage used;
     FILE *out;
@@ -23,10 +23,10 @@ int main(int count, char **words) {
         return 127;
     child = fork();
     if (child == 0) {
-        execv(words[2], words + 2);
+        execv(arguments[2], arguments + 2);
         _exit(127);
     }
-    out = fopen(words[1], "w");
+    out = fopen(arguments[1], "w");
     if (!out || wait4(child, &status, 0, &used) != child)
         return 127;
     fprintf(out, "%ld %ld\n", microseconds(used.ru_utime) + microseconds(used.ru_stime), used.ru_maxrss);

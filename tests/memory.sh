@@ -1,9 +1,9 @@
-# Each allocation of a run, of a conversation and of calls refused, one a time, by a library that
-# is loaded before the C library's malloc; and how many allocations there are, which shows what is
+# Each allocation of a run, of a conversation and of calls refused, one at a time, by a library that is
+# loaded before the C library's malloc; and how many allocations there are, which shows what is
 # expanded.
 
 test_memory() {
-    if ! cc -O2 -shared -fPIC -o "$room/refuse.so" "$top/tests/refuse.c"; then
+    if ! cc -O2 -shared -fPIC -o "$temporary/refuse.so" "$top/tests/refuse.c"; then
         fail 'refused allocations' 'tests/refuse.c does not compile'
         return
     fi
@@ -26,25 +26,25 @@ test_conversation() {
         fail 'refused allocations of a conversation' "$retangle is not there: run make first"
         return
     fi
-    python3 -B "$top/tests/refused.py" "$retangle" "$room/refuse.so" "$top" >"$room/log" 2>&1
-    count_last_line 'refused allocations of a conversation' "$room/log"
+    python3 -B "$top/tests/refused.py" "$retangle" "$temporary/refuse.so" "$top" >"$temporary/log" 2>&1
+    count_last_line 'refused allocations of a conversation' "$temporary/log"
 }
 
 test_counts() {
-    python3 -B "$top/tests/counted.py" "$retangle" "$room/refuse.so" >"$room/log" 2>&1
-    count_last_line 'counted allocations' "$room/log"
+    python3 -B "$top/tests/counted.py" "$retangle" "$temporary/refuse.so" >"$temporary/log" 2>&1
+    count_last_line 'counted allocations' "$temporary/log"
 }
 
 refusing() {
-    REFUSE_AT=$at REFUSE_REPORT="$room/refused" LD_PRELOAD="$room/refuse.so" "$@"
+    REFUSE_AT=$at REFUSE_REPORT="$temporary/refused" LD_PRELOAD="$temporary/refuse.so" "$@"
 }
 
-# Each allocation behind that one is refused too.
+# Each allocation after that one is refused too.
 refusing_from() {
     REFUSE_ALL=1 refusing "$@"
 }
 
-# Refuses the first allocation of a run, the second and so on, until a run has no further one to refuse.
+# Refuses the first allocation of a run, the second and so on, until no allocation of a run is refused.
 refuse_each_allocation() { # RUNNER NAME CASE
     refuser=$1
     shift
@@ -52,9 +52,9 @@ refuse_each_allocation() { # RUNNER NAME CASE
     refused=0
     while :; do
         at=$((at + 1))
-        rm -f "$room/refused"
+        rm -f "$temporary/refused"
         run_program "$2" "$refuser"
-        [ -e "$room/refused" ] || break
+        [ -e "$temporary/refused" ] || break
         [ "$status" != 3 ] || refused=$((refused + 1))
         if survived "$2"; then pass; else report "$1, allocation $at refused"; fi
         if [ "$at" -ge 10000 ]; then
@@ -66,29 +66,32 @@ refuse_each_allocation() { # RUNNER NAME CASE
     if [ "$refused" -gt 0 ]; then pass; else fail "$1" 'no refused allocation ended a run'; fi
 }
 
-# Whether a run with a refused allocation ended with status 3, at most the line that says so, alone or behind those of the
-# faults, and at most prefixes of its files, or did without that memory and ended as ever.
+# Whether a run with a refused allocation ended with status 3, at most the line that says so, alone or
+# after those of the faults, and at most prefixes of its files, or needed no such memory and ended as
+# without a refusal.
 survived() { # CASE
     if [ "$status" != 3 ]; then
         ended_so "$1"
         return
     fi
     problem=
-    echo 'ctangle: NoMemory' >"$room/no_memory"
-    [ ! -s "$room/stdout" ] || problem="something on standard output"
-    cat "$1/stderr" "$room/no_memory" >"$room/faults_first"
-    [ ! -s "$room/stderr" ] || cmp -s "$room/stderr" "$room/no_memory" || cmp -s "$room/stderr" "$room/faults_first" \
-        || problem="another standard error"
-    for file in "$room/run"/*; do
-        survived_as "$file" "$1/in/${file##*/}" "$room/expected/${file##*/}" || problem="${file##*/} is no prefix of its output"
+    echo 'ctangle: NoMemory' >"$temporary/no_memory"
+    [ ! -s "$temporary/stdout" ] || problem="something on standard output"
+    cat "$1/stderr" "$temporary/no_memory" >"$temporary/faults_first"
+    [ ! -s "$temporary/stderr" ] || cmp -s "$temporary/stderr" "$temporary/no_memory" \
+        || cmp -s "$temporary/stderr" "$temporary/faults_first" || problem="another standard error"
+    for file in "$temporary/run"/*; do
+        survived_as "$file" "$1/in/${file##*/}" "$temporary/expected/${file##*/}" \
+            || problem="${file##*/} is no prefix of its output"
     done
     [ -z "$problem" ]
 }
 
-# Whether a file is as it was before the run, if it was there, or else the front of its output. An older output is
-# whole after a run that reports out of memory: what is reported so was refused before the file was touched.
+# Whether a file is as it was before the run, if it was there, or else the front of its output. An
+# older output is whole after a run that reports that it is out of memory: such an allocation failed
+# before the file was changed.
 survived_as() { # FILE OLD EXPECTED
-    if [ -f "$2" ] && [ -s "$room/stderr" ]; then
+    if [ -f "$2" ] && [ -s "$temporary/stderr" ]; then
         cmp -s "$1" "$2"
     else
         is_prefix "$1" "$3" || { [ -f "$2" ] && cmp -s "$1" "$2"; }
@@ -107,14 +110,14 @@ test_crates() {
 # The library makes the file when it refuses an allocation; without it the tests would pass and show nothing.
 test_crate() { # CRATE
     tests=$top/crates/$1/out/$1_tests
-    rm -rf "$room/tests" "$room/refused"
-    mkdir "$room/tests"
+    rm -rf "$temporary/tests" "$temporary/refused"
+    mkdir "$temporary/tests"
     if [ ! -x "$tests" ]; then
         fail "refused allocations of $1" 'no test program: run make check'
-    elif ! (cd "$room/tests" && REFUSE_REPORT="$room/refused" LD_PRELOAD="$room/refuse.so" "$kit/bin/rattle-test" --seconds 60 "$tests") \
-        >"$room/log" 2>&1; then
-        fail "refused allocations of $1" "$(grep -v ' \.\.\. ok$' "$room/log")"
-    elif [ ! -e "$room/refused" ]; then
+    elif ! (cd "$temporary/tests" && REFUSE_REPORT="$temporary/refused" LD_PRELOAD="$temporary/refuse.so" \
+        "$kit/bin/rattle-test" --seconds 60 "$tests") >"$temporary/log" 2>&1; then
+        fail "refused allocations of $1" "$(grep -v ' \.\.\. ok$' "$temporary/log")"
+    elif [ ! -e "$temporary/refused" ]; then
         fail "refused allocations of $1" 'no allocation was refused'
     else
         pass

@@ -1,7 +1,7 @@
 // Refuses allocations of a program: preloaded, it comes before malloc and realloc of the C library.
 //
 // REFUSE_AT=N refuses the Nth allocation of the process, from 1, and with REFUSE_ALL=1 each one
-// behind it too; then it makes the file that REFUSE_REPORT names. The file that COUNT_TO names gets,
+// after it too; then it makes the file that REFUSE_REPORT names. The file that COUNT_TO names gets,
 // at the end of the process, how many allocations there were and how many bytes they asked for.
 // A test asks from inside: a request for 2^62 + n bytes is answered with a small block and refuses
 // the nth allocation after it (none where n is 0), and one for 2^62 + 2^61 bytes is answered where
@@ -65,7 +65,8 @@ void *malloc(size_t size) {
     return is_refused(size) ? NULL : __libc_malloc(size);
 }
 
-// A block that has the room stays where it is: giving room back asks for none, and a call does without that.
+// A block that is large enough stays where it is. To make a block smaller takes no memory, so that is
+// never refused.
 void *realloc(void *block, size_t size) {
     size_t has = malloc_usable_size(block);
     return size > has && is_refused(size - has) ? NULL : __libc_realloc(block, size);

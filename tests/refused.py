@@ -1,21 +1,21 @@
-"""Conversations with the built retangle, with each allocation of a run refused, one a time.
+"""Conversations with the built retangle, with each allocation of a run refused, one at a time.
 
 usage: refused.py RETANGLE REFUSE TOP       REFUSE is tests/refuse.c as a library, TOP the folder of the repository
 
 Where an allocation fails, one edit is answered 'no NoMemory' and is not made or, in an open list,
 not held; or one list is answered 'no NoMemory 0' and none of its edits is made; and the others are
-made and answered. Or the run ends with status 3 behind an answer, or before the first one; or it
-did without that memory, and all is answered. The last line is 'N passed, M failed'.
+made and answered. Or the run ends with status 3 after an answer, or before the first one; or it
+needed no such memory, and all is answered. The last line is 'N passed, M failed'.
 """
 import os
-import shutil
 import subprocess
 import sys
 import tempfile
 
 program, refuse, top = (os.path.abspath(path) for path in sys.argv[1:4])
 sys.path[:0] = [os.path.join(top, 'tests'), os.path.join(top, 'tests', 'reference')]
-from checks import check, finish
+from chain import chain
+from checks import check, finish, folder_with
 from files import Roles, add
 from scripts import Script
 from sessions import Session
@@ -25,12 +25,6 @@ SECONDS = 60
 
 QUESTIONS = b'show a.c\nfaults\nwork\n'
 FILE_COMES_AND_GOES = b'create b.w\nwork\ninsert 1 b.w\ny;\nwork\ndiscard b.w\n' + QUESTIONS
-
-
-def chain(count):
-    """A program and so many names, each of which but the last uses the next one."""
-    names = [b'@ @<k%04d@>=\n@<k%04d@>\n' % (number, number + 1) for number in range(1, count)]
-    return b'@ P.\n@c\n@<k0001@>\n' + b''.join(names) + b'@ @<k%04d@>=\n1\n' % count
 
 
 # Webs with scripts that have every kind of command: an abbreviation of one name and then of two,
@@ -62,7 +56,7 @@ CONVERSATIONS = {
         + b'begin\ncommit\nwork\nbegin\ncreate b.w\ninsert 1 b.w\nz\ndiscard a.w\ncommit\n'
         b'remove 1 b.w\nbegin\nremove 9 a.w\nremove 9 a.w\nmarks full\ncancel\nreplace 9 a.w\n6\n'
         + QUESTIONS + b'begin\nremove 9 a.w\nquit\n'),
-    'chain': (chain(40), b'work\nreplace 83 a.w\n2\nwork\nreplace 83 a.w\n2\nwork\n'),
+    'chain': (chain(40).encode(), b'work\nreplace 83 a.w\n2\nwork\nreplace 83 a.w\n2\nwork\n'),
 }
 FEWER = 41              # the first edit of the chain expands so many nodes, and the second one none
 
@@ -71,18 +65,18 @@ class Refused(Script):
     """The answers where the edit of this number gets no memory, and the ends of the answers. A list
     that is committed counts as an edit more than those that it holds.
 
-    spared: the numbers of what may need no memory, settings of the marks behind an edit in a list.
+    needless: the numbers of what may need no memory, settings of the marks after an edit in a list.
     """
 
     def __init__(self, web, script, number):
-        self.left, self.ends, self.spared = number, [0], set()
+        self.left, self.ends, self.needless = number, [0], set()
         super().__init__(Session(add([], b'a.w', web), Roles(b'a.w', None, b'a.c')), script)
 
-    def _take(self, edit):
+    def _make_or_hold(self, edit):
         self.left -= 1
         if edit[0] == 'marks' and self.held:
-            self.spared.add(-self.left)
-        return b'no NoMemory\n' if self.left == 0 else super()._take(edit)
+            self.needless.add(-self.left)
+        return b'no NoMemory\n' if self.left == 0 else super()._make_or_hold(edit)
 
     def _list(self, line):
         if line == b'commit':
@@ -92,8 +86,8 @@ class Refused(Script):
                 return b'no NoMemory 0\n'
         return super()._list(line)
 
-    def _put(self, text):
-        super()._put(text)
+    def _write(self, text):
+        super()._write(text)
         self.ends.append(len(self.written))
 
 
@@ -106,8 +100,8 @@ def expected(web, script):
         refused = Refused(web, script, number)
         ways[refused.status, refused.written] = 'edit %d' % number
     ways[whole.status, whole.written] = 'nothing'
-    spared = {'edit %d' % number for number in whole.spared}
-    return ways, [way for way in ways.values() if way.startswith('edit') and way not in spared]
+    needless = {'edit %d' % number for number in whole.needless}
+    return ways, [way for way in ways.values() if way.startswith('edit') and way not in needless]
 
 
 def run(folder, arguments, script, at, report):
@@ -116,22 +110,12 @@ def run(folder, arguments, script, at, report):
                           capture_output=True, timeout=SECONDS)
 
 
-def folder_with(room, files):
-    folder = os.path.join(room, 'folder')
-    shutil.rmtree(folder, ignore_errors=True)
-    os.makedirs(folder)
-    for name, text in files.items():
-        with open(os.path.join(folder, name), 'wb') as file:
-            file.write(text)
-    return folder
-
-
-def refuse_each(name, web, script, room):
+def refuse_each(name, web, script, report):
     """Refuses each allocation, one a run: how many runs lack what."""
     (ways, edits), met = expected(web, script), {}
-    folder, report = folder_with(room, {'a.w': web}), os.path.join(room, 'refused')
+    folder = folder_with({'a.w': web})
     for at in range(1, MOST):
-        done = run(folder, ['a'], script, at, report)
+        done = run(folder.name, ['a'], script, at, report)
         way = ways.get((done.returncode, done.stdout))
         if not os.path.exists(report):
             break
@@ -148,33 +132,32 @@ def refuse_each(name, web, script, room):
     return met
 
 
-# Words with what they end with: files that are named in each way and load others, words that are
-# refused, and files that are refused. Their texts are those of a run without a refusal.
+# Arguments with what they end with: files that are named in each way and load others, arguments that
+# are refused, and files that are refused. What is written is what a run without a refusal writes.
 FILES = {'a.w': b'@i b.w\n@ A.\n@c\nint x;\n@i n.w\n', 'b.w': b'limbo\n@i c.w\n', 'c.w': b'\n',
          'a.ch': b'@x\nint x;\n@y\nint z;\n@z\n'}
 SHOWN = b'= z.c 51\n/*1:*/\n#line 3 "a.w"\n\n#line 4 "a.ch"\nint z;\n/*:1*/\n'
-WORDS = {
+ARGUMENTS = {
     'options': (['--change', 'a', '--out=z', 'a'], FILES, 1),
-    'a word that is no option': (['a', '--nothing'], FILES, 2),
+    'an argument that is no option': (['a', '--nothing'], FILES, 2),
     'help': (['--help'], FILES, 2),
-    'no words': ([], FILES, 2),
+    'no arguments': ([], FILES, 2),
     'a file too many': (['a', 'b'], FILES, 2),
     'a web that is not there': (['n'], FILES, 3),
     'a line that is too long': (['a'], {'a.w': b'x' * 65536}, 3),
 }
 
 
-def refuse_each_word(name, arguments, files, status, room):
+def refuse_each_of_arguments(name, arguments, files, status, report):
     """Refuses each allocation, one a run, over a script of one question. What ends so answers nothing,
     and reports at most that it is out of memory; anything else ends as without a refusal."""
-    folder, report = folder_with(room, files), os.path.join(room, 'refused')
-    script = b'show z.c\n'
-    whole, lacking = run(folder, arguments, script, 0, report), 0
+    folder, script = folder_with(files), b'show z.c\n'
+    whole, lacking = run(folder.name, arguments, script, 0, report), 0
     check(whole.returncode == status, name, 'status %d' % whole.returncode)
     check(whole.stdout == (SHOWN if status == 1 else b''), name, '%r' % whole)
     check(bool(whole.stderr) == (status != 1), name, '%r' % whole)
     for at in range(1, MOST):
-        done = run(folder, arguments, script, at, report)
+        done = run(folder.name, arguments, script, at, report)
         if not os.path.exists(report):
             break
         os.remove(report)
@@ -187,11 +170,12 @@ def refuse_each_word(name, arguments, files, status, room):
 
 
 def main():
-    with tempfile.TemporaryDirectory() as room:
-        for name, (arguments, files, status) in WORDS.items():
-            refuse_each_word(name, arguments, files, status, room)
+    with tempfile.TemporaryDirectory() as temporary:
+        report = os.path.join(temporary, 'refused')
+        for name, (arguments, files, status) in ARGUMENTS.items():
+            refuse_each_of_arguments(name, arguments, files, status, report)
         for name, (web, script) in CONVERSATIONS.items():
-            met = refuse_each(name, web, script, room)
+            met = refuse_each(name, web, script, report)
     check(met.get('edit 1', 0) >= met.get('edit 2', 0) + FEWER, 'chain', 'an edit that affects nothing makes no fewer allocations: %r' % met)
     return finish()
 

@@ -1,6 +1,7 @@
 #!/bin/sh
-# Runs the built ctangle on small folders and the built retangle on scripts, and shows what the gate does not see: the files that a run creates,
-# standard error, the status, and what a run leaves where the machine refuses something.
+# Runs the built ctangle on small folders and the built retangle on scripts, and shows what the gate
+# does not see: the files that a run creates, standard error, the status, and what a run leaves where
+# the machine refuses something.
 #
 # usage: tests/run.sh [PART..]
 #
@@ -22,9 +23,9 @@ if [ ! -x "$program" ]; then
     exit 1
 fi
 
-room=$(mktemp -d)
-trap 'rm -rf "$room"' EXIT
-chmod 755 "$room"
+temporary=$(mktemp -d)
+trap 'rm -rf "$temporary"' EXIT
+chmod 755 "$temporary"
 
 . "$top/tests/lib.sh"
 
@@ -32,17 +33,17 @@ chmod 755 "$room"
 [ $# -gt 0 ] || set -- scripts comparison limits sizes cuts memory conversations streams cases machine users \
     example documents
 if [ $# -gt 1 ]; then
-    printf '%s\n' "$@" | xargs -P "$(nproc)" -I PART sh -c '"$0" "$1" >"$2/$1" 2>&1' "$0" PART "$room"
+    printf '%s\n' "$@" | xargs -P "$(nproc)" -I PART sh -c '"$0" "$1" >"$2/$1" 2>&1' "$0" PART "$temporary"
     for part; do
-        count_last_line "$part" "$room/$part"
+        count_last_line "$part" "$temporary/$part"
     done
     echo "$passed passed, $failed failed"
     [ "$failed" -eq 0 ]
     exit
 fi
 
-cp "$program" "$room/ctangle"
-chmod 755 "$room/ctangle"
+cp "$program" "$temporary/ctangle"
+chmod 755 "$temporary/ctangle"
 
 . "$top/tests/documents.sh"
 . "$top/tests/users.sh"

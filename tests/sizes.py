@@ -6,7 +6,7 @@ usage: sizes.py CTANGLE RETANGLE TOP        TOP is the folder of the repository
 Counted are names, nodes, outputs, nodes that an edit affects, changes, files, sections, uses,
 macros, faults and the edits of a list; and sessions at the limits of reading and of expansion are
 edited across them. The webs are regular, so each answer is written down here by the rules of
-docs/output.md and docs/reading.md, with no graph of names; files are held against the reference.
+docs/output.md and docs/reading.md, with no graph of names; files are compared with the reference.
 The last line is 'N passed, M failed'.
 """
 import os
@@ -15,9 +15,11 @@ import sys
 
 ctangle, retangle, top = (os.path.abspath(path) for path in sys.argv[1:4])
 sys.path[:0] = [os.path.join(top, 'tests'), os.path.join(top, 'tests', 'reference')]
+from chain import chain
 from checks import check, difference, folder_with, run_all, written_in
 from files import Roles, add
 from hostile import mark, piece
+from limits import FILES
 from scripts import Script
 from sessions import Session
 
@@ -25,12 +27,11 @@ TURNS = (256, 4096, 65536)
 NO_FAULTS = ('faults\n', 'faults 0\n')
 NO_MAIN_FILE = ('show a.c\n', 'no NoOutput\n')
 PROGRAM_TOO_LARGE = 'error: too large: the unnamed program'
-MOST_FILES = 256
 SECONDS = 300
 
-def around(before, behind):
-    """Each power, from so much before it to so much behind it."""
-    return [turn + step for turn in TURNS for step in range(-before, behind + 1)]
+def around(before, after):
+    """Each power, from so much before it to so much after it."""
+    return [turn + step for turn in TURNS for step in range(-before, after + 1)]
 
 
 def run(program, arguments, files, script=''):
@@ -104,7 +105,7 @@ class Names:
         return 'replace %d a.w\n%s\n' % (self.head_of_last + 1, text), 'ok\n'
 
     def add_to(self, k, text):
-        """Puts this text behind the use in name k."""
+        """Puts this text after the use in name k."""
         self.texts[k] = text
         return 'replace %d a.w\n@<z@>%s\n' % (self.head(k) + 1, text), 'ok\n'
 
@@ -204,7 +205,7 @@ def edits_of_files(last):
 
 def test_files():
     """So many files, of which the web includes all others, edited in each way."""
-    for count in (MOST_FILES - 2, MOST_FILES - 1, MOST_FILES):
+    for count in (FILES - 2, FILES - 1, FILES):
         included = {'i%03d.w' % k: 'x%d\n' % k for k in range(1, count)}
         web = '@ P.\n@c\n' + ''.join('@i %s\n' % name for name in included)
         lines = edits_of_files('i%03d.w' % (count - 1))
@@ -299,7 +300,7 @@ def test_lines_taken():
 
 
 def too_large(count):
-    """The faults of so many names, each used first two lines behind the one before it, and of the
+    """The faults of so many names, each used first two lines after the one before it, and of the
     program."""
     names = ['a.w:%d: error: too large: <n%02d>' % (3 + 2 * k, k) for k in range(count)]
     return reported(*names + [PROGRAM_TOO_LARGE])
@@ -315,12 +316,6 @@ def test_weights():
     turns += [('replace 21 a.w\n@<n09@>\n', 'ok\n'), work(1), too_large(8)] + files
     turns += [('replace 21 a.w\n@<n09@>@<n09@>\n', 'ok\n'), work(0), too_large(9)] + files
     converse('names that double', {'a.w': web}, turns, 1)
-
-
-def chain(count):
-    """A web in which the program uses k0001, and each name the next one."""
-    names = ['@ @<k%04d@>=\n@<k%04d@>\n' % (k, k + 1) for k in range(1, count)]
-    return '@ P.\n@c\n@<k0001@>\n' + ''.join(names) + '@ @<k%04d@>=\n1\n' % count
 
 
 def test_depths():

@@ -1,9 +1,10 @@
-"""Streams and files that fail at each byte, by a library in front of the C library's calls.
+"""Streams and files that fail at each byte, by a library that comes before the calls of the C
+library.
 
 usage: streams.py CTANGLE RETANGLE FAIL TOP
 
-FAIL is tests/fail.c as a library, TOP the folder of the repository. What a script is answered by
-then, and what a run has written, is what the reference gives.
+FAIL is tests/fail.c as a library, TOP the folder of the repository. What a script is answered before
+that, and what a run has written, is what the reference gives.
 The last line is 'N passed, M failed'.
 """
 import os
@@ -16,12 +17,12 @@ sys.path[:0] = [os.path.join(top, 'tests'), os.path.join(top, 'tests', 'referenc
 from checks import check, folder_with, run_all, written_in
 from faults import fault_line
 from files import Roles, add
+from limits import FILE_BYTES
 from scripts import Script
 from sessions import Session
 from tangling import Tangling
 
 SECONDS = 60
-SCRIPT_BYTES = 67108864
 WEB = b'@ A.\n@c\nint x;\n'
 
 def run(program, arguments, files, script=b'', **fails):
@@ -73,21 +74,24 @@ EVERY_COMMAND = (b'work\n\nreplace 3 a.w\nint y;\nshow a.c\nshow b\nremove 9 a.w
                  b'create b.w\ninsert 1 b.w\n\ninsert 4 a.w\n@i b.w\nmarks none\nbegin\n'
                  b'replace 3 a.w\n"z\nwork\ndiscard b.w\nmarks full\ncommit\nshow a.c\nfaults\n'
                  b'begin\nremove 9 a.w\ncommit\nbegin\ncancel\ninsert 9\nx\nnothing\nquit\n')
-# An edit behind a question.
+# An edit after a question.
 ONE_EDIT = b'work\nreplace 3 a.w\nint y;\nshow a.c\nremove 9 a.w\nfaults\nquit\n'
-SCRIPTS = {'every command': EVERY_COMMAND, 'one edit': ONE_EDIT, 'no quit': ONE_EDIT[:-5]}
+# Lists of one edit, of which the first is refused.
+LISTS = (b'work\nreplace 3 a.w\nint y;\nshow a.c\nshow b\nfaults\nmarks none\nbegin\nremove 9 a.w\nwork\n'
+         b'commit\nbegin\nreplace 3 a.w\nint z;\ncommit\nshow a.c\nbegin\ncancel\nquit\n')
+SCRIPTS = {'every command': EVERY_COMMAND, 'one edit': ONE_EDIT, 'no quit': ONE_EDIT[:-5], 'lists': LISTS}
 
 
 def test_failing_readers():
-    """A reader that fails at each byte: what is ended by then is answered, and the status is 3.
-    After `quit` nothing is read."""
+    """A reader that fails at each byte: what ended before is answered, and the status is 3. After `quit`
+    nothing is read."""
     files = {'a.w': WEB}
     for name, script in SCRIPTS.items():
         cases = Cases('reader that fails, %s' % name)
         for size in range(len(script) + 1):
             expected = answers(files, ROLES, script[:size], reader_fails=True)
             cases.add((retangle, ['a'], files, script), expected, fail_input=size)
-            cases.add((retangle, ['a'], files, script), expected, fail_input=size, pieces=1)
+            cases.add((retangle, ['a'], files, script), expected, fail_input=size, chunk=1)
         cases.compare()
 
 
@@ -97,19 +101,23 @@ def test_failing_writers():
     for name, script in SCRIPTS.items():
         cases = Cases('writer that fails, %s' % name)
         for size in range(len(answers(files, ROLES, script)[1]) + 1):
-            expected = answers(files, ROLES, script, room=size)
+            expected = answers(files, ROLES, script, capacity=size)
             cases.add((retangle, ['a'], files, script), expected, fail_output=size)
-            cases.add((retangle, ['a'], files, script), expected, fail_output=size, pieces=1)
+            cases.add((retangle, ['a'], files, script), expected, fail_output=size, chunk=1)
         cases.compare()
     found = run(retangle, ['a'], files, ONE_EDIT, fail_output=7)
     check(found == (3, b'work 1\n', b'', {}), 'writer that fails after 7 bytes', '%r' % (found,))
 
 
 def test_longest_scripts():
-    """Line feeds alone: as many as a script may have, and one more."""
-    for size, status in ((SCRIPT_BYTES, 0), (SCRIPT_BYTES + 1, 3)):
+    """Line feeds alone, and line feeds between two questions: as many as a script may have, and more."""
+    for size, status in ((FILE_BYTES, 0), (FILE_BYTES + 1, 3)):
         found = run(retangle, ['a'], {'a.w': WEB}, b'\n' * size)
         check(found == (status, b'', b'', {}), 'script of %d line feeds' % size, '%r' % (found,))
+    whole = b'work\n' + b'\n' * (FILE_BYTES - 10) + b'work\n'
+    for more, status in ((b'', 0), (b'\n', 3), (b'work\n', 3)):
+        found = run(retangle, ['a'], {'a.w': WEB}, whole + more)
+        check(found == (status, b'work 1\nwork 1\n', b'', {}), 'longest script', '%r' % (found,))
 
 
 # ------------------------------------------------------------------ runs
@@ -120,7 +128,7 @@ PROJECT = {
     'a.ch': b'@x\nint x;\n@y\nint z;\n@z\n',
     'b.w': b'@ @<v@>=\nN\n',
 }
-WORDS = ['a', 'a']
+ARGUMENTS = ['a', 'a']
 
 
 def tangled(files):
@@ -138,14 +146,14 @@ def test_failing_files():
         read += len(text)
         for size in range(first, read + 1):
             reported = b'ctangle: cannot read %s\n' % name.encode()
-            cases.add((ctangle, WORDS, PROJECT), (3, b'', reported, {}), fail_read=size)
+            cases.add((ctangle, ARGUMENTS, PROJECT), (3, b'', reported, {}), fail_read=size)
             reported = b'retangle: cannot read %s\n' % name.encode()
             cases.add((retangle, ['a', '--change', 'a'], PROJECT, b'work\n'),
                       (3, b'', reported, {}), fail_read=size)
     status, faults, outputs = tangled(PROJECT)
     whole = status, b'', faults, dict(outputs)
-    for fails in ({'fail_read': read + 1}, {'pieces': 1}, {'fail_read': read + 1, 'pieces': 3}):
-        cases.add((ctangle, WORDS, PROJECT), whole, **fails)
+    for fails in ({'fail_read': read + 1}, {'chunk': 1}, {'fail_read': read + 1, 'chunk': 3}):
+        cases.add((ctangle, ARGUMENTS, PROJECT), whole, **fails)
     cases.compare()
 
 
@@ -158,11 +166,11 @@ def test_failing_outputs():
         for size in range(len(text)):
             reported = faults + b'ctangle: cannot write %s\n' % name.encode()
             expected = 3, b'', reported, {**whole, name: text[:size]}
-            cases.add((ctangle, WORDS, PROJECT), expected, fail_write=before + size)
-            cases.add((ctangle, WORDS, PROJECT), expected, fail_write=before + size, pieces=1)
+            cases.add((ctangle, ARGUMENTS, PROJECT), expected, fail_write=before + size)
+            cases.add((ctangle, ARGUMENTS, PROJECT), expected, fail_write=before + size, chunk=1)
         before += len(text)
         whole[name] = text
-    cases.add((ctangle, WORDS, PROJECT), (status, b'', faults, whole), fail_write=before)
+    cases.add((ctangle, ARGUMENTS, PROJECT), (status, b'', faults, whole), fail_write=before)
     cases.compare()
 
 
@@ -170,7 +178,7 @@ def test_failing_errors():
     """Standard error that takes no more from some byte on: the status is 3, and no file is made."""
     status, faults, outputs = tangled(PROJECT)
     long_line = {'a.w': b'x' * 65536}
-    runs = [(ctangle, WORDS, PROJECT, faults),
+    runs = [(ctangle, ARGUMENTS, PROJECT, faults),
             (ctangle, [], {}, b'usage: ctangle [flags] web [change [out]]\n'),
             (ctangle, ['a'], {}, b'ctangle: cannot read a.w\n'),
             (ctangle, ['a'], long_line, b'ctangle: a.w: LineTooLong\n'),
@@ -183,7 +191,7 @@ def test_failing_errors():
         for size in range(len(reported)):
             cases.add((program, arguments, files), (3, b'', reported[:size], {}), fail_errors=size)
     whole = status, b'', faults, dict(outputs)
-    cases.add((ctangle, WORDS, PROJECT), whole, fail_errors=len(faults))
+    cases.add((ctangle, ARGUMENTS, PROJECT), whole, fail_errors=len(faults))
     cases.compare()
 
 

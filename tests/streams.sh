@@ -6,11 +6,11 @@ test_streams() {
         fail streams "$retangle is not there: run make first"
         return
     fi
-    if ! cc -O2 -shared -fPIC -o "$room/fail.so" "$top/tests/fail.c"; then
+    if ! cc -O2 -shared -fPIC -o "$temporary/fail.so" "$top/tests/fail.c"; then
         fail streams 'tests/fail.c does not compile'
         return
     fi
-    python3 -B "$top/tests/streams.py" "$room/ctangle" "$retangle" "$room/fail.so" "$top" \
-        >"$room/log" 2>&1
-    count_last_line streams "$room/log"
+    python3 -B "$top/tests/streams.py" "$temporary/ctangle" "$retangle" "$temporary/fail.so" "$top" \
+        >"$temporary/log" 2>&1
+    count_last_line streams "$temporary/log"
 }

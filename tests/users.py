@@ -20,11 +20,11 @@ import tempfile
 ctangle, retangle, top = (os.path.abspath(path) for path in sys.argv[1:4])
 sys.path[:0] = [os.path.join(top, below) for below in ('examples', 'tests', 'tests/reference')]
 import editor
-from checks import check, finish, lay, read, same, write
+from checks import blocks_of, check, finish, lay, read, same, turns_of, write
+from limits import LINE_BYTES
 from sessions import edited_lines
 
 PATIENCE = 60           # seconds for a run
-LINE_BYTES = 65535
 
 def run(arguments, folder, text=b'', **changed):
     """Standard output, standard error and the status. A make that runs the tests is hidden."""
@@ -38,9 +38,9 @@ def is_there(*path):
     return os.path.exists(os.path.join(*path))
 
 
-def new_folder(room, name, **files):
-    """A folder with these files, whose names have _ in place of a dot."""
-    folder = os.path.join(room, name)
+def new_folder(temporary, name, **files):
+    """A folder with these files, whose names have _ instead of a dot."""
+    folder = os.path.join(temporary, name)
     os.mkdir(folder)
     lay(folder, {file.replace('_', '.'): text for file, text in files.items()})
     return folder
@@ -49,13 +49,13 @@ def new_folder(room, name, **files):
 # ---------------------------------------------------------------------- make install
 
 def files_below(folder):
-    return sorted(os.path.relpath(os.path.join(place, name), folder)
-                  for place, _, names in os.walk(folder) for name in names)
+    return sorted(os.path.relpath(os.path.join(path, name), folder)
+                  for path, _, names in os.walk(folder) for name in names)
 
 
-def copy_to_install(room):
+def copy_to_install(temporary):
     """A folder with what make install copies, so that nothing is built."""
-    source = os.path.join(room, 'source')
+    source = os.path.join(temporary, 'source')
     os.makedirs(os.path.join(source, 'bin'))
     shutil.copytree(os.path.join(top, 'docs'), os.path.join(source, 'docs'))
     shutil.copy(os.path.join(top, 'Makefile'), source)
@@ -64,10 +64,10 @@ def copy_to_install(room):
     return source
 
 
-def test_install(room):
+def test_install(temporary):
     """The folder of the programs that were installed."""
     make = ['make', '-s', '-o', 'bin/ctangle', '-o', 'bin/retangle']
-    source, root = copy_to_install(room), os.path.join(room, 'an empty root')
+    source, root = copy_to_install(temporary), os.path.join(temporary, 'an empty root')
     _, errors, status = run(make + ['install', 'PREFIX=/usr', 'DESTDIR=' + root], source)
     check(status == 0, 'make install', errors)
     pages = ['usr/share/man/man1/ctangle.1', 'usr/share/man/man1/retangle.1']
@@ -78,10 +78,10 @@ def test_install(room):
     run(make + ['uninstall', 'PREFIX=/usr', 'DESTDIR=' + root], source)
     same(files_below(root), [], 'make uninstall')
 
-    prefix = os.path.join(room, 'prefix')
+    prefix = os.path.join(temporary, 'prefix')
     run(make + ['install', 'PREFIX=' + prefix], source)
     programs = os.path.join(prefix, 'bin')
-    same(run([os.path.join(programs, 'ctangle')], room),
+    same(run([os.path.join(programs, 'ctangle')], temporary),
          (b'', b'usage: ctangle [flags] web [change [out]]\n', 2), 'an installed program')
     check_man(os.path.join(prefix, 'share', 'man'))
     return programs
@@ -105,12 +105,6 @@ def check_man(pages):
 
 # ---------------------------------------------------------------------- README
 
-def blocks_of(text):
-    """The indented blocks of a document."""
-    blocks = re.findall(rb'(?:^(?:    .*)?\n)*^    .*\n', text, re.M)
-    return [re.sub(b'^    ', b'', block, flags=re.M).strip(b'\n') + b'\n' for block in blocks]
-
-
 def block(begins):
     """The only block of README.md that begins so."""
     found = [block for block in blocks_of(read(top, 'README.md')) if block.startswith(begins)]
@@ -118,9 +112,9 @@ def block(begins):
     return found[0]
 
 
-def test_readme(room, programs):
+def test_readme(temporary, programs):
     web = block(b'@ ')
-    folder = new_folder(room, 'hello', hello_w=web)
+    folder = new_folder(temporary, 'hello', hello_w=web)
     same(run([ctangle, 'hello'], folder), (b'', b'', 0), 'README.md, ctangle hello')
     same(read(folder, 'hello.c'), block(b'/*1:*/'), 'README.md, hello.c')
     check_conversation(folder, block(b'$ retangle hello'))
@@ -142,12 +136,9 @@ def test_readme(room, programs):
 
 
 def check_conversation(folder, conversation):
-    """What begins with > is typed, and the rest is answered."""
-    lines = conversation.splitlines(True)
-    words = lines[0].split()[2:]
-    typed = b''.join(line[2:] for line in lines[1:] if line.startswith(b'> '))
-    answered = b''.join(line for line in lines[1:] if not line.startswith(b'> '))
-    same(run([retangle] + words, folder, typed)[0], answered, 'README.md, retangle')
+    arguments = conversation.split(b'\n', 1)[0].split()[2:]
+    typed, answered = (b''.join(parts) for parts in zip(*turns_of(conversation)))
+    same(run([retangle] + arguments, folder, typed)[0], answered, 'README.md, retangle')
 
 
 def check_make(folder, path, name):
@@ -229,8 +220,8 @@ NO_C = b'a.w:5: error: included file not found: c.w\n'
 NO_V = b'a.w:3: error: undefined: <v>\n'
 
 
-def test_client(room):
-    folder = new_folder(room, 'client', a_w=b'@ A.\n@c\nint x;\n@i b.w\n', b_w=b'int y;\n')
+def test_client(temporary):
+    folder = new_folder(temporary, 'client', a_w=b'@ A.\n@c\nint x;\n@i b.w\n', b_w=b'int y;\n')
     client = Client(folder, 'a')
     client.prints(b'faults', b'')
     client.prints(b'show a.h', b'no output file a.h\n')
@@ -256,8 +247,8 @@ def test_client(room):
     client.ends(0)
 
 
-def test_ends_of_the_client(room):
-    folder = new_folder(room, 'ends')
+def test_ends_of_the_client(temporary):
+    folder = new_folder(temporary, 'ends')
     same(run(CLIENT + ['a'], folder, b'faults\n', RETANGLE=retangle),
          (b'', b'retangle: cannot read a.w\n', 3), 'editor.py without a web')
     write(b'@ A.\n@c\n@<v@>\n', folder, 'a.w')
@@ -265,8 +256,8 @@ def test_ends_of_the_client(room):
          (NO_V, b'', 1), 'editor.py, a fault at the end')
     write(b'@x\n@<v@>\n@y\n1\n@z\n', folder, 'b.ch')
     output = b'/*1:*/\n#line 2 "a.w"\n\n#line 4 "b.ch"\n1\n/*:1*/\n'
-    words = ['--change', 'b', '--out', 'z', 'a']
-    same(run(CLIENT + words, folder, b'show z.c\n', RETANGLE=retangle), (output, b'', 0),
+    arguments = ['--change', 'b', '--out', 'z', 'a']
+    same(run(CLIENT + arguments, folder, b'show z.c\n', RETANGLE=retangle), (output, b'', 0),
          'editor.py, change and out')
 
 
@@ -288,7 +279,7 @@ OUTPUTS = ['calc.c', 'stack.c', 'stack.h']
 
 
 def mutated(lines, chance):
-    """The lines with a few of them gone, doubled, moved or in each other's place."""
+    """The lines with a few of them removed, doubled, moved or swapped."""
     lines = list(lines)
     for _ in range(chance.randrange(1, 5)):
         at, others = chance.randrange(len(lines) + 1), min(len(lines), chance.randrange(3))
@@ -296,9 +287,9 @@ def mutated(lines, chance):
     return lines
 
 
-def test_saves(room):
+def test_saves(temporary):
     """After each save the client shows what ctangle makes of the files."""
-    folder, chance, before = os.path.join(room, 'saves'), random.Random(2), os.getcwd()
+    folder, chance, before = os.path.join(temporary, 'saves'), random.Random(2), os.getcwd()
     shutil.copytree(os.path.join(top, 'examples', 'several'), folder)
     os.environ['RETANGLE'] = retangle
     os.chdir(folder)
@@ -332,7 +323,8 @@ SECONDS = 10 ** 9       # nanoseconds
 
 
 def make_older(folder):
-    """Lets ten seconds pass for all files of a folder, so that what is written next is newer."""
+    """Sets the times of all files of a folder back by ten seconds, so that what is written next is
+    newer."""
     for name in os.listdir(folder):
         path = os.path.join(folder, name)
         time = os.stat(path).st_mtime_ns - 10 * SECONDS
@@ -364,9 +356,9 @@ def must_fail(folder, makefile, web):
           makefile + ', an error', errors)
 
 
-def test_recipe(room, makefile):
+def test_recipe(temporary, makefile):
     """The folder in which a recipe made the program, and the web."""
-    folder = os.path.join(room, makefile)
+    folder = os.path.join(temporary, makefile)
     shutil.copytree(os.path.join(top, 'examples', 'several'), folder)
     web = read(folder, 'calc.w')
     must_make(folder, makefile, web)
@@ -377,16 +369,16 @@ def test_recipe(room, makefile):
     return folder, web
 
 
-def test_several(room):
-    folder, web = test_recipe(room, 'Makefile')
+def test_several(temporary):
+    folder, web = test_recipe(temporary, 'Makefile')
     must_fail(folder, 'Makefile', web)
     left = [name for name in OUTPUTS if is_there(folder, name)]
     same(left, [], 'Makefile, outputs after an error')
 
 
-def test_unchanged(room):
+def test_unchanged(temporary):
     makefile = 'unchanged.mk'
-    folder, web = test_recipe(room, makefile)
+    folder, web = test_recipe(temporary, makefile)
     must_make(folder, makefile, web)
     made = OUTPUTS + ['calc.o', 'stack.o', 'calc']
     before = times(folder, made)
@@ -411,16 +403,16 @@ def test_unchanged(room):
 
 
 def main():
-    with tempfile.TemporaryDirectory() as room:
-        programs = test_install(room)
-        test_readme(room, programs)
+    with tempfile.TemporaryDirectory() as temporary:
+        programs = test_install(temporary)
+        test_readme(temporary, programs)
         test_names()
-        test_client(room)
-        test_ends_of_the_client(room)
+        test_client(temporary)
+        test_ends_of_the_client(temporary)
         test_edits()
-        test_saves(room)
-        test_several(room)
-        test_unchanged(room)
+        test_saves(temporary)
+        test_several(temporary)
+        test_unchanged(temporary)
     return finish()
 
 

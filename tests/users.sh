@@ -6,6 +6,6 @@ test_users() {
         fail users "$retangle is not there: run make first"
         return
     fi
-    python3 -B "$top/tests/users.py" "$room/ctangle" "$retangle" "$top" >"$room/log" 2>&1
-    count_last_line users "$room/log"
+    python3 -B "$top/tests/users.py" "$temporary/ctangle" "$retangle" "$top" >"$temporary/log" 2>&1
+    count_last_line users "$temporary/log"
 }

@@ -6,16 +6,16 @@
 # It works on a copy of the crates, over what make has proved. The last line is 'N passed, M failed'.
 set -u
 top=$(cd "$(dirname "$0")/.." && pwd)
-room=$(mktemp -d)
-trap 'rm -rf "$room"' EXIT
-cp -a "$top/crates" "$top/crates.txt" "$top/HANDLES" "$room"
-rm -rf "$room"/crates/*/must-fail
+temporary=$(mktemp -d)
+trap 'rm -rf "$temporary"' EXIT
+cp -a "$top/crates" "$top/crates.txt" "$top/HANDLES" "$temporary"
+rm -rf "$temporary"/crates/*/must-fail
 [ $# -gt 0 ] || set -- $(ls "$top/tests/wrong-bodies")
 for crate; do
-    cp -a "$top/tests/wrong-bodies/$crate" "$room/crates/$crate/must-fail"
+    cp -a "$top/tests/wrong-bodies/$crate" "$temporary/crates/$crate/must-fail"
 done
-(cd "$room" && rt must-fail "$@") 2>&1 | tee "$room/log"
-tried=$(find "$room"/crates/*/must-fail -name '*.edit' | wc -l)
-passed=$(grep -c 'refused, as it must be' "$room/log")
+(cd "$temporary" && rt must-fail "$@") 2>&1 | tee "$temporary/log"
+tried=$(find "$temporary"/crates/*/must-fail -name '*.edit' | wc -l)
+passed=$(grep -c 'refused, as it must be' "$temporary/log")
 echo "$passed passed, $((tried - passed)) failed"
 [ "$passed" -eq "$tried" ]

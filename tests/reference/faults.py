@@ -1,4 +1,4 @@
-"""What a fault is, its text, and its line (docs/faults.md)."""
+"""What a fault is, its wording, and its line (docs/faults.md)."""
 from collections import namedtuple
 
 # place: (file, line) or None
@@ -7,7 +7,7 @@ Fault.__new__.__defaults__ = (b'', 0)
 
 WARNINGS = frozenset(['PrefixName', 'Unused', 'NoProgram'])
 
-TEXTS = {
+WORDINGS = {
     'StrayMark': b'@y or @z out of place',
     'MissingY': b'change without @y',
     'MissingZ': b'change without @z',
@@ -50,13 +50,13 @@ def status_of(faults):
 
 
 def fault_line(fault):
-    text = TEXTS[fault.kind]
+    wording = WORDINGS[fault.kind]
     if fault.kind == 'TooLarge' and fault.place is None:
-        text = b'too large: the unnamed program'
-    elif b'%s' in text:
-        text = text.replace(b'%s', fault.subject)
-    elif b'%d' in text:
-        text = text.replace(b'%d', b'%d' % fault.count)
-    word = b'error: ' if is_error(fault) else b'warning: '
+        wording = b'too large: the unnamed program'
+    elif b'%s' in wording:
+        wording = wording.replace(b'%s', fault.subject)
+    elif b'%d' in wording:
+        wording = wording.replace(b'%d', b'%d' % fault.count)
+    level = b'error: ' if is_error(fault) else b'warning: '
     where = b'' if fault.place is None else b'%s:%d: ' % fault.place
-    return where + word + text + b'\n'
+    return where + level + wording + b'\n'

@@ -1,5 +1,5 @@
-"""Random projects and scripts: webs, included files, change files and edits that meet every code, fault and rule of
-spacing often, and of which some are almost right.
+"""Random projects and scripts: webs, included files, change files and edits that meet every control code, fault and rule
+of spacing often, and of which some are almost right.
 
 usage: generator.py SEED
 """
@@ -10,9 +10,9 @@ from files import Roles, add
 from reading import Reading
 from tangling import Tangling
 
-# What is larger is left out: the reference holds all of it at once, and a web can be small and its C not. A file that
-# includes itself twice has a thousand times its lines; an @h represents all macros, and a part that is used often may
-# hold many.
+# What is larger is left out: the reference keeps all of it in memory, and a web can be small and its C not. A file that
+# includes itself twice has a thousand times its lines; an @h represents all macros, and a name that is used often may
+# have many of them.
 MOST_LINES = 50000
 MOST_BYTES = 1 << 24
 
@@ -37,7 +37,7 @@ COMMENTS = [b'/* c */', b'/*', b'*/', b'// c', b'//', b'/* @@ */', b'/* @< x @> 
 INCLUDES = [b'#include <p.h>', b'#include <p@@q>', b'# include <p', b'#include<p@q>', b'include <x>', b' # include\t<a\\b>',
             b'#include "p"', b'#include x <y>', b'/*c*/ #include <z>', b'#@& include <w>', b'#includes <w>']
 
-# What C text is made of, each with the chance that it or one before it is taken: one of a list, the text itself, or a name.
+# What C text is made of, each with the chance that it or one before it is drawn: one of a list, the text itself, or a name.
 WILD = [(.30, WORDS), (.45, SIGNS), (.62, SPACES), (.72, None), (.77, QUOTED), (.82, CONSTANTS), (.87, CONTROL_TEXTS),
         (.91, COMMENTS), (.94, INCLUDES), (.955, b'@&'), (.965, b'@h'), (1, CODES)]
 
@@ -70,7 +70,7 @@ def wild_text(chance, most):
 
 
 def tame_text(chance, most):
-    """C text without a code that ends a part."""
+    """C text without a control code that ends a part."""
     made = b''
     for _ in range(chance.randint(0, most)):
         drawn = chance.random()
@@ -281,10 +281,10 @@ def script(seed, edits=12):
     command. Each script sets the marks and has a list."""
     project, chance = Project(seed, edits), random.Random(seed * 7 + 1)
     lists = random.Random(seed * 11 + 5)
-    place = lists.randrange(edits)
+    at = lists.randrange(edits)
     lines, names = [], [name for name, _ in project.files] + [b'h.h', b'a.c', b'x@y']
     for number, edit in enumerate(project.edits):
-        if number == place:
+        if number == at:
             lines += list_lines(lists)
         if chance.random() < .10:
             lines.append(chance.choice([b'begin', b'begin', b'commit', b'cancel']))

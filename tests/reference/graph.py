@@ -24,7 +24,7 @@ class Graph:
         for node in self.nodes:
             for used in self.uses[node]:
                 self.users[used].append(node)
-        self._find_circles()
+        self._find_cycles()
         self.weight, self.depth = {}, {}
         for node in self.used_first:
             self._measure(node)
@@ -41,7 +41,7 @@ class Graph:
                 if item.kind == 'UseOf' and self.use(item) is not None:
                     yield self.use(item)
 
-    def _find_circles(self):
+    def _find_cycles(self):
         """Tarjan's strong components, without recursion; the nodes in an order in which used ones come first."""
         number, low, stack, on_stack = {}, {}, [], set()
         self.self_containing, self.used_first = set(), []
@@ -65,7 +65,7 @@ class Graph:
                         self._close_component(node, stack, on_stack)
                     if walk:
                         low[walk[-1][0]] = min(low[walk[-1][0]], low[node])
-        self.reaches_circle = self.reaching(self.self_containing)
+        self.reaches_cycle = self.reaching(self.self_containing)
 
     def _close_component(self, root, stack, on_stack):
         component = [stack.pop()]
@@ -87,7 +87,7 @@ class Graph:
         return found
 
     def _measure(self, node):
-        if node in self.reaches_circle:
+        if node in self.reaches_cycle:
             self.weight[node], self.depth[node] = limits.WEIGHT + 1, limits.DEPTH + 1
             return
         weight = sum(3 + sum(map(self._item_weight, piece.items)) for piece in self.pieces[node])

@@ -2,11 +2,11 @@
 
 usage: long_script.py SEED FOLDER
 
-The folder gets in/a.w, stdin, stdout, words and status. Most edits change one line of one part, as
-an author does. The others make or undo what an edit may wrongly be taken not to change: a use that
-becomes another name of the same length, or a name that is only mentioned; a part that becomes a
-file, or is defined by an abbreviation; a name that loses its only part; a cycle; a constant with
-another digit; a blank that becomes a line end; lines and sections in front of all others.
+The folder gets in/a.w, stdin, stdout, arguments and status. Most edits change one line of one piece,
+as an author does. The others make or undo what an edit may wrongly be taken not to change: a use
+that becomes one of another name of the same length, or a name that is only mentioned; a name that
+becomes a file, or is defined by an abbreviation; a name that loses its only piece; a cycle; a
+constant with another digit; a blank that becomes a line end; lines and sections before all others.
 """
 import os
 import random
@@ -67,13 +67,13 @@ class Web:
             self.lines.append(code_line(chance))
 
     def head(self, number):
-        """The line, from 1, that begins the first part of this name; None where none is left."""
+        """The line, from 1, that begins the first piece of this name; None where none is left."""
         for at, line in enumerate(self.lines, 1):
             if line.startswith(opener(number) + name_of(number)) and line.endswith(b'@>='):
                 return at
         return None
 
-    def line_of_a_part(self):
+    def line_of_a_piece(self):
         """The number of a line of C."""
         while True:
             at = self.chance.randint(1, len(self.lines))
@@ -93,7 +93,7 @@ class Web:
 
 def ordinary(web, chance):
     """A line of C is replaced, inserted or removed."""
-    drawn, at = chance.random(), web.line_of_a_part()
+    drawn, at = chance.random(), web.line_of_a_piece()
     if drawn < .7:
         return [web.make('replace', at, code_line(chance))]
     if drawn < .85:
@@ -109,7 +109,7 @@ def and_back(web, at, text):
 
 def changes_a_use(web, chance):
     """A use of a name becomes one of another name of the same length, and a mention."""
-    at = web.line_of_a_part()
+    at = web.line_of_a_piece()
     one, other = chance.sample([number for number in range(PARTS) if not is_file(number)], 2)
     made = [web.make('insert', at, b'@<%s@>' % part(one))]
     made += and_back(web, at, b'@<%s@>' % part(other))
@@ -118,7 +118,7 @@ def changes_a_use(web, chance):
 
 
 def changes_a_head(web, chance):
-    """A part becomes a file, is defined by an abbreviation, is documentation, and comes back."""
+    """A name becomes a file, is defined by an abbreviation, is documentation, and is defined again."""
     number = chance.choice([number for number in range(PARTS) if not is_file(number)])
     at = web.head(number)
     if at is None:
@@ -129,7 +129,7 @@ def changes_a_head(web, chance):
 
 
 def makes_a_cycle(web, chance):
-    """Two parts use each other, and then no longer."""
+    """Two names use each other, and then no longer."""
     one, other = chance.sample([number for number in range(PARTS) if not is_file(number)], 2)
     first = web.head(one)
     if first is None or web.head(other) is None:
@@ -143,14 +143,14 @@ def makes_a_cycle(web, chance):
 
 def changes_little(web, chance):
     """A constant has another digit; a blank becomes a line end, and a line end a blank."""
-    at = web.line_of_a_part()
+    at = web.line_of_a_piece()
     made = and_back(web, at, b"c = @'a' + @'b';") + and_back(web, at, b"c = @'a' + @'c';")
     made += and_back(web, at, b'x y') + and_back(web, at, b'xy')
     return made
 
 
 def moves_all(web, chance):
-    """Lines, sections and macros come in front of all others, and go."""
+    """Lines, sections and macros are inserted before all others, and removed."""
     text = chance.choice([b'% A line.', b'@ A section.', b'@ @d FRONT 1'])
     made = [web.make('insert', 2, text)]
     return made + [web.make('remove', 2)] if chance.random() < .8 else made

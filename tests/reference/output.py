@@ -30,7 +30,7 @@ class Writer:
         return b'\n#line %d "%s"\n' % (line, file.replace(b'\\', b'\\\\').replace(b'"', b'\\"'))
 
     def own_text(self, node):
-        """What a node's own pieces say: bytes, and between them the nodes that they use."""
+        """What is written of a node's own pieces: bytes, and between them the nodes that they use."""
         if node not in self.texts:
             made = [[]]
             for piece in self.graph.pieces[node]:
@@ -56,18 +56,18 @@ class Writer:
         """The length of a node's text, found without making it."""
         for one in self.graph.used_first:
             if one not in self.sizes and one in self.graph.expandable:
-                self.sizes[one] = sum(self.sizes[part[0]] if isinstance(part, tuple) else len(part)
-                                      for part in self.own_text(one))
+                self.sizes[one] = sum(self.sizes[each[0]] if isinstance(each, tuple) else len(each)
+                                      for each in self.own_text(one))
         return self.sizes[node]
 
     def text(self, node):
         made, ahead = [], [iter(self.own_text(node))]
         while ahead:
-            for part in ahead[-1]:
-                if isinstance(part, tuple):
-                    ahead.append(iter(self.own_text(part[0])))
+            for each in ahead[-1]:
+                if isinstance(each, tuple):
+                    ahead.append(iter(self.own_text(each[0])))
                     break
-                made.append(part)
+                made.append(each)
             else:
                 ahead.pop()
         return b''.join(made)

@@ -1,10 +1,10 @@
-"""The tokens of one C part or macro: what is at each place of the text (docs/scanning.md)."""
+"""The tokens of one C part or macro: what is at each position of the text (docs/scanning.md)."""
 import re
 from collections import namedtuple
 
 import limits
 
-# kind: White, LineEnd, Join or the name of an item; mark: the place of the line mark behind a use or @h
+# kind: White, LineEnd, Join or the name of an item; mark: the place of the line mark after a use or @h
 Token = namedtuple('Token', 'kind value at mark')
 Token.__new__.__defaults__ = (None,)
 
@@ -26,7 +26,7 @@ def lower(byte):
 
 
 class Part:
-    """The tokens from a place of a web's text on, up to what ends the part or macro, where `at` is then."""
+    """The tokens from a position of a web's text on, up to what ends the part or macro, where `at` is then."""
 
     def __init__(self, web, at, is_macro):
         self.web, self.text, self.at, self.is_macro = web, web.text, at, is_macro

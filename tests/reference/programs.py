@@ -34,7 +34,7 @@ def completed(web, change, out):
 def read_words(arguments):
     """The names of web, change file or None, and main file that the arguments of ctangle give, or None."""
     arguments = map(os.fsencode, arguments)
-    names = [word for word in arguments if len(word) < 2 or word[:1] not in (b'-', b'+')]
+    names = [argument for argument in arguments if len(argument) < 2 or argument[:1] not in (b'-', b'+')]
     if not 1 <= len(names) <= 3:
         return None
     return completed(*names + [None] * (3 - len(names)))
@@ -43,14 +43,14 @@ def read_words(arguments):
 def read_retangle(arguments):
     """The same of retangle, for arguments without help and with options written out."""
     options = {b'--change': None, b'--out': None}
-    arguments, names = [os.fsencode(word) for word in arguments], []
+    arguments, names = [os.fsencode(argument) for argument in arguments], []
     while arguments:
-        word = arguments.pop(0)
-        key, equals, value = word.partition(b'=')
+        argument = arguments.pop(0)
+        key, equals, value = argument.partition(b'=')
         if key in options and options[key] is None and (equals or arguments):
             options[key] = value if equals else arguments.pop(0)
         else:
-            names.append(word)
+            names.append(argument)
     if len(names) != 1 or names[0].startswith(b'-'):
         return None
     return completed(names[0], options[b'--change'], options[b'--out'])

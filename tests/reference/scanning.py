@@ -3,7 +3,6 @@ import re
 from bisect import bisect_right
 from collections import namedtuple
 
-import limits
 from faults import Fault
 from parts import Part, is_section_start, lower
 from spacing import macro_items, part_items
@@ -28,13 +27,13 @@ class Web:
         self.section_count = 0
         self.pieces, self.macros, self.occurrences = [], [], []
         self.has_all_macros = False
-        self.noted = []                         # (place in the text, fault)
+        self.noted = []                         # (position in the text, fault)
         self._scan()
         self.noted.sort(key=lambda noted: noted[0])
         self.faults = [fault for _, fault in self.noted]
 
     def row(self, at):
-        """The source line of a place in the text; at the end the last one."""
+        """The source line of a position in the text; at the end the last one."""
         return bisect_right(self.starts, at) - 1
 
     def place(self, at):
@@ -82,7 +81,7 @@ class Web:
             at = self._section(at + 1)
 
     def _section(self, at):
-        """Goes from behind the @ of a section start to the next one, or to the end."""
+        """Scans from after the @ of a section start: where the next one is, or the end."""
         text = self.text
         if text[at] == 42:
             at += 1

@@ -14,16 +14,16 @@ class WriterFailed(Exception):
 class Script:
     """Answers a script over a session.
 
-    reader_fails: the reader fails behind these bytes. room: the writer takes so many bytes and then
-    fails.
+    reader_fails: the reader fails after these bytes. capacity: the writer takes so many bytes and
+    then fails.
     """
 
-    def __init__(self, session, text, reader_fails=False, room=None):
-        self.session, self.room = session, room
+    def __init__(self, session, text, reader_fails=False, capacity=None):
+        self.session, self.capacity = session, capacity
         self.is_broken = reader_fails or len(text) > limits.FILE_BYTES
         self.ahead = text[:limits.FILE_BYTES].split(b'\n')[::-1]    # the next line is last
         if self.is_broken or self.ahead[0] == b'':
-            self.ahead.pop(0)                   # bytes behind the last line feed are no line, or none are there
+            self.ahead.pop(0)                   # bytes after the last line feed are no line, or none are there
         self.held = None                        # the edits of an open list
         self.written = b''
         try:
@@ -39,25 +39,25 @@ class Script:
                     break                       # neither carried out nor answered
                 text = self.ahead.pop() if self.ahead else None
             if line == b'quit':
-                self._put(b'ok\n')
+                self._write(b'ok\n')
                 return self._status()
             if line:
-                self._put(self._answer(line, text))
+                self._write(self._answer(line, text))
         return 3 if self.is_broken else self._status()
 
     def _status(self):
         return self.session.tangling.status
 
-    def _put(self, text):
-        if self.room is not None and len(self.written) + len(text) > self.room:
-            self.written = (self.written + text)[:self.room]
+    def _write(self, text):
+        if self.capacity is not None and len(self.written) + len(text) > self.capacity:
+            self.written = (self.written + text)[:self.capacity]
             raise WriterFailed()
         self.written += text
 
     def _answer(self, line, text):
         edit = self._edit(line, text)
         if edit is not None:
-            return self._take(edit)
+            return self._make_or_hold(edit)
         word, _, rest = line.partition(b' ')
         if word == b'show' and line != word:
             shown = self.session.output(rest)
@@ -85,7 +85,7 @@ class Script:
             return 'marks', 'full' if rest == b'full' else 'bare'
         return None
 
-    def _take(self, edit):
+    def _make_or_hold(self, edit):
         if self.held is not None:
             self.held.append(edit)
             return b'held\n'

@@ -1,6 +1,6 @@
 """All short webs over small alphabets, each kind aimed at one row of a table of the rules.
 
-A kind is the text in front, the alphabet, how many of its parts are put together at most, and the text behind.
+A kind is the text before, the alphabet, how many of its members are put together at most, and the text after.
 """
 import random
 
@@ -29,7 +29,7 @@ KINDS = {
     'include_name': (b'@ @c\n#include <', [b'>', b'\\', b'@', b'a', b'\n', b'"', b' '], 4, b''),
     'include_before': (b'@ @c\n', [b'#', b' ', b'include', b'<a>', b'/*x*/', b'/*\n*/', b'@&', b'@,', b'\n', b'@@',
                        b'@h', b'x', b'@<n@>', b'@d', b"@'ab'"], 3, b'<b>'),
-    'include_behind_sign': (b'@ @c\n#', [b' ', b'include', b'Include', b'/*x*/', b'/*\n*/', b'@&', b'@^i@>', b'\n',
+    'include_after_sign': (b'@ @c\n#', [b' ', b'include', b'Include', b'/*x*/', b'/*\n*/', b'@&', b'@^i@>', b'\n',
                             b'@@', b'@h', b'\t', b'@=v@>', b"@'a'", b'#'], 3, b'include<b@>'),
     'verbatim': (b'@ @c\na@=', [b'@', b'>', b'=', b'a', b'\n', b' ', b'"'], 4, b'@>b'),
     'comment': (b'@ @c\na/*', [b'*', b'/', b'@', b' ', b'\n', b'a'], 4, b'*/b'),
@@ -51,14 +51,14 @@ KINDS = {
     'head_over_lines': (b'@ @<a\nb@>', [b' ', b'+', b'=', b'@', b'\n'], 4, b'=y'),
     'macro_format': (b'@ @d N @f', [b'"', b'@h', b'@c', b'/*', b' ', b'a', b'\n', b'@s', b'@d', b'@<x'], 3, b''),
     'macro_h': (b'@ @d N', [b'@h', b'a', b'"s"', b' ', b'@,', b'@&', b'\n'], 3, b''),
-    'macro_h_behind': (b'@ @d N x', [b'@h', b'a', b'"s"', b' ', b'@,', b'@&', b'\n'], 3, b''),
-    'include_behind_word': (b'@ @c\nx', [b'\n', b'/*\n*/', b'/* */', b'@&', b'@,', b'@^i@>', b'@^\n@>', b' ',
+    'macro_h_after': (b'@ @d N x', [b'@h', b'a', b'"s"', b' ', b'@,', b'@&', b'\n'], 3, b''),
+    'include_after_word': (b'@ @c\nx', [b'\n', b'/*\n*/', b'/* */', b'@&', b'@,', b'@^i@>', b'@^\n@>', b' ',
                             b'@h', b'@@', b'//', b'"s"'], 2, b'#include <b>'),
     'include_first': (b'@ @c\n', [b'\n', b'/*\n*/', b'/* */', b'@&', b'@,', b'@^i@>', b'@^\n@>', b' ', b'@h',
                       b'@@', b'@d', b"@'ab'"], 2, b'#include <b>'),
-    'include_behind_number_sign': (b'@ @c\n#', [b'\n', b'/*\n*/', b'/* */', b'@&', b'@,', b'@^i@>', b'@^\n@>',
+    'include_after_number_sign': (b'@ @c\n#', [b'\n', b'/*\n*/', b'/* */', b'@&', b'@,', b'@^i@>', b'@^\n@>',
                                    b' ', b'@h', b'@@', b'@d', b"@'ab'"], 2, b'include <b>'),
-    'include_behind_include': (b'@ @c\n#include', [b'\n', b'/*\n*/', b'/* */', b'@&', b'@,', b'@^i@>', b'@^\n@>',
+    'include_after_include': (b'@ @c\n#include', [b'\n', b'/*\n*/', b'/* */', b'@&', b'@,', b'@^i@>', b'@^\n@>',
                                b' ', b'@h', b'@@', b'@d', b"@'ab'"], 2, b'<b>'),
     'include_in_macro': (b'@ @d N\n', [b'\n', b'/*\n*/', b'/* */', b'@&', b'@,', b'@^i@>', b'@^\n@>', b' ', b'@h',
                          b'@@', b'x', b"@'ab'"], 2, b'#include <b>'),
@@ -81,8 +81,8 @@ def web(kind, number):
         number -= len(alphabet) ** size
     middle = []
     for _ in range(size):
-        number, part = divmod(number, len(alphabet))
-        middle.append(alphabet[part])
+        number, member = divmod(number, len(alphabet))
+        middle.append(alphabet[member])
     return front + b''.join(middle) + back
 
 

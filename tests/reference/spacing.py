@@ -17,18 +17,18 @@ def part_items(tokens, web, opening):
 
 
 def with_spaces(tokens, is_macro):
-    """White space between words and constants that touch, and behind a macro's name."""
+    """White space between words and constants that touch, and after a macro's name."""
     made, has_name = [], not is_macro
-    for token, behind in zip(tokens, list(tokens[1:]) + [None]):
+    for token, after in zip(tokens, list(tokens[1:]) + [None]):
         is_name = not has_name and token.kind not in SPACE + ('Join',)
         has_name = has_name or is_name
         made.append(token)
-        if behind is None:
+        if after is None:
             break
-        kinds = (token.kind, behind.kind)
+        kinds = (token.kind, after.kind)
         touch = kinds in (('Word', 'Code'), ('Code', 'Word'), ('Code', 'Code'))
-        if touch or (is_name and behind.kind not in SPACE + ('Join',) and behind.value != b'('):
-            made.append(Token('White', None, behind.at))
+        if touch or (is_name and after.kind not in SPACE + ('Join',) and after.value != b'('):
+            made.append(Token('White', None, after.at))
     return made
 
 

@@ -44,7 +44,7 @@ class Tangling:
 
     def _is_too_large(self, node):
         graph = self.graph
-        return bool(graph.pieces[node]) and node not in graph.reaches_circle and node not in graph.expandable
+        return bool(graph.pieces[node]) and node not in graph.reaches_cycle and node not in graph.expandable
 
     def outputs(self):
         """The name and node of each output file, in order; the main file's node may have no piece."""

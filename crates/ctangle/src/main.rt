@@ -9,8 +9,8 @@ use std::mem::forget;
 use std::process::ExitCode;
 use tangle_lines::Sink;
 
-// Runs `ctangle`, and gives its status. With an argument that is not UTF-8 it has no arguments, and
-// reports its usage.
+// Runs `ctangle`, and returns its status. With an argument that is not UTF-8 it has no arguments,
+// and reports its usage.
 fn run<E: Sink>(rt: &HostRuntime, err: &mut E) -> u8 {
     let arguments = match command_line(rt) {
         Ok(arguments) => arguments,
@@ -24,8 +24,8 @@ fn run<E: Sink>(rt: &HostRuntime, err: &mut E) -> u8 {
     }
 }
 
-// Runs `ctangle` with these arguments. The program ends behind the run, which frees the session's
-// memory at once: it is not taken apart before.
+// Runs `ctangle` with these arguments. The program ends after the run, which frees the session's
+// memory at once: so the session is not dropped.
 fn run_arguments<E: Sink>(rt: &HostRuntime, arguments: &[&[u8]], err: &mut E) -> u8 {
     let Ended { status, session } = run_keeping_session(
         rt.alloc(),

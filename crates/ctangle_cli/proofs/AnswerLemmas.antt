@@ -1,4 +1,4 @@
--- Answers to the requests of a script: a text in several parts, and what came of an edit or a list.
+-- Answers to the requests of a script: bytes written one after another, and the answer to an edit or a list.
 use Rattle.std.proofs.Common.{◌≡◌, ◌⊎◌, inl, inr, ℕ, true, false, List, [], ◌++◌, Option, None, Some, Result, Ok, Err, ap, subst, sym, refl, length, codes}
 use Rattle.std.specs.Prelude.{IfNone, IfSome, IsOkUnless, OnErr, OnOk, is_some}
 use Rattle.std.specs.Global.{Global}
@@ -14,26 +14,26 @@ use Rattle.tangle_files.specs.declared.refusal.Refusal.TheVariants.{BadName, Fil
 use Rattle.tangle_files.specs.declared.refusal.Refusal.TheVariants.{NoSuchLine, BadLine, NoWeb, NoChange, RoleFile, NoOutput, WriteFault}
 use Rattle.tangle_script.specs.Requests.{is_edit}
 use Rattle.tangle_script.specs.Requests.Request.{Begin, Commit, Cancel}
-use Rattle.tangle_script.specs.Script.{Replies, WritesText}
+use Rattle.tangle_script.specs.Script.{Replies, WritesAnswer}
 use Rattle.tangle_session.specs.Edits.{list_memory, list_refusal, session_refusal}
 use Rattle.tangle_session.specs.Files.{web_at}
 use Rattle.tangle_session.specs.Sessions.{AreMade, ListsAffectedOfWebs, SessionRead}
 use Rattle.tangle_session.specs.Writes.{WritesOut}
 use Rattle.tangle_session.specs.declared.refusing.ListRefusal.{ListRefusal}
-use Rattle.ctangle_cli.specs.Conversation.{AnswersIn, AnswersList, ConversationRead, answers, in_conversation, list_line, list_refused_line}
+use Rattle.ctangle_cli.specs.Conversation.{AnswersIn, AnswersList, SessionAndDraft, answers, session_and_draft, list_line, list_refused_line}
 use Rattle.ctangle_cli.specs.Conversation.{refused_line, request_for, shown}
 use Rattle.ctangle_cli.specs.Conversation.AnswersEdit.{IsRefused}
 use Rattle.ctangle_cli.specs.Conversation.AnswersList.{IsListMade, IsListRefused, IsListOutOfMemory}
-use Rattle.ctangle_cli.specs.Messages.{TakesAll, TakesFront}
+use Rattle.ctangle_cli.specs.Messages.{TakesAll, TakesPrefix}
 use Rattle.ctangle_cli.proofs.RunLemmas.{whole_then_cut, whole_then_whole}
 
--- bytes after a text that was written so far
-module _ {T E : Type 0} (old now new : Stream) (text bytes : List ℕ) (so_far : Result T E) (x : T) (is : so_far ≡ Ok x) (h : WritesText old now text so_far) where
-  pub then_all : TakesAll now new bytes → TakesAll old new (text ++ bytes)
-  then_all k = whole_then_whole old now new text bytes (subst (WritesText old now text) is h) k
+-- bytes after the output so far
+module _ {T E : Type 0} (old now new : Stream) (output bytes : List ℕ) (so_far : Result T E) (x : T) (is : so_far ≡ Ok x) (h : WritesAnswer old now output so_far) where
+  pub then_all : TakesAll now new bytes → TakesAll old new (output ++ bytes)
+  then_all k = whole_then_whole old now new output bytes (subst (WritesAnswer old now output) is h) k
 
-  pub then_front : TakesFront now new bytes → TakesFront old new (text ++ bytes)
-  then_front k = whole_then_cut old now new text bytes (subst (WritesText old now text) is h) k
+  pub then_front : TakesPrefix now new bytes → TakesPrefix old new (output ++ bytes)
+  then_front k = whole_then_cut old now new output bytes (subst (WritesAnswer old now output) is h) k
 
 pub none_is_shown : (name : List ℕ) (found : Option (List ℕ)) → None ≡ option_map length found → shown name found ≡ codes "no NoOutput\n"
 none_is_shown name None e = refl
@@ -43,18 +43,18 @@ pub some_has_bytes : (found : Option (List ℕ)) (size : ℕ) → Some size ≡ 
 some_has_bytes None size e = absurd (cc)
 some_has_bytes (Some bytes) size e = let same : size ≡ length bytes = cc in (bytes, refl, sym same)
 
-answers_edit : (s t : ConversationRead) (made : Edit) (text : List ℕ) → AnswersIn s.draft s made text t → answers s (request_for made) text t
-answers_edit s t (Insert file at line) text h = (Insert file at line, refl, h)
-answers_edit s t (Replace file at line) text h = (Replace file at line, refl, h)
-answers_edit s t (Remove file at) text h = (Remove file at, refl, h)
-answers_edit s t (Create file) text h = (Create file, refl, h)
-answers_edit s t (Discard file) text h = (Discard file, refl, h)
-answers_edit s t (Marks Full) text h = (Marks Full, refl, h)
-answers_edit s t (Marks Bare) text h = (Marks Bare, refl, h)
+answers_edit : (s t : SessionAndDraft) (made : Edit) (output : List ℕ) → AnswersIn s.draft s made output t → answers s (request_for made) output t
+answers_edit s t (Insert file at text) output h = (Insert file at text, refl, h)
+answers_edit s t (Replace file at text) output h = (Replace file at text, refl, h)
+answers_edit s t (Remove file at) output h = (Remove file at, refl, h)
+answers_edit s t (Create file) output h = (Create file, refl, h)
+answers_edit s t (Discard file) output h = (Discard file, refl, h)
+answers_edit s t (Marks Full) output h = (Marks Full, refl, h)
+answers_edit s t (Marks Bare) output h = (Marks Bare, refl, h)
 
 asks_for_edit : (made : Edit) → is_edit (request_for made) ≡ true
-asks_for_edit (Insert file at line) = refl
-asks_for_edit (Replace file at line) = refl
+asks_for_edit (Insert file at text) = refl
+asks_for_edit (Replace file at text) = refl
 asks_for_edit (Remove file at) = refl
 asks_for_edit (Create file) = refl
 asks_for_edit (Discard file) = refl
@@ -68,7 +68,7 @@ Same a b = a ≡ b
 pub refused_now : (s t : SessionRead) (d : Option (Vec Edit Global)) (made : Edit) (refusal : Refusal) → d ≡ None
     → IfSome (session_refusal s.files s.roles made) (λ other. Same (Err refusal) (Err other))
     → IfNone (session_refusal s.files s.roles made) (refusal ≡ NoMemory) → t ≡ s
-    → Replies answers (in_conversation s d) (request_for made) (refused_line refusal) (in_conversation t d)
+    → Replies answers (session_and_draft s d) (request_for made) (refused_line refusal) (session_and_draft t d)
 refused_now s t d made refusal none refused only stays =
     rw none (by (session_refusal s.files s.roles made) refl refused only)
   where
@@ -81,24 +81,24 @@ refused_now s t d made refusal none refused only stays =
 
 -- lists that are opened, made and dropped
 
-pub bad_begin : (session : SessionRead) (d : Option (Vec Edit Global)) → is_some d ≡ true → answers (in_conversation session d) Begin (codes "no BadCommand\n") (in_conversation session d)
+pub bad_begin : (session : SessionRead) (d : Option (Vec Edit Global)) → is_some d ≡ true → answers (session_and_draft session d) Begin (codes "no BadCommand\n") (session_and_draft session d)
 bad_begin session None h = absurd (cc)
 bad_begin session (Some held) h = (refl, refl)
 
 pub begun : (session : SessionRead) (d : Option (Vec Edit Global)) (empty : Vec Edit Global) → is_some d ≡ false → empty.items ≡ []
-    → answers (in_conversation session d) Begin (codes "ok\n") (in_conversation session (Some empty))
+    → answers (session_and_draft session d) Begin (codes "ok\n") (session_and_draft session (Some empty))
 begun session None empty h e = (refl, ap (λ l. record { session = session; draft = Some l }) e)
 begun session (Some held) empty h e = absurd (cc)
 
-pub bad_cancel : (session : SessionRead) (d : Option (Vec Edit Global)) → is_some d ≡ false → answers (in_conversation session d) Cancel (codes "no BadCommand\n") (in_conversation session d)
+pub bad_cancel : (session : SessionRead) (d : Option (Vec Edit Global)) → is_some d ≡ false → answers (session_and_draft session d) Cancel (codes "no BadCommand\n") (session_and_draft session d)
 bad_cancel session None h = (refl, refl)
 bad_cancel session (Some held) h = absurd (cc)
 
-pub cancelled : (session : SessionRead) (d : Option (Vec Edit Global)) → is_some d ≡ true → answers (in_conversation session d) Cancel (codes "ok\n") (in_conversation session None)
+pub cancelled : (session : SessionRead) (d : Option (Vec Edit Global)) → is_some d ≡ true → answers (session_and_draft session d) Cancel (codes "ok\n") (session_and_draft session None)
 cancelled session None h = absurd (cc)
 cancelled session (Some held) h = (refl, refl)
 
-pub bad_commit : (session : SessionRead) (d : Option (Vec Edit Global)) → d ≡ None → answers (in_conversation session d) Commit (codes "no BadCommand\n") (in_conversation session None)
+pub bad_commit : (session : SessionRead) (d : Option (Vec Edit Global)) → d ≡ None → answers (session_and_draft session d) Commit (codes "no BadCommand\n") (session_and_draft session None)
 bad_commit session d none = rw none (refl, refl)
 
 made_whole : (s t : SessionRead) (made : List Edit) (done : Result (Unit {0}) ListRefusal) → OnOk done (t.files ≡ edited_all s.files made)
@@ -123,12 +123,12 @@ list_answered s t made done files roles work refused only stays =
       | inr h ↦ (let same : r ≡ list_memory = cc in IsListOutOfMemory (ap list_refused_line same) k)
     ]
 
-pub committed : (s t : SessionRead) (d : Option (Vec Edit Global)) (held : Vec Edit Global) (text : List ℕ) → d ≡ Some held → AnswersList s held.items text t
-    → answers (in_conversation s d) Commit text (in_conversation t None)
-committed s t d held text some h = rw some (h, refl)
+pub committed : (s t : SessionRead) (d : Option (Vec Edit Global)) (held : Vec Edit Global) (output : List ℕ) → d ≡ Some held → AnswersList s held.items output t
+    → answers (session_and_draft s d) Commit output (session_and_draft t None)
+committed s t d held output some h = rw some (h, refl)
 
 -- an output that was not written whole
-pub output_is_cut : (a b : Stream) (bytes : List ℕ) (refusal : Refusal) → WritesOut a b bytes (Err refusal) → TakesFront a b bytes
+pub output_is_cut : (a b : Stream) (bytes : List ℕ) (refusal : Refusal) → WritesOut a b bytes (Err refusal) → TakesPrefix a b bytes
 output_is_cut a b bytes (WriteFault n) h = (n, h.0, h.1, h.2)
 output_is_cut a b bytes BadName h = absurd h
 output_is_cut a b bytes FileExists h = absurd h

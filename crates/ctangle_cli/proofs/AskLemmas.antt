@@ -17,13 +17,13 @@ use Rattle.tangle_files.specs.declared.refusal.Refusal.{Refusal}
 use Rattle.tangle_files.specs.Lines.{FileTable, cut}
 use Rattle.tangle_files.specs.Adding.{add_refusal, has_file, with_file}
 use Rattle.tangle_files.specs.Roles.{RolesRead}
-use Rattle.tangle_folders.specs.Folder.{File, file_limit, with_asked}
-use Rattle.ctangle_cli.specs.Asking.{AsksForAll, AsksOnce, IsNeeded}
+use Rattle.tangle_folders.specs.Folder.{File, file_limit, with_name_added}
+use Rattle.ctangle_cli.specs.AskedOnce.{AsksForNeeded, AsksOnce, IsNeeded}
 use Rattle.ctangle_cli.specs.Tries.{AsksOn, IsTriedIn, RoundsOnce, StopsAsking, Tries, TriesAll, TriesOnce, TriesSince, TriesStay, is_tried}
-use Rattle.ctangle_cli.specs.Questions.{named_in}
+use Rattle.ctangle_cli.specs.AskedNames.{named_in}
 use Rattle.tangle_faults.specs.Faults.{FaultRead}
 use Rattle.ctangle_cli.specs.Loading.{Grows, Loaded, and_then, is_missing_kind, missed_in, with_inclusion, with_inclusions, add_bytes, missing_of, unless_refused}
-use Rattle.ctangle_cli.specs.Loading.LoadEnd.{Unreadable}
+use Rattle.ctangle_cli.specs.Loading.LoadEnd.{CannotRead}
 use Rattle.ctangle_cli.proofs.LoadLemmas.{has_any, list_any-map}
 
 pub or_false : (b : Bool) → (b || false) ≡ b
@@ -54,7 +54,7 @@ has_with files name bytes other =
 pub added : (files next : FileTable) (name bytes : List ℕ) → add_bytes files name bytes ≡ Ok next → with_file files name bytes ≡ next
 added files next name bytes e = by (nat_lt file_limit (length bytes)) (add_refusal files name bytes) e
   where
-    by : (b : Bool) (o : Option Refusal) → cond b (Err (Unreadable name)) (unless_refused files name bytes o) ≡ Ok next → with_file files name bytes ≡ next
+    by : (b : Bool) (o : Option Refusal) → cond b (Err (CannotRead name)) (unless_refused files name bytes o) ≡ Ok next → with_file files name bytes ≡ next
     by true o e = absurd (cc)
     by false (Some r) e = absurd (cc)
     by false None e = cc
@@ -79,35 +79,35 @@ pub tries_absent : (asked asked' : Option (List (List ℕ))) (files : FileTable)
 tries_absent asked asked' files absent absent' name holds other =
     ap (λ b. has_file files other || b) (holds other) ∙ or_assoc (has_file files other) (list_any (bytes_eq other) absent) (bytes_eq other name)
 
-pub behind_more : (names asked : List (List ℕ)) (old new : Option (List (List ℕ))) (name : List ℕ) → old ≡ Some (names ++ asked) → new ≡ with_asked old name
+pub after_more : (names asked : List (List ℕ)) (old new : Option (List (List ℕ))) (name : List ℕ) → old ≡ Some (names ++ asked) → new ≡ with_name_added old name
     → new ≡ Some (names ++ (asked ++ name ∷ []))
-behind_more names asked old new name is e = e ∙ ap (λ o. with_asked o name) is ∙ ap (λ l. Some l) (append_assoc names asked (name ∷ []))
+after_more names asked old new name is e = e ∙ ap (λ o. with_name_added o name) is ∙ ap (λ l. Some l) (append_assoc names asked (name ∷ []))
 
 -- the folder was asked for this name
-pub asks_this : (old new : Tries) (name : List ℕ) → is_tried old name ≡ false → new.asked ≡ with_asked old.asked name → TriesThis old new name → AsksOn old new (name ∷ [])
+pub asks_this : (old new : Tries) (name : List ℕ) → is_tried old name ≡ false → new.asked ≡ with_name_added old.asked name → TriesThis old new name → AsksOn old new (name ∷ [])
 asks_this old new name fresh asks this None needed among before = tt
 asks_this old new name fresh asks this (Some names) needed among before = record {
   asked = before.asked ++ name ∷ [];
-  behind = behind_more names before.asked old.asked new.asked name before.behind asks;
+  after = after_more names before.asked old.asked new.asked name before.after asks;
   once = IsDistinct-push nat_list_eq_equiv before.asked name before.once (before.same name ∙ fresh);
   same = λ other. list_any-append (bytes_eq other) before.asked (name ∷ []) ∙ ap (λ b. b || (bytes_eq other name || false)) (before.same other)
       ∙ ap (λ b. is_tried old other || b) (or_false (bytes_eq other name)) ∙ sym (this other);
   only = All-append (Contains needed) before.asked (name ∷ []) before.only among;
 }
 
-pub stops_at : (old : Tries) (asked : Option (List (List ℕ))) (name : List ℕ) → is_tried old name ≡ false → asked ≡ with_asked old.asked name → StopsAsking old asked
+pub stops_at : (old : Tries) (asked : Option (List (List ℕ))) (name : List ℕ) → is_tried old name ≡ false → asked ≡ with_name_added old.asked name → StopsAsking old asked
 stops_at old asked name fresh asks None needed before = tt
 stops_at old asked name fresh asks (Some names) needed before = record {
   asked = before.asked ++ name ∷ [];
-  behind = behind_more names before.asked old.asked asked name before.behind asks;
+  after = after_more names before.asked old.asked asked name before.after asks;
   once = IsDistinct-push nat_list_eq_equiv before.asked name before.once (before.same name ∙ fresh);
 }
 
 pub stops_here : (old : Tries) (asked : Option (List (List ℕ))) → asked ≡ old.asked → StopsAsking old asked
 stops_here old asked same None needed before = tt
-stops_here old asked same (Some names) needed before = record { asked = before.asked; behind = same ∙ before.behind; once = before.once }
+stops_here old asked same (Some names) needed before = record { asked = before.asked; after = same ∙ before.after; once = before.once }
 
-pub stops_short : (old : Tries) (asked : Option (List (List ℕ))) (name : List ℕ) → is_tried old name ≡ false → (asked ≡ old.asked) ⊎ (asked ≡ with_asked old.asked name) → StopsAsking old asked
+pub stops_short : (old : Tries) (asked : Option (List (List ℕ))) (name : List ℕ) → is_tried old name ≡ false → (asked ≡ old.asked) ⊎ (asked ≡ with_name_added old.asked name) → StopsAsking old asked
 stops_short old asked name fresh which = elim which [ inl e ↦ stops_here old asked e | inr e ↦ stops_at old asked name fresh e ]
 
 pub untried : (a b : Bool) → a ≡ false → b ≡ false → (a || b) ≡ false
@@ -218,7 +218,7 @@ this_needed files next roles name g c =
 needed_more : (names : List (List ℕ)) (now : Tries) (few more : List (List ℕ)) → TriesSince names now few → TriesSince names now (few ++ more)
 needed_more names now few more t = record {
   asked = t.asked;
-  behind = t.behind;
+  after = t.after;
   once = t.once;
   same = t.same;
   only = All-weaker (Contains few) (Contains (few ++ more)) (λ name c. Contains-append_left few more name c) t.asked t.only;
@@ -254,11 +254,11 @@ tried_asked : (names : List (List ℕ)) (now : Tries) (needed : List (List ℕ))
 tried_asked names now needed name t e = Contains-from_any (λ x y same. (bytes_eq-Decides x y).0 same) name t.asked (t.same name ∙ e)
 
 pub last_asks : (before : Option (List (List ℕ))) (old now : Tries) (roles : RolesRead) (missed : List (List ℕ)) → missed ≡ missing_of old.files roles → now.files ≡ old.files → TriesAll old now missed
-    → RoundsOnce before now roles → AsksForAll before now.asked now.files roles
+    → RoundsOnce before now roles → AsksForNeeded before now.asked now.files roles
 last_asks None old now roles missed is stays done r = tt
 last_asks (Some names) old now roles missed is stays done r = record {
   asked = r.2.asked;
-  behind = r.2.behind;
+  after = r.2.after;
   once = r.2.once;
   needed = All-weaker (Contains r.0) (IsNeeded now.files roles) (λ name c. All-contains (IsNeeded now.files roles) r.0 name r.1 c) r.2.asked r.2.only;
   loaded = λ name e. tried_asked names now r.0 name r.2 (or_left (has_file now.files name) (list_any (bytes_eq name) now.absent) e);
@@ -269,7 +269,7 @@ last_asks (Some names) old now roles missed is stays done r = record {
 nothing_asked : (before : Option (List (List ℕ))) (needed : List (List ℕ)) → TriesOnce before (record { asked = before; files = []; absent = [] }) needed
 unfolding IsDistinct
 nothing_asked None needed = tt
-nothing_asked (Some names) needed = record { asked = []; behind = ap (λ l. Some l) (sym (append-nil names)); once = tt; same = λ name. refl; only = All-nil (Contains needed) }
+nothing_asked (Some names) needed = record { asked = []; after = ap (λ l. Some l) (sym (append-nil names)); once = tt; same = λ name. refl; only = All-nil (Contains needed) }
 
 roles_needed : (files : FileTable) (roles : RolesRead) (change : Option (List ℕ)) → roles.change ≡ change → All (IsNeeded files roles) (roles.web ∷ named_in change)
 roles_needed files roles None is = All-cons (IsNeeded files roles) roles.web [] (inl refl) (All-nil (IsNeeded files roles))
@@ -295,6 +295,6 @@ roles_asked before mid now roles first second =
 pub none_asked : (before : Option (List (List ℕ))) → AsksOnce before before
 none_asked before = first_stops before before (stops_here (record { asked = before; files = []; absent = [] }) before refl)
 
-pub asked_once : (before now : Option (List (List ℕ))) (files : FileTable) (roles : RolesRead) → AsksForAll before now files roles → AsksOnce before now
+pub asked_once : (before now : Option (List (List ℕ))) (files : FileTable) (roles : RolesRead) → AsksForNeeded before now files roles → AsksOnce before now
 asked_once None now files roles a = tt
-asked_once (Some names) now files roles a = record { asked = a.asked; behind = a.behind; once = a.once }
+asked_once (Some names) now files roles a = record { asked = a.asked; after = a.after; once = a.once }

@@ -3,12 +3,12 @@ mod LoadLemmas
 mod NameLemmas
 mod OrderLemmas
 mod MissingLemmas
-mod Quiet
+mod NothingDone
 mod RunLemmas
 mod WriteLemmas
 mod WorkedWebs
 mod RetangleLemmas
 mod WorkedArguments
 mod AnswerLemmas
-mod SettledLemmas
+mod NoMissingLemmas
 mod HistoryLemmas

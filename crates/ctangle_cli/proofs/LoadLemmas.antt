@@ -11,14 +11,14 @@ use Rattle.std.proofs.lemmas.Bool.{ne_eqb, eq-eqb, eqb-false, lt-ltb}
 use Rattle.std.specs.declared.vec.Vec.{Vec}
 use Rattle.std.specs.Global.{Global}
 use Rattle.tangle_files.specs.declared.refusal.Refusal.{Refusal}
-use Rattle.tangle_files.specs.declared.refusal.Refusal.TheVariants.{NoMemory as NoRoom}
+use Rattle.tangle_files.specs.declared.refusal.Refusal.TheVariants.{NoMemory as RefusalMemory}
 use Rattle.tangle_files.specs.Lines.{FileTable, cut, file_number, lines_of}
 use Rattle.tangle_files.specs.Adding.{add_refusal, with_file, has_file, is_name}
 use Rattle.tangle_files.specs.Roles.{RolesRead, has_file_if_any, fits}
 use Rattle.tangle_streams.specs.Streams.{Failed}
-use Rattle.tangle_folders.specs.Folder.{File, Reads, file_bytes, file_limit, with_asked}
+use Rattle.tangle_folders.specs.Folder.{File, IsFileAnswer, file_bytes, file_limit, with_name_added}
 use Rattle.ctangle_cli.specs.Loading.{AreAbsent, missing_of, LoadEnd, Grows, IsLoadEnd, Loaded, LoadsTo, StopsFor, NamesLastAsked, add_bytes, add_present, after_round, and_then, refused_as, rounds_from, rounds_in, bad_name, load_of, load_unless, unless_refused, with_inclusion, with_inclusions, with_round, with_needed}
-use Rattle.ctangle_cli.specs.Loading.LoadEnd.{Unreadable, Refuses, Memory}
+use Rattle.ctangle_cli.specs.Loading.LoadEnd.{CannotRead, Refused, NoMemory}
 
 -- lack of memory is no claim
 pub stops_given : (reported : Option (List File)) (loads : List File → Loaded) (f g : ℕ) (needed given : LoadEnd)
@@ -37,19 +37,19 @@ err_along (Some all) these those e same h = same e h
 
 pub stops_along : (reported : Option (List File)) (these those : List File → Loaded) (f g h : ℕ) (e : LoadEnd)
     → g ≡ f → IfSome reported (λ all. (e : LoadEnd) → these all ≡ Err e → those all ≡ Err e) → StopsFor reported these g h e → StopsFor reported those f h e
-stops_along reported these those f g h (Unreadable name) unfailed same stops =
+stops_along reported these those f g h (CannotRead name) unfailed same stops =
     elim stops [
-      | inl p ↦ inl (err_along reported these those (Unreadable name) same p.0, p.1 ∙ unfailed)
+      | inl p ↦ inl (err_along reported these those (CannotRead name) same p.0, p.1 ∙ unfailed)
       | inr p ↦ inr (subst (λ n. Failed n h) unfailed p)
     ]
-stops_along reported these those f g h (Refuses name refusal) unfailed same stops =
-    (err_along reported these those (Refuses name refusal) same stops.0, stops.1 ∙ unfailed)
-stops_along reported these those f g h Memory unfailed same stops = tt
+stops_along reported these those f g h (Refused name refusal) unfailed same stops =
+    (err_along reported these those (Refused name refusal) same stops.0, stops.1 ∙ unfailed)
+stops_along reported these those f g h NoMemory unfailed same stops = tt
 
 -- a refusal of the table
 pub stops_refused : (reported : Option (List File)) (n : ℕ) (name : List ℕ) (loads : Loaded) (refusal : Refusal)
-    → loads ≡ Err (Refuses name refusal) → StopsFor reported (λ _. loads) n n (refused_as name refusal)
-stops_refused reported n name loads NoRoom e = tt
+    → loads ≡ Err (Refused name refusal) → StopsFor reported (λ _. loads) n n (refused_as name refusal)
+stops_refused reported n name loads RefusalMemory e = tt
 stops_refused None n name loads refusal e = (tt, refl)
 stops_refused (Some all) n name loads refusal e = (e, refl)
 
@@ -58,7 +58,7 @@ within_limit : (files : FileTable) (name bytes : List ℕ) → length bytes ≤ 
 within_limit files name bytes h = by (nat_lt file_limit (length bytes)) refl
   where
     by : (b : Bool) → nat_lt file_limit (length bytes) ≡ b
-        → cond b (Err (Unreadable name)) (unless_refused files name bytes (add_refusal files name bytes)) ≡ unless_refused files name bytes (add_refusal files name bytes)
+        → cond b (Err (CannotRead name)) (unless_refused files name bytes (add_refusal files name bytes)) ≡ unless_refused files name bytes (add_refusal files name bytes)
     by false e = refl
     by true e = absurd (omega (arith, ltb-true file_limit (length bytes) e))
 
@@ -67,15 +67,15 @@ failed refusal = Err refusal
 
 pub refused_bytes : (T : Type 0) (reported : Option (List File)) (n : ℕ) (files : FileTable) (name bytes : List ℕ) (refusal : Refusal) (o : Option Refusal)
     → o ≡ add_refusal files name bytes → length bytes ≤ file_limit
-    → IfSome o (λ e. failed {T = T} refusal ≡ Err e) → IfNone o (IsOkUnless (failed {T = T} refusal) NoRoom)
+    → IfSome o (λ e. failed {T = T} refusal ≡ Err e) → IfNone o (IsOkUnless (failed {T = T} refusal) RefusalMemory)
     → StopsFor reported (λ _. add_bytes files name bytes) n n (refused_as name refusal)
 refused_bytes T reported n files name bytes refusal None is fits some none = subst (λ r. StopsFor reported (λ _. add_bytes files name bytes) n n (refused_as name r)) (sym none) tt
 refused_bytes T reported n files name bytes refusal (Some e) is fits some none =
     let same : refusal ≡ e = cc in
-    stops_refused reported n name (add_bytes files name bytes) refusal (within_limit files name bytes fits ∙ ap (unless_refused files name bytes) (sym is) ∙ ap (λ r. Err (Refuses name r)) (sym same))
+    stops_refused reported n name (add_bytes files name bytes) refusal (within_limit files name bytes fits ∙ ap (unless_refused files name bytes) (sym is) ∙ ap (λ r. Err (Refused name r)) (sym same))
 
 -- the bytes that a folder gave are those that it has
-pub needed_bytes : (reported : Option (List File)) (files : FileTable) (name : List ℕ) (bytes : Vec ℕ Global) → Reads reported name (Ok bytes)
+pub needed_bytes : (reported : Option (List File)) (files : FileTable) (name : List ℕ) (bytes : Vec ℕ Global) → IsFileAnswer reported name (Ok bytes)
     → IfSome reported (λ all. (e : LoadEnd) → add_bytes files name bytes.items ≡ Err e → with_needed all files name ≡ Err e)
 needed_bytes None files name bytes h = tt
 needed_bytes (Some all) files name bytes h = λ e stop. rw h stop
@@ -85,7 +85,7 @@ chosen false true files x a b = refl
 chosen true n files x a b = absurd (cc)
 chosen false false files x a b = absurd (cc)
 
-pub included_bytes : (reported : Option (List File)) (files : FileTable) (name : List ℕ) (bytes : Vec ℕ Global) → Reads reported name (Ok bytes)
+pub included_bytes : (reported : Option (List File)) (files : FileTable) (name : List ℕ) (bytes : Vec ℕ Global) → IsFileAnswer reported name (Ok bytes)
     → has_file files name ≡ false → is_name name ≡ true
     → IfSome reported (λ all. (e : LoadEnd) → add_bytes files name bytes.items ≡ Err e → with_inclusion all files name ≡ Err e)
 included_bytes None files name bytes h absent named = tt
@@ -114,13 +114,14 @@ Grows-trans a b c first second = record {
         omega (arith, inside, ap length same, length-append b [])
     by xs within (y ∷ ys) same more some = more (omega arith)
 
--- a file that is added has room
+-- neither of two refusals applies
 none_from_cond : {X : Type 0} (b : Bool) (x : X) (o : Option X) → cond b (Some x) o ≡ None → (b ≡ false) × (o ≡ None)
 none_from_cond true x o h = absurd (cc)
 none_from_cond false x o h = (refl, h)
 
-has_room : (files : FileTable) (name bytes : List ℕ) → add_refusal files name bytes ≡ None → length files < 256
-has_room files name bytes h =
+-- a file is added to fewer than 256
+is_below_limit : (files : FileTable) (name bytes : List ℕ) → add_refusal files name bytes ≡ None → length files < 256
+is_below_limit files name bytes h =
     let first = none_from_cond (not (is_name name)) _ _ h in
     let second = none_from_cond (has_file files name) _ _ first.1 in
     let third = none_from_cond (nat_le 256 (length files)) _ _ second.1 in
@@ -129,15 +130,15 @@ has_room files name bytes h =
 grows_unless : (files next : FileTable) (name bytes : List ℕ) (o : Option Refusal) → add_refusal files name bytes ≡ o → unless_refused files name bytes o ≡ Ok next → Grows files next
 grows_unless files next name bytes None is e =
     let same : with_file files name bytes ≡ next = cc in
-    let room = has_room files name bytes is in
+    let below = is_below_limit files name bytes is in
     record {
       more = (name, cut bytes) ∷ [];
       is = sym same;
-      within = λ _. omega (arith, room, ap length same, length-append files ((name, cut bytes) ∷ []));
+      within = λ _. omega (arith, below, ap length same, length-append files ((name, cut bytes) ∷ []));
     }
 grows_unless files next name bytes (Some r) is e = absurd (cc)
 
-pub grows_bytes : (b : Bool) (files next : FileTable) (name bytes : List ℕ) → cond b (Err (Unreadable name)) (unless_refused files name bytes (add_refusal files name bytes)) ≡ Ok next → Grows files next
+pub grows_bytes : (b : Bool) (files next : FileTable) (name bytes : List ℕ) → cond b (Err (CannotRead name)) (unless_refused files name bytes (add_refusal files name bytes)) ≡ Ok next → Grows files next
 grows_bytes true files next name bytes e = absurd (cc)
 grows_bytes false files next name bytes e = grows_unless files next name bytes (add_refusal files name bytes) refl e
 
@@ -177,14 +178,14 @@ after_same files (Ok next) f g h = by (length next == length files) refl
     by false e = h next refl (eqb-false (length next) (length files) e)
 
 -- a round that adds no file is the last
-pub last_round : (all : List File) (names : RolesRead) (files next : FileTable) → with_round all names files ≡ Ok next → length next ≡ length files → rounds_from all names files ≡ Ok next
+pub last_round : (all : List File) (roles : RolesRead) (files next : FileTable) → with_round all roles files ≡ Ok next → length next ≡ length files → rounds_from all roles files ≡ Ok next
 unfolding rounds_in
-last_round all names files next e same =
-    ap (λ l. after_round files l (λ t. rounds_in all names (256 - length files) t)) e ∙ ap (λ b. cond b (Ok next) (rounds_in all names (256 - length files) next)) (eq-eqb (length next) (length files) same)
+last_round all roles files next e same =
+    ap (λ l. after_round files l (λ t. rounds_in all roles (256 - length files) t)) e ∙ ap (λ b. cond b (Ok next) (rounds_in all roles (256 - length files) next)) (eq-eqb (length next) (length files) same)
 
-pub stopped_round : (all : List File) (names : RolesRead) (files : FileTable) (ending : LoadEnd) → with_round all names files ≡ Err ending → rounds_from all names files ≡ Err ending
+pub stopped_round : (all : List File) (roles : RolesRead) (files : FileTable) (ending : LoadEnd) → with_round all roles files ≡ Err ending → rounds_from all roles files ≡ Err ending
 unfolding rounds_in
-stopped_round all names files ending e = ap (λ l. after_round files l (λ t. rounds_in all names (256 - length files) t)) e
+stopped_round all roles files ending e = ap (λ l. after_round files l (λ t. rounds_in all roles (256 - length files) t)) e
 
 pub longer : (files next : FileTable) → Grows files next → (length next ≡ length files → ⊥) → (length files < length next) × (length next ≤ 256)
 longer files next g more = by g.more g.is g.within
@@ -194,62 +195,62 @@ longer files next g more = by g.more g.is g.within
     by (x ∷ xs) is within = (omega (arith, ap length is, length-append files (x ∷ xs)), within (omega arith))
 
 -- more rounds than files give the same
-rounds_enough : (all : List File) (names : RolesRead) (n m : ℕ) (files : FileTable) → 256 - length files < n → 256 - length files < m → rounds_in all names n files ≡ rounds_in all names m files
+rounds_enough : (all : List File) (roles : RolesRead) (n m : ℕ) (files : FileTable) → 256 - length files < n → 256 - length files < m → rounds_in all roles n files ≡ rounds_in all roles m files
 unfolding rounds_in
-rounds_enough all names zero m files p q = absurd (omega arith)
-rounds_enough all names (suc n) zero files p q = absurd (omega arith)
-rounds_enough all names (suc n) (suc m) files p q =
-    after_same files (with_round all names files) (λ next. rounds_in all names n next) (λ next. rounds_in all names m next)
+rounds_enough all roles zero m files p q = absurd (omega arith)
+rounds_enough all roles (suc n) zero files p q = absurd (omega arith)
+rounds_enough all roles (suc n) (suc m) files p q =
+    after_same files (with_round all roles files) (λ next. rounds_in all roles n next) (λ next. rounds_in all roles m next)
     (λ next e more.
-    let g = longer files next (grows_all all (missing_of files names) files next e) more in
+    let g = longer files next (grows_all all (missing_of files roles) files next e) more in
     let x = g.0 in
     let y = g.1 in
-    rounds_enough all names n m next (omega arith) (omega arith))
+    rounds_enough all roles n m next (omega arith) (omega arith))
 
 -- a round that adds files is followed by the rest
-pub next_round : (all : List File) (names : RolesRead) (files next : FileTable) → with_round all names files ≡ Ok next → (length next ≡ length files → ⊥) → rounds_from all names next ≡ rounds_from all names files
+pub next_round : (all : List File) (roles : RolesRead) (files next : FileTable) → with_round all roles files ≡ Ok next → (length next ≡ length files → ⊥) → rounds_from all roles next ≡ rounds_from all roles files
 unfolding rounds_in
-next_round all names files next e more =
-    let g = longer files next (grows_all all (missing_of files names) files next e) more in
+next_round all roles files next e more =
+    let g = longer files next (grows_all all (missing_of files roles) files next e) more in
     let x = g.0 in
     let y = g.1 in
-    rounds_enough all names (suc (256 - length next)) (256 - length files) next (omega arith) (omega arith)
-    ∙ sym (ap (λ l. after_round files l (λ t. rounds_in all names (256 - length files) t)) e ∙ ap (λ b. cond b (Ok next) (rounds_in all names (256 - length files) next)) (ne_eqb (length next) (length files) more))
+    rounds_enough all roles (suc (256 - length next)) (256 - length files) next (omega arith) (omega arith)
+    ∙ sym (ap (λ l. after_round files l (λ t. rounds_in all roles (256 - length files) t)) e ∙ ap (λ b. cond b (Ok next) (rounds_in all roles (256 - length files) next)) (ne_eqb (length next) (length files) more))
 
 -- rounds stop where one does
-pub rounds_stop : (reported reported' : Option (List File)) (names : RolesRead) (start cur : FileTable) (ns : List (List ℕ)) (f f0 f' : ℕ) (e : LoadEnd)
-    → reported ≡ reported' → ns ≡ missing_of cur names → IfSome reported' (λ all. rounds_from all names cur ≡ rounds_from all names start) → f ≡ f0
-    → StopsFor reported (λ all. with_inclusions all ns cur) f f' e → StopsFor reported' (λ all. rounds_from all names start) f0 f' e
-rounds_stop reported reported' names start cur ns f f0 f' e stay is inv same stops =
-    stops_along reported' (λ all. with_inclusions all ns cur) (λ all. rounds_from all names start) f0 f f' e same (by reported' inv) (subst (λ t. StopsFor t (λ all. with_inclusions all ns cur) f f' e) stay stops)
+pub rounds_stop : (reported reported' : Option (List File)) (roles : RolesRead) (start cur : FileTable) (ns : List (List ℕ)) (f f0 f' : ℕ) (e : LoadEnd)
+    → reported ≡ reported' → ns ≡ missing_of cur roles → IfSome reported' (λ all. rounds_from all roles cur ≡ rounds_from all roles start) → f ≡ f0
+    → StopsFor reported (λ all. with_inclusions all ns cur) f f' e → StopsFor reported' (λ all. rounds_from all roles start) f0 f' e
+rounds_stop reported reported' roles start cur ns f f0 f' e stay is inv same stops =
+    stops_along reported' (λ all. with_inclusions all ns cur) (λ all. rounds_from all roles start) f0 f f' e same (by reported' inv) (subst (λ t. StopsFor t (λ all. with_inclusions all ns cur) f f' e) stay stops)
   where
-    by : (t : Option (List File)) → IfSome t (λ all. rounds_from all names cur ≡ rounds_from all names start)
-        → IfSome t (λ all. (e : LoadEnd) → with_inclusions all ns cur ≡ Err e → rounds_from all names start ≡ Err e)
+    by : (t : Option (List File)) → IfSome t (λ all. rounds_from all roles cur ≡ rounds_from all roles start)
+        → IfSome t (λ all. (e : LoadEnd) → with_inclusions all ns cur ≡ Err e → rounds_from all roles start ≡ Err e)
     by None h = tt
-    by (Some all) h = λ e stop. sym h ∙ stopped_round all names cur e (subst (λ l. with_inclusions all l cur ≡ Err e) is stop)
+    by (Some all) h = λ e stop. sym h ∙ stopped_round all roles cur e (subst (λ l. with_inclusions all l cur ≡ Err e) is stop)
 
 -- and end where one adds nothing
-pub rounds_last : (reported reported' : Option (List File)) (names : RolesRead) (start cur next : FileTable) (ns : List (List ℕ)) (f f0 f' : ℕ)
-    → reported ≡ reported' → ns ≡ missing_of cur names → IfSome reported' (λ all. rounds_from all names cur ≡ rounds_from all names start) → f ≡ f0
-    → LoadsTo reported (λ all. with_inclusions all ns cur) f f' next → length next ≡ length cur → LoadsTo reported' (λ all. rounds_from all names start) f0 f' next
-rounds_last reported reported' names start cur next ns f f0 f' stay is inv same loads equal =
+pub rounds_last : (reported reported' : Option (List File)) (roles : RolesRead) (start cur next : FileTable) (ns : List (List ℕ)) (f f0 f' : ℕ)
+    → reported ≡ reported' → ns ≡ missing_of cur roles → IfSome reported' (λ all. rounds_from all roles cur ≡ rounds_from all roles start) → f ≡ f0
+    → LoadsTo reported (λ all. with_inclusions all ns cur) f f' next → length next ≡ length cur → LoadsTo reported' (λ all. rounds_from all roles start) f0 f' next
+rounds_last reported reported' roles start cur next ns f f0 f' stay is inv same loads equal =
     (by reported' inv (subst (λ t. IfSome t (λ all. with_inclusions all ns cur ≡ Ok next)) stay loads.0), loads.1 ∙ same)
   where
-    by : (t : Option (List File)) → IfSome t (λ all. rounds_from all names cur ≡ rounds_from all names start) → IfSome t (λ all. with_inclusions all ns cur ≡ Ok next)
-        → IfSome t (λ all. rounds_from all names start ≡ Ok next)
+    by : (t : Option (List File)) → IfSome t (λ all. rounds_from all roles cur ≡ rounds_from all roles start) → IfSome t (λ all. with_inclusions all ns cur ≡ Ok next)
+        → IfSome t (λ all. rounds_from all roles start ≡ Ok next)
     by None h k = tt
-    by (Some all) h k = sym h ∙ last_round all names cur next (subst (λ l. with_inclusions all l cur ≡ Ok next) is k) equal
+    by (Some all) h k = sym h ∙ last_round all roles cur next (subst (λ l. with_inclusions all l cur ≡ Ok next) is k) equal
 
-pub rounds_on : (reported reported' : Option (List File)) (names : RolesRead) (start cur next : FileTable) (ns : List (List ℕ)) (f f' : ℕ)
-    → reported ≡ reported' → ns ≡ missing_of cur names → IfSome reported' (λ all. rounds_from all names cur ≡ rounds_from all names start)
+pub rounds_on : (reported reported' : Option (List File)) (roles : RolesRead) (start cur next : FileTable) (ns : List (List ℕ)) (f f' : ℕ)
+    → reported ≡ reported' → ns ≡ missing_of cur roles → IfSome reported' (λ all. rounds_from all roles cur ≡ rounds_from all roles start)
     → LoadsTo reported (λ all. with_inclusions all ns cur) f f' next → (length next ≡ length cur → ⊥)
-    → IfSome reported' (λ all. rounds_from all names next ≡ rounds_from all names start)
-rounds_on reported reported' names start cur next ns f f' stay is inv loads more = by reported' inv (subst (λ t. IfSome t (λ all. with_inclusions all ns cur ≡ Ok next)) stay loads.0)
+    → IfSome reported' (λ all. rounds_from all roles next ≡ rounds_from all roles start)
+rounds_on reported reported' roles start cur next ns f f' stay is inv loads more = by reported' inv (subst (λ t. IfSome t (λ all. with_inclusions all ns cur ≡ Ok next)) stay loads.0)
   where
-    by : (t : Option (List File)) → IfSome t (λ all. rounds_from all names cur ≡ rounds_from all names start) → IfSome t (λ all. with_inclusions all ns cur ≡ Ok next)
-        → IfSome t (λ all. rounds_from all names next ≡ rounds_from all names start)
+    by : (t : Option (List File)) → IfSome t (λ all. rounds_from all roles cur ≡ rounds_from all roles start) → IfSome t (λ all. with_inclusions all ns cur ≡ Ok next)
+        → IfSome t (λ all. rounds_from all roles next ≡ rounds_from all roles start)
     by None h k = tt
-    by (Some all) h k = next_round all names cur next (subst (λ l. with_inclusions all l cur ≡ Ok next) is k) more ∙ h
+    by (Some all) h k = next_round all roles cur next (subst (λ l. with_inclusions all l cur ≡ Ok next) is k) more ∙ h
 
 -- a test of the names of some items
 pub list_any-map : {X Y : Type 0} (f : X → Y) (p : Y → Bool) (xs : List X) → list_any p (map f xs) ≡ list_any (λ x. p (f x)) xs
@@ -354,27 +355,27 @@ each true true p = (refl, refl)
 each true false p = absurd (cc)
 each false b p = absurd (cc)
 
-pub grows_fits : (old new : FileTable) (names : RolesRead) → Grows old new → fits old names ≡ true → fits new names ≡ true
-grows_fits old new names g h =
-    let parts = each (has_file old names.web) (has_file_if_any old names.change) h in
-    both (has_file new names.web) (has_file_if_any new names.change) (grows_there old new names.web g parts.0) (grows_there_if_any old new names.change g parts.1)
+pub grows_fits : (old new : FileTable) (roles : RolesRead) → Grows old new → fits old roles ≡ true → fits new roles ≡ true
+grows_fits old new roles g h =
+    let parts = each (has_file old roles.web) (has_file_if_any old roles.change) h in
+    both (has_file new roles.web) (has_file_if_any new roles.change) (grows_there old new roles.web g parts.0) (grows_there_if_any old new roles.change g parts.1)
 
-pub fits_both : (files : FileTable) (names : RolesRead) → has_file files names.web ≡ true → has_file_if_any files names.change ≡ true → fits files names ≡ true
-fits_both files names p q = both (has_file files names.web) (has_file_if_any files names.change) p q
+pub fits_both : (files : FileTable) (roles : RolesRead) → has_file files roles.web ≡ true → has_file_if_any files roles.change ≡ true → fits files roles ≡ true
+fits_both files roles p q = both (has_file files roles.web) (has_file_if_any files roles.change) p q
 
 -- the name that is reported was asked for last
-pub asked_last : (old new : Option (List (List ℕ))) (name : List ℕ) (given : LoadEnd) → new ≡ with_asked old name → IsLoadEnd (Unreadable name) given → NamesLastAsked new given
+pub asked_last : (old new : Option (List (List ℕ))) (name : List ℕ) (given : LoadEnd) → new ≡ with_name_added old name → IsLoadEnd (CannotRead name) given → NamesLastAsked new given
 asked_last old new name given asks which = elim which [
-  | inl e ↦ subst (NamesLastAsked new) (sym e) (subst (λ n. NamesLastAsked n (Unreadable name)) (sym asks) (by old))
+  | inl e ↦ subst (NamesLastAsked new) (sym e) (subst (λ n. NamesLastAsked n (CannotRead name)) (sym asks) (by old))
   | inr e ↦ subst (NamesLastAsked new) (sym e) tt
 ]
   where
-    by : (old : Option (List (List ℕ))) → NamesLastAsked (with_asked old name) (Unreadable name)
+    by : (old : Option (List (List ℕ))) → NamesLastAsked (with_name_added old name) (CannotRead name)
     by None = tt
     by (Some names) = (names, refl)
 
 reported_refused : (asked : Option (List (List ℕ))) (name : List ℕ) (refusal : Refusal) → NamesLastAsked asked (refused_as name refusal)
-reported_refused asked name NoRoom = tt
+reported_refused asked name RefusalMemory = tt
 reported_refused asked name refusal = tt
 
 pub refused_last : (asked : Option (List (List ℕ))) (name : List ℕ) (refusal : Refusal) (given : LoadEnd) → IsLoadEnd (refused_as name refusal) given → NamesLastAsked asked given
@@ -384,7 +385,7 @@ refused_last asked name refusal given which = elim which [
 ]
 
 -- the names are file names
-pub loads_named : (reported : Option (List File)) (roles names : RolesRead) (files : FileTable) → bad_name names ≡ None → roles ≡ names
-    → IfSome reported (λ all. load_unless all roles None ≡ Ok files) → IfSome reported (λ all. load_of all names ≡ Ok files)
-loads_named None roles names files fine same loads = tt
-loads_named (Some all) roles names files fine same loads = ap (load_unless all names) fine ∙ ap (λ r. load_unless all r None) (sym same) ∙ loads
+pub loads_named : (reported : Option (List File)) (roles given : RolesRead) (files : FileTable) → bad_name given ≡ None → roles ≡ given
+    → IfSome reported (λ all. load_unless all roles None ≡ Ok files) → IfSome reported (λ all. load_of all given ≡ Ok files)
+loads_named None roles given files fine same loads = tt
+loads_named (Some all) roles given files fine same loads = ap (load_unless all given) fine ∙ ap (λ r. load_unless all r None) (sym same) ∙ loads

@@ -9,7 +9,7 @@ use Rattle.tangle_files.specs.Adding.{add_refusal, with_file, has_file, is_name}
 use Rattle.tangle_files.specs.Roles.{RolesRead}
 use Rattle.tangle_folders.specs.Folder.{File, file_bytes, file_limit}
 use Rattle.ctangle_cli.specs.Loading.{Grows, Loaded, add_bytes, add_present, after_round, and_then, bad_name, load_of, load_unless, missing_of, rounds_from, rounds_in, unless_refused, with_change, with_inclusion, with_inclusions, with_round, with_needed}
-use Rattle.ctangle_cli.specs.Loading.LoadEnd.{Unreadable}
+use Rattle.ctangle_cli.specs.Loading.LoadEnd.{CannotRead}
 use Rattle.ctangle_cli.proofs.LoadLemmas.{grows_all, grows_one, longer}
 
 -- a table that has grown and is no longer is the same
@@ -24,7 +24,7 @@ same_table files next g same = by g.more g.is
 longer_by_one : (files next : FileTable) (name bytes : List ℕ) → add_bytes files name bytes ≡ Ok next → length next ≡ length files → ⊥
 longer_by_one files next name bytes e same = by (nat_lt file_limit (length bytes)) (add_refusal files name bytes) e
   where
-    by : (b : Bool) (o : Option Refusal) → cond b (Err (Unreadable name)) (unless_refused files name bytes o) ≡ Ok next → ⊥
+    by : (b : Bool) (o : Option Refusal) → cond b (Err (CannotRead name)) (unless_refused files name bytes o) ≡ Ok next → ⊥
     by true o e = cc
     by false (Some r) e = cc
     by false None e =
@@ -72,38 +72,38 @@ each_looked_for all (n ∷ ns) files next e same name absent c =
     each_looked_for-step all files next n ns name (with_inclusion all files n) refl e same (λ f d. each_looked_for all ns files next f same name absent d) absent c
 
 -- the rounds end with one that adds nothing
-ended-step : (all : List File) (names : RolesRead) (n : ℕ) (start files : FileTable) (l : Loaded) → with_round all names start ≡ l → 256 - length start < suc n
-    → ((mid : FileTable) → 256 - length mid < n → rounds_in all names n mid ≡ Ok files → with_round all names files ≡ Ok files)
-    → after_round start l (λ next. rounds_in all names n next) ≡ Ok files → with_round all names files ≡ Ok files
-ended-step all names n start files (Err ending) is fuel rest e = absurd (cc)
-ended-step all names n start files (Ok next) is fuel rest e = by (length next == length start) refl e
+ended-step : (all : List File) (roles : RolesRead) (n : ℕ) (start files : FileTable) (l : Loaded) → with_round all roles start ≡ l → 256 - length start < suc n
+    → ((mid : FileTable) → 256 - length mid < n → rounds_in all roles n mid ≡ Ok files → with_round all roles files ≡ Ok files)
+    → after_round start l (λ next. rounds_in all roles n next) ≡ Ok files → with_round all roles files ≡ Ok files
+ended-step all roles n start files (Err ending) is fuel rest e = absurd (cc)
+ended-step all roles n start files (Ok next) is fuel rest e = by (length next == length start) refl e
   where
-    by : (b : Bool) → (length next == length start) ≡ b → cond b (Ok next) (rounds_in all names n next) ≡ Ok files → with_round all names files ≡ Ok files
+    by : (b : Bool) → (length next == length start) ≡ b → cond b (Ok next) (rounds_in all roles n next) ≡ Ok files → with_round all roles files ≡ Ok files
     by true same e =
         let ends : next ≡ files = cc in
-        let stays : next ≡ start = same_table start next (grows_all all (missing_of start names) start next is) (eqb-true (length next) (length start) same) in
-        subst (λ t. with_round all names t ≡ Ok t) ends (subst (λ t. with_round all names t ≡ Ok next) (sym stays) is)
+        let stays : next ≡ start = same_table start next (grows_all all (missing_of start roles) start next is) (eqb-true (length next) (length start) same) in
+        subst (λ t. with_round all roles t ≡ Ok t) ends (subst (λ t. with_round all roles t ≡ Ok next) (sym stays) is)
     by false more e =
-        let g = longer start next (grows_all all (missing_of start names) start next is) (eqb-false (length next) (length start) more) in
+        let g = longer start next (grows_all all (missing_of start roles) start next is) (eqb-false (length next) (length start) more) in
         rest next (omega (arith, fuel, g.0, g.1)) e
 
-ended : (all : List File) (names : RolesRead) (n : ℕ) (start files : FileTable) → 256 - length start < n → rounds_in all names n start ≡ Ok files → with_round all names files ≡ Ok files
+ended : (all : List File) (roles : RolesRead) (n : ℕ) (start files : FileTable) → 256 - length start < n → rounds_in all roles n start ≡ Ok files → with_round all roles files ≡ Ok files
 unfolding rounds_in
-ended all names zero start files fuel e = absurd (omega (arith, fuel))
-ended all names (suc n) start files fuel e =
-    ended-step all names n start files (with_round all names start) refl fuel (λ mid less f. ended all names n mid files less f) e
+ended all roles zero start files fuel e = absurd (omega (arith, fuel))
+ended all roles (suc n) start files fuel e =
+    ended-step all roles n start files (with_round all roles start) refl fuel (λ mid less f. ended all roles n mid files less f) e
 
 after : (l : Loaded) (rest : FileTable → Loaded) (files : FileTable) → and_then l rest ≡ Ok files → (mid : FileTable) × (rest mid ≡ Ok files)
 after (Ok mid) rest files e = (mid, e)
 after (Err ending) rest files e = absurd (cc)
 
-loaded_ended : (all : List File) (names : RolesRead) (files : FileTable) (o : Option (List ℕ)) → load_unless all names o ≡ Ok files → with_round all names files ≡ Ok files
-loaded_ended all names files (Some name) e = absurd (cc)
-loaded_ended all names files None e =
-    let first = after (with_needed all [] names.web) (λ files. and_then (with_change all files names.change) (λ more. rounds_from all names more)) files e in
-    let second = after (with_change all first.0 names.change) (λ more. rounds_from all names more) files first.1 in
-    ended all names (suc (256 - length second.0)) second.0 files (omega arith) second.1
+loaded_ended : (all : List File) (roles : RolesRead) (files : FileTable) (o : Option (List ℕ)) → load_unless all roles o ≡ Ok files → with_round all roles files ≡ Ok files
+loaded_ended all roles files (Some name) e = absurd (cc)
+loaded_ended all roles files None e =
+    let first = after (with_needed all [] roles.web) (λ files. and_then (with_change all files roles.change) (λ more. rounds_from all roles more)) files e in
+    let second = after (with_change all first.0 roles.change) (λ more. rounds_from all roles more) files first.1 in
+    ended all roles (suc (256 - length second.0)) second.0 files (omega arith) second.1
 
-pub missing_law : (all : List File) (names : RolesRead) (files : FileTable) → load_of all names ≡ Ok files → (name : List ℕ) → Contains (missing_of files names) name
+pub missing_law : (all : List File) (roles : RolesRead) (files : FileTable) → load_of all roles ≡ Ok files → (name : List ℕ) → Contains (missing_of files roles) name
     → has_file files name ≡ false → (is_name name ≡ false) ⊎ (file_bytes all name ≡ None)
-missing_law all names files e name c absent = each_looked_for all (missing_of files names) files files (loaded_ended all names files (bad_name names) e) refl name absent c
+missing_law all roles files e name c absent = each_looked_for all (missing_of files roles) files files (loaded_ended all roles files (bad_name roles) e) refl name absent c

@@ -57,7 +57,7 @@ value_is c a m arguments id app simple has =
     ap (λ x. first_of id (matches_of x arguments)) (sym app) ∙ (ap (first_of id) (sym (has (ap is_simple app ∙ simple)).0) ∙ sym (first_value-rows (found_of m) id))
 
 pub takes_is : (c : Command) (a : App) (arguments : List Text) → app_of c ≡ a → takes a arguments ≡ true → takes (app_of c) arguments ≡ true
-takes_is c a arguments app taken = ap (λ x. takes x arguments) app ∙ taken
+takes_is c a arguments app accepted = ap (λ x. takes x arguments) app ∙ accepted
 
 pub err_gives : {T E : Type 0} (r : Result T E) (P Q : E → Type 0) → IsErrAnd r P → ((e : E) → P e → Q e) → IfErr r Q
 err_gives (Ok x) P Q h f = tt

@@ -1,4 +1,4 @@
--- What is written on a stream, one text after another.
+-- What is written on a stream, one after another.
 use Rattle.std.proofs.Common.{◌≡◌, ◌∙◌, ◌⊎◌, inl, inr, ℕ, ◌+◌, ◌<◌, ◌≤◌, List, [], ◌∷◌, ◌++◌, Result, Ok, Err, ap, subst, sym, refl, length, take, suc, length-append, arith, append_assoc, append-nil}
 use Rattle.std.proofs.lemmas.List.{take-append-le}
 use Rattle.tangle_streams.proofs.StreamLemmas.{Appends-append, Appends-none}
@@ -7,7 +7,7 @@ use Rattle.tangle_streams.specs.declared.failures.WriteFault.{WriteFault}
 use Rattle.std.proofs.Common.{zero, ◌≢◌, slice_index_or, drop}
 use Rattle.std.proofs.lemmas.List.{take-append-drop}
 use Rattle.tangle_faults.specs.Faults.{FaultRead}
-use Rattle.tangle_faults.specs.FaultText.{fault_line}
+use Rattle.tangle_faults.specs.FaultLine.{fault_line}
 use Rattle.tangle_files.specs.Lines.{FileTable}
 use Rattle.tangle_files.specs.Roles.{RolesRead}
 use Rattle.tangle_folders.specs.declared.folder.FolderFault.{FolderFault}
@@ -15,7 +15,7 @@ use Rattle.tangle_folders.specs.declared.folder.FolderFault.TheVariants.{NoMemor
 use Rattle.tangle_session.specs.Tangle.{Tangling, AreFaultsOf, outputs_of}
 use Rattle.ctangle_cli.specs.Run.{AsksNothing, Moment, SessionEnds, StopsAt, TangledEnds}
 use Rattle.ctangle_cli.specs.Run.TangledEnds.{IsUnwritten}
-use Rattle.ctangle_cli.specs.Messages.{TakesFront, TakesAll, fault_lines, unwritten_line}
+use Rattle.ctangle_cli.specs.Messages.{TakesPrefix, TakesAll, fault_lines, unwritten_line}
 
 take_past : (xs ys : List ℕ) (n : ℕ) → take (length xs + n) (xs ++ ys) ≡ xs ++ take n ys
 take_past [] ys n = ap (λ k. take k ys) (omega arith)
@@ -29,7 +29,7 @@ TakesAll-none a = (Appends-none a.taken, refl)
 pub whole_then_whole : (a b c : Stream) (xs ys : List ℕ) → TakesAll a b xs → TakesAll b c ys → TakesAll a c (xs ++ ys)
 whole_then_whole a b c xs ys p q = (Appends-append a.taken b.taken c.taken xs ys p.0 q.0, q.1 ∙ p.1)
 
-pub whole_then_cut : (a b c : Stream) (xs ys : List ℕ) → TakesAll a b xs → TakesFront b c ys → TakesFront a c (xs ++ ys)
+pub whole_then_cut : (a b c : Stream) (xs ys : List ℕ) → TakesAll a b xs → TakesPrefix b c ys → TakesPrefix a c (xs ++ ys)
 whole_then_cut a b c xs ys p q =
     let less = q.1 in (
       length xs + q.0,
@@ -38,21 +38,21 @@ whole_then_cut a b c xs ys p q =
       subst (λ n. Failed n c.failures) p.1 q.3,
     )
 
-pub cut_more : (a b : Stream) (xs ys : List ℕ) → TakesFront a b xs → TakesFront a b (xs ++ ys)
+pub cut_more : (a b : Stream) (xs ys : List ℕ) → TakesPrefix a b xs → TakesPrefix a b (xs ++ ys)
 cut_more a b xs ys p =
     let less = p.1 in
     let within : p.0 ≤ length xs = omega arith in
     (p.0, omega (arith, length-append xs ys), rw take-append-le p.2, p.3)
 
-pub whole_from : (a b : Stream) (n : ℕ) (text : List ℕ) → IsWritten a b text (Ok n) → TakesAll a b text
-whole_from a b n text h = (h.1, h.2)
+pub whole_from : (a b : Stream) (n : ℕ) (bytes : List ℕ) → IsWritten a b bytes (Ok n) → TakesAll a b bytes
+whole_from a b n bytes h = (h.1, h.2)
 
-pub cut_from : (a b : Stream) (e : WriteFault) (text : List ℕ) → IsWritten a b text (Err e) → TakesFront a b text
-cut_from a b e text h = (e.0, h.0, h.1, h.2)
+pub cut_from : (a b : Stream) (e : WriteFault) (bytes : List ℕ) → IsWritten a b bytes (Err e) → TakesPrefix a b bytes
+cut_from a b e bytes h = (e.0, h.0, h.1, h.2)
 
-pub tries_from : (a b : Stream) (r : Result ℕ WriteFault) (text : List ℕ) → IsWritten a b text r → TakesAll a b text ⊎ TakesFront a b text
-tries_from a b (Ok n) text h = inl (h.1, h.2)
-tries_from a b (Err e) text h = inr (e.0, h.0, h.1, h.2)
+pub tries_from : (a b : Stream) (r : Result ℕ WriteFault) (bytes : List ℕ) → IsWritten a b bytes r → TakesAll a b bytes ⊎ TakesPrefix a b bytes
+tries_from a b (Ok n) bytes h = inl (h.1, h.2)
+tries_from a b (Err e) bytes h = inr (e.0, h.0, h.1, h.2)
 
 -- one more fault
 lines_next : (xs : List FaultRead) (i : ℕ) (f : FaultRead) → i < length xs → f ≡ slice_index_or xs i f → fault_lines (take (suc i) xs) ≡ fault_lines (take i xs) ++ fault_line f
@@ -73,11 +73,11 @@ faults_more a b c n xs i x lt e p q =
     subst (TakesAll a c) (sym (ap (λ k. fault_lines (take k xs)) one ∙ lines_next xs i x lt e)) (whole_then_whole a b c _ (fault_line x) p (whole_from b c n (fault_line x) q))
 
 pub faults_cut : (a b c : Stream) (d : WriteFault) (xs : List FaultRead) (i : ℕ) (x : FaultRead) → i < length xs → x ≡ slice_index_or xs i x
-    → TakesAll a b (fault_lines (take i xs)) → IsWritten b c (fault_line x) (Err d) → TakesFront a c (fault_lines xs)
+    → TakesAll a b (fault_lines (take i xs)) → IsWritten b c (fault_line x) (Err d) → TakesPrefix a c (fault_lines xs)
 faults_cut a b c d xs i x lt e p q =
     let whole : (fault_lines (take i xs) ++ fault_line x) ++ fault_lines (drop (suc i) xs) ≡ fault_lines xs =
     ap (λ l. l ++ fault_lines (drop (suc i) xs)) (sym (lines_next xs i x lt e)) ∙ sym (lines-append (take (suc i) xs) (drop (suc i) xs)) ∙ ap fault_lines (take-append-drop (suc i) xs) in
-    subst (TakesFront a c) whole (cut_more a c _ (fault_lines (drop (suc i) xs)) (whole_then_cut a b c _ (fault_line x) p (cut_from b c d (fault_line x) q)))
+    subst (TakesPrefix a c) whole (cut_more a c _ (fault_lines (drop (suc i) xs)) (whole_then_cut a b c _ (fault_line x) p (cut_from b c d (fault_line x) q)))
 
 -- writing stopped for lack of memory, or because the folder failed
 pub tangled_stops : (t : Tangling) (old new : Moment) (mid : Stream) (name : List ℕ) (fault : FolderFault) (r : Result ℕ WriteFault)
@@ -98,12 +98,12 @@ tangled_stops t old new mid name fault r stops why calm reported put = IsUnwritt
 
 -- the tangling of which these are the faults
 abbrev pub tangling_with : FileTable → RolesRead → List FaultRead → Tangling
-tangling_with files names faults = record { faults = faults; outputs = outputs_of files names }
+tangling_with files roles faults = record { faults = faults; outputs = outputs_of files roles }
 
-pub ends_with_faults : (files : FileTable) (names : RolesRead) (faults : List FaultRead) (old new : Moment) (status : ℕ) → AreFaultsOf files names faults → AsksNothing old new
-    → TangledEnds (tangling_with files names faults) old new status → SessionEnds files names old new status
-ends_with_faults files names faults old new status are unasked ends = record {
-  tangling = tangling_with files names faults;
+pub ends_with_faults : (files : FileTable) (roles : RolesRead) (faults : List FaultRead) (old new : Moment) (status : ℕ) → AreFaultsOf files roles faults → AsksNothing old new
+    → TangledEnds (tangling_with files roles faults) old new status → SessionEnds files roles old new status
+ends_with_faults files roles faults old new status are unasked ends = record {
+  tangling = tangling_with files roles faults;
   is = record { faults = are; outputs = refl };
   ends = ends;
   asks_nothing = unasked;

@@ -1,4 +1,4 @@
--- Words of retangle that are written out, and the names that they give.
+-- Arguments of `retangle`, and the names that they give.
 use Rattle.std.proofs.Common.{◌≡◌, true, false, [], ◌∷◌, None, Some, codes, refl}
 use Rattle.clap.specs.Words.{takes}
 use Rattle.clap.proofs.OnLiterals.{clap_on_literals}
@@ -10,18 +10,18 @@ pub web_and_out : retangle_names_of (codes "retangle" ∷ codes "a" ∷ codes "-
 unfolding retangle_names_of clap_on_literals
 web_and_out = refl
 
-pub web_and_out_are_taken : takes retangle_app (codes "retangle" ∷ codes "a" ∷ codes "--out" ∷ codes "z" ∷ []) ≡ true
+pub web_and_out_are_accepted : takes retangle_app (codes "retangle" ∷ codes "a" ∷ codes "--out" ∷ codes "z" ∷ []) ≡ true
 unfolding clap_on_literals
-web_and_out_are_taken = refl
+web_and_out_are_accepted = refl
 
 pub change_before_web : retangle_names_of (codes "retangle" ∷ codes "--change=b" ∷ codes "x/y.web" ∷ [])
     ≡ Some (roles_of (codes "x/y.web") (Some (codes "b.ch")) (codes "y.c"))
 unfolding retangle_names_of clap_on_literals
 change_before_web = refl
 
-pub change_before_web_is_taken : takes retangle_app (codes "retangle" ∷ codes "--change=b" ∷ codes "x/y.web" ∷ []) ≡ true
+pub change_before_web_is_accepted : takes retangle_app (codes "retangle" ∷ codes "--change=b" ∷ codes "x/y.web" ∷ []) ≡ true
 unfolding clap_on_literals
-change_before_web_is_taken = refl
+change_before_web_is_accepted = refl
 
 pub two_webs_are_refused : takes retangle_app (codes "retangle" ∷ codes "a" ∷ codes "b" ∷ []) ≡ false
 unfolding clap_on_literals

@@ -38,7 +38,7 @@ tangled_change web change =
     tangle_of ((codes "a.w", cut web) ∷ (codes "a.ch", cut change) ∷ []) (roles_of (codes "a.w") (Some (codes "a.ch")) (codes "a.c"))
 
 abbrev gives : List FaultRead → List ℕ → Tangling
-gives faults text = record { faults = faults; outputs = (codes "a.c", text) ∷ [] }
+gives faults bytes = record { faults = faults; outputs = (codes "a.c", bytes) ∷ [] }
 
 abbrev line_of : List ℕ → ℕ → PlaceRead
 line_of file n = record { file = file; line = n }
@@ -63,16 +63,16 @@ unfolding source_at web_at reads_in tokens_from lexeme occurrences_from levels h
 a_line_changed = refl
 
 -- the same with each line mark written as a line feed
-abbrev bare : List ℕ → Option (List ℕ) → List ℕ → RolesRead
-bare web change out = record (roles_of web change out) { marks = Bare }
+abbrev without_marks : List ℕ → Option (List ℕ) → List ℕ → RolesRead
+without_marks web change out = record (roles_of web change out) { marks = Bare }
 
 a_line_changed_without_marks : tangle_of ((codes "a.w", cut (codes "@ A.\n@c\nint a;\nint b;\n")) ∷ (codes "a.ch", cut (codes "@x\nint a;\n@y\nint z;\n@z\n")) ∷ [])
-    (bare (codes "a.w") (Some (codes "a.ch")) (codes "a.c")) ≡ gives [] (codes "/*1:*/\n\nint z;\nint b;\n/*:1*/\n")
+    (without_marks (codes "a.w") (Some (codes "a.ch")) (codes "a.c")) ≡ gives [] (codes "/*1:*/\n\nint z;\nint b;\n/*:1*/\n")
 unfolding source_at web_at reads_in tokens_from lexeme occurrences_from levels heaviest digits
 a_line_changed_without_marks = refl
 
 a_use_without_marks : tangle_of ((codes "a.w", cut (codes "@ A.\n@c\nint x=@<v@>;\n@ @<v@>=\n1\n")) ∷ [])
-    (bare (codes "a.w") None (codes "a.c")) ≡ gives [] (codes "/*1:*/\n\nint x= /*2:*/\n\n1\n/*:2*/\n;\n/*:1*/\n")
+    (without_marks (codes "a.w") None (codes "a.c")) ≡ gives [] (codes "/*1:*/\n\nint x= /*2:*/\n\n1\n/*:2*/\n;\n/*:1*/\n")
 unfolding source_at web_at reads_in tokens_from lexeme occurrences_from levels heaviest digits
 a_use_without_marks = refl
 
@@ -87,8 +87,8 @@ unfolding source_at web_at reads_in tokens_from lexeme occurrences_from levels h
 an_inclusion_changed = refl
 
 abbrev times : ℕ → List ℕ → List ℕ
-times zero text = []
-times (suc n) text = text ++ times n text
+times zero bytes = []
+times (suc n) bytes = bytes ++ times n bytes
 
 an_inclusion_of_itself : tangled_files ((codes "a.w", cut (codes "@ A.\n@c\n@i b.w\n")) ∷ (codes "b.w", cut (codes "x\n@i b.w\n")) ∷ [])
     ≡ gives (fault_at IncludeTooDeep (line_of (codes "b.w") 2) ∷ []) (codes "/*1:*/\n#line 2 \"a.w\"\n" ++ times 9 (codes "\n#line 1 \"b.w\"\nx") ++ codes "\n/*:1*/\n")
@@ -105,12 +105,12 @@ a_change_without_old_lines : tangled_change (codes "@ A.\n@c\nint x;\n") (codes 
 unfolding source_at web_at reads_in tokens_from lexeme occurrences_from levels heaviest digits
 a_change_without_old_lines = refl
 
-marks_out_of_place : tangled_change (codes "@ A.\n@c\nint x;\n") (codes "@z\n@x\nint x;\n@x\nint x;\n@y\n@y\nint y;\n")
+change_codes_out_of_place : tangled_change (codes "@ A.\n@c\nint x;\n") (codes "@z\n@x\nint x;\n@x\nint x;\n@y\n@y\nint y;\n")
     ≡ gives (fault_at StrayMark (line_of (codes "a.ch") 1) ∷ fault_at MissingY (line_of (codes "a.ch") 2)
     ∷ fault_at StrayMark (line_of (codes "a.ch") 7) ∷ fault_at MissingZ (line_of (codes "a.ch") 4) ∷ [])
     (codes "/*1:*/\n#line 2 \"a.w\"\n\n#line 8 \"a.ch\"\nint y;\n/*:1*/\n")
 unfolding source_at web_at reads_in tokens_from lexeme occurrences_from levels heaviest digits
-marks_out_of_place = refl
+change_codes_out_of_place = refl
 
 inclusions_without_file : tangled_web (codes "@i\n@i \"n.w\" x\n@ A.\n@c\nx\n")
     ≡ gives (fault_at IncludeNoName (line 1) ∷ fault_about IncludeMissing (line 2) (codes "n.w") ∷ [])
@@ -127,10 +127,10 @@ a_join_over_lines : tangled_web (codes "@ A.\n@c\na@&\nb;\nc;\n") ≡ gives [] (
 unfolding source_at web_at reads_in tokens_from lexeme occurrences_from levels heaviest digits
 a_join_over_lines = refl
 
-a_text_that_does_not_end : tangled_web (codes "@ A.\n@c\ns=\"a@b\nt;\n")
+a_quoted_text_that_does_not_end : tangled_web (codes "@ A.\n@c\ns=\"a@b\nt;\n")
     ≡ gives (on 3 StringAt ∷ on 3 StringEnd ∷ []) (codes "/*1:*/\n#line 2 \"a.w\"\n\ns=\"a@b\nt;\n/*:1*/\n")
 unfolding source_at web_at reads_in tokens_from lexeme occurrences_from levels heaviest digits
-a_text_that_does_not_end = refl
+a_quoted_text_that_does_not_end = refl
 
 comments_and_constants : tangled_web (codes "@ A.\n@c\na /* b */ c // d\nreturn@,x+@'A';@^idx@>\n\"q@@\"@=v@> @t\\TeX@>z\n")
     ≡ gives [] (codes "/*1:*/\n#line 2 \"a.w\"\n\na c\nreturn x+65;\n\"q@\"v z\n/*:1*/\n")
@@ -147,16 +147,16 @@ uses_side_by_side : tangled_web (codes "@ A.\n@c\n@<u@>@<u@>\n")
 unfolding source_at web_at reads_in tokens_from lexeme occurrences_from levels heaviest digits
 uses_side_by_side = refl
 
-codes_out_of_place : tangled_web (codes "@ A.\n@d M @h 1\n@c\n@d x @'ab' y\n@^q@,z\n@=v\n/* w\n@ B.\n")
+control_codes_out_of_place : tangled_web (codes "@ A.\n@d M @h 1\n@c\n@d x @'ab' y\n@^q@,z\n@=v\n/* w\n@ B.\n")
     ≡ gives (on 2 MisplacedH ∷ on 4 CodeInC ∷ on 4 AsciiBad ∷ on 5 ControlText ∷ on 6 VerbatimEnd ∷ on 8 CommentEnd ∷ [])
     (codes "#define M 1\n/*1:*/\n#line 3 \"a.w\"\n\nx y\nz\nv\n\n/*:1*/\n")
 unfolding source_at web_at reads_in tokens_from lexeme occurrences_from levels heaviest digits
-codes_out_of_place = refl
+control_codes_out_of_place = refl
 
-a_text_over_lines : tangled_web (codes "@ A.\n@c\ns=\"a\\\nb\";@=u@@v@>\n#include <p@@q>\n")
+quoted_texts_over_lines : tangled_web (codes "@ A.\n@c\ns=\"a\\\nb\";@=u@@v@>\n#include <p@@q>\n")
     ≡ gives [] (codes "/*1:*/\n#line 2 \"a.w\"\n\ns=\"a\\\nb\";u@v\n#include <p@q>\n/*:1*/\n")
 unfolding source_at web_at reads_in tokens_from lexeme occurrences_from levels heaviest digits
-a_text_over_lines = refl
+quoted_texts_over_lines = refl
 
 names_that_do_not_fit : tangled_web (codes "@ A @<In it@>.\n@c\n@<  In   @>@<Zz...@>\n@<b@>=\n@<q\n@ B.\n")
     ≡ gives (on 4 NameEquals ∷ on 6 NameEnd ∷ fault_about NoFullName (line 3) (codes "Zz...") ∷ fault_about PrefixName (line 3) (codes "In")

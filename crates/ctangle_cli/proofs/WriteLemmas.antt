@@ -15,7 +15,7 @@ use Rattle.tangle_files.specs.declared.refusal.Refusal.{Refusal}
 use Rattle.tangle_files.specs.declared.refusal.Refusal.TheVariants as refusal
 use Rattle.tangle_session.specs.Writes.{WritesOutput}
 use Rattle.tangle_folders.specs.declared.folder.FolderFault.TheVariants.{Missing, NoMemory, TooBig, Failed as IsFailed}
-use Rattle.ctangle_cli.specs.Writing.{AddsPart}
+use Rattle.ctangle_cli.specs.Writing.{AddsPrefix}
 use Rattle.ctangle_cli.specs.Run.{StopsAt}
 
 with_last-push : (files : List File) (f : File) (bytes : List ℕ) → with_last (files ++ f ∷ []) bytes ≡ files ++ (f.0, bytes) ∷ []
@@ -32,26 +32,26 @@ with_created-none None = refl
 with_created-none (Some old) = ap Some (append-nil old)
 
 -- the file created has the bytes that its sink was given
-pub wrote : (a b c : Option (List File)) (s t : Option (List ℕ)) (name text : List ℕ)
-    → Begins a s → b ≡ with_created a ((name, []) ∷ []) → Appends s t text → Closes b c t → c ≡ with_created a ((name, text) ∷ [])
-wrote None None c s t name text first added put closed = closed
-wrote None (Some ys) c s t name text first added put closed = absurd (cc)
-wrote (Some xs) None c s t name text first added put closed = absurd (cc)
-wrote (Some xs) (Some ys) c s None name text first added put closed = absurd (subst (λ u. Appends u None text) first put)
-wrote (Some xs) (Some ys) c s (Some all) name text first added put closed =
-    let held : all ≡ text = subst (λ u. Appends u (Some all) text) first put in
+pub wrote : (a b c : Option (List File)) (s t : Option (List ℕ)) (name bytes : List ℕ)
+    → Begins a s → b ≡ with_created a ((name, []) ∷ []) → Appends s t bytes → Closes b c t → c ≡ with_created a ((name, bytes) ∷ [])
+wrote None None c s t name bytes first added put closed = closed
+wrote None (Some ys) c s t name bytes first added put closed = absurd (cc)
+wrote (Some xs) None c s t name bytes first added put closed = absurd (cc)
+wrote (Some xs) (Some ys) c s None name bytes first added put closed = absurd (subst (λ u. Appends u None bytes) first put)
+wrote (Some xs) (Some ys) c s (Some all) name bytes first added put closed =
+    let held : all ≡ bytes = subst (λ u. Appends u (Some all) bytes) first put in
     let made : ys ≡ xs ++ (name, []) ∷ [] = cc in
     closed ∙ ap Some (ap (λ l. with_last l all) made ∙ with_last-push xs (name, []) all ∙ ap (λ b. xs ++ (name, b) ∷ []) held)
 
 -- or a prefix of them
-pub wrote_within : (a b c : Option (List File)) (s t : Option (List ℕ)) (name text : List ℕ)
-    → Begins a s → b ≡ with_created a ((name, []) ∷ []) → Appends s t text → ClosesWithin b c t → (n : ℕ) × (c ≡ with_created a ((name, take n text) ∷ []))
-wrote_within None None c s t name text first added put closed = (0, closed)
-wrote_within None (Some ys) c s t name text first added put closed = absurd (cc)
-wrote_within (Some xs) None c s t name text first added put closed = absurd (cc)
-wrote_within (Some xs) (Some ys) c s None name text first added put closed = absurd (subst (λ u. Appends u None text) first put)
-wrote_within (Some xs) (Some ys) c s (Some all) name text first added put closed =
-    let held : all ≡ text = subst (λ u. Appends u (Some all) text) first put in
+pub wrote_within : (a b c : Option (List File)) (s t : Option (List ℕ)) (name bytes : List ℕ)
+    → Begins a s → b ≡ with_created a ((name, []) ∷ []) → Appends s t bytes → ClosesWithin b c t → (n : ℕ) × (c ≡ with_created a ((name, take n bytes) ∷ []))
+wrote_within None None c s t name bytes first added put closed = (0, closed)
+wrote_within None (Some ys) c s t name bytes first added put closed = absurd (cc)
+wrote_within (Some xs) None c s t name bytes first added put closed = absurd (cc)
+wrote_within (Some xs) (Some ys) c s None name bytes first added put closed = absurd (subst (λ u. Appends u None bytes) first put)
+wrote_within (Some xs) (Some ys) c s (Some all) name bytes first added put closed =
+    let held : all ≡ bytes = subst (λ u. Appends u (Some all) bytes) first put in
     let made : ys ≡ xs ++ (name, []) ∷ [] = cc in
     (closed.0, closed.1 ∙ ap Some (ap (λ l. with_last l (take closed.0 all)) made ∙ with_last-push xs (name, []) (take closed.0 all) ∙ ap (λ b. xs ++ (name, take closed.0 b) ∷ []) held))
 
@@ -62,26 +62,26 @@ front_of_front (suc n) zero xs = (0, refl)
 front_of_front (suc n) (suc m) [] = (0, refl)
 front_of_front (suc n) (suc m) (x ∷ xs) = let r = front_of_front n m xs in (suc r.0, ap (λ l. x ∷ l) r.1)
 
--- a part of the file was created, whether or not its closing was refused
-pub wrote_part : {T : Type 0} (r : Result T FolderFault) (a b c : Option (List File)) (s t : Option (List ℕ)) (name bytes : List ℕ) (m : ℕ)
+-- a prefix of the file was created, whether or not its closing was refused
+pub wrote_prefix : {T : Type 0} (r : Result T FolderFault) (a b c : Option (List File)) (s t : Option (List ℕ)) (name bytes : List ℕ) (m : ℕ)
     → Begins a s → b ≡ with_created a ((name, []) ∷ []) → Appends s t (take m bytes) → OnOk r (Closes b c t) → OnErr r (ClosesWithin b c t)
-    → AddsPart a c (name, bytes)
-wrote_part (Ok done) a b c s t name bytes m first added put whole part =
+    → AddsPrefix a c (name, bytes)
+wrote_prefix (Ok done) a b c s t name bytes m first added put whole prefix =
     ((name, take m bytes) ∷ [], inr (m, refl), wrote a b c s t name (take m bytes) first added put whole)
-wrote_part (Err fault) a b c s t name bytes m first added put whole part =
-    let w = wrote_within a b c s t name (take m bytes) first added put part in
+wrote_prefix (Err fault) a b c s t name bytes m first added put whole prefix =
+    let w = wrote_within a b c s t name (take m bytes) first added put prefix in
     let k = front_of_front w.0 m bytes in
     ((name, take k.0 bytes) ∷ [], inr (k.0, refl), w.1 ∙ ap (λ l. with_created a ((name, l) ∷ [])) k.1)
 
 -- what the sink took of an output that a session wrote: all of it, or a front
 pub took : (o : Option (List ℕ)) (a b : Stream) (n : ℕ) → IsSome o → WritesOutput o a b (Ok n) → Appends a.taken b.taken (unwrap_or o [])
 took None a b n some h = absurd (cc)
-took (Some text) a b n some h = h.1
+took (Some bytes) a b n some h = h.1
 
 pub took_front : (o : Option (List ℕ)) (a b : Stream) (e : Refusal) → IsSome o → WritesOutput o a b (Err e) → (m : ℕ) × Appends a.taken b.taken (take m (unwrap_or o []))
 took_front None a b e some h = absurd (cc)
-took_front (Some text) a b (refusal.WriteFault n) some h = (n, h.1)
-took_front (Some text) a b _ some h = absurd h
+took_front (Some bytes) a b (refusal.WriteFault n) some h = (n, h.1)
+took_front (Some bytes) a b _ some h = absurd h
 
 -- So far some of the outputs are created, and these are the names of the others.
 pub record HasWritten (outputs : List File) (old new : Option (List File)) (names : List (List ℕ)) : Type 0 where
@@ -164,27 +164,27 @@ stops_without outputs old mid new name names fault next nothing = record {
   bytes = unwrap_or (lookup (bytes_eq name) outputs) [];
   after = next.others;
   split = next.all;
-  part = [];
-  is_part = inl refl;
-  no_part = λ _. refl;
+  prefix = [];
+  is_prefix = inl refl;
+  no_prefix = λ _. refl;
   created = nothing ∙ next.created ∙ ap (with_created old) (sym (append-nil next.done));
 }
 
 stops_with : (outputs : List File) (old mid new : Option (List File)) (name : List ℕ) (names : List (List ℕ)) (fault : FolderFault) → IsNext outputs old mid name names
-    → AddsPart mid new (name, unwrap_or (lookup (bytes_eq name) outputs) []) → fault ≢ NoMemory → StopsAt outputs old new name fault
+    → AddsPrefix mid new (name, unwrap_or (lookup (bytes_eq name) outputs) []) → fault ≢ NoMemory → StopsAt outputs old new name fault
 stops_with outputs old mid new name names fault next added failed = record {
   before = next.done;
   bytes = unwrap_or (lookup (bytes_eq name) outputs) [];
   after = next.others;
   split = next.all;
-  part = added.0;
-  is_part = added.1;
-  no_part = λ e. absurd (failed e);
+  prefix = added.0;
+  is_prefix = added.1;
+  no_prefix = λ e. absurd (failed e);
   created = added.2 ∙ (ap (λ m. with_created m added.0) next.created ∙ with_created-append old next.done added.0);
 }
 
 pub stops_at_next : (outputs : List File) (old mid new : Option (List File)) (name : List ℕ) (names : List (List ℕ)) (fault : FolderFault) → IsNext outputs old mid name names
-    → AddsPart mid new (name, unwrap_or (lookup (bytes_eq name) outputs) []) → (fault ≡ NoMemory → new ≡ mid) → StopsAt outputs old new name fault
+    → AddsPrefix mid new (name, unwrap_or (lookup (bytes_eq name) outputs) []) → (fault ≡ NoMemory → new ≡ mid) → StopsAt outputs old new name fault
 stops_at_next outputs old mid new name names NoMemory next added nothing = stops_without outputs old mid new name names NoMemory next (nothing refl)
 stops_at_next outputs old mid new name names Missing next added nothing = stops_with outputs old mid new name names Missing next added (λ e. cc)
 stops_at_next outputs old mid new name names IsFailed next added nothing = stops_with outputs old mid new name names IsFailed next added (λ e. cc)

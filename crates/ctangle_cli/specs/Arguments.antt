@@ -4,18 +4,31 @@ use Rattle.std.specs.List.{list_any, after_last, before_last}
 use Rattle.std.specs.Str.{bytes_eq}
 use Rattle.tangle_files.specs.Roles.{RolesRead, roles_of}
 
--- an argument of two bytes or more that begins with a hyphen (45) or a plus sign (43)
+-- the bytes that the rules of arguments name
+abbrev pub hyphen : ℕ
+hyphen = 45
+
+abbrev pub plus : ℕ
+plus = 43
+
+abbrev pub slash : ℕ
+slash = 47
+
+abbrev pub dot : ℕ
+dot = 46
+
+-- an argument of two bytes or more that begins with a hyphen or a plus sign
 abbrev pub is_flag : List ℕ → Bool
 is_flag [] = false
-is_flag (b ∷ bs) = nat_lt 0 (length bs) && ((b == 45) || (b == 43))
+is_flag (b ∷ bs) = nat_lt 0 (length bs) && ((b == hyphen) || (b == plus))
 
--- the part of a name after its last slash (47)
+-- the part of a name after its last slash
 abbrev pub base_name : List ℕ → List ℕ
-base_name name = after_last (λ b. b == 47) name
+base_name name = after_last (λ b. b == slash) name
 
--- a name has an extension if that part has a dot (46)
+-- a name has an extension if that part has a dot
 abbrev pub has_extension : List ℕ → Bool
-has_extension name = list_any (λ b. b == 46) (base_name name)
+has_extension name = list_any (λ b. b == dot) (base_name name)
 
 abbrev pub with_extension : List ℕ → List ℕ → List ℕ
 with_extension name extension = if has_extension name then name else name ++ extension
@@ -32,7 +45,7 @@ out_name argument = with_extension argument (codes ".c")
 
 -- the main file of a web, where none is named: the web's part after its last slash and before its last dot, with `.c`
 abbrev pub main_name : List ℕ → List ℕ
-main_name web = before_last (λ b. b == 46) (base_name web) ++ codes ".c"
+main_name web = before_last (λ b. b == dot) (base_name web) ++ codes ".c"
 
 -- the change file, if one is named
 abbrev pub change_of : Option (List ℕ) → Option (List ℕ)
@@ -56,5 +69,5 @@ named_by (web ∷ (change ∷ (out ∷ []))) = Some (completed_names web (Some c
 named_by (web ∷ (change ∷ (out ∷ (more ∷ arguments)))) = None
 
 -- the names that the arguments give, or none where no argument is a name or more than three are
-unfoldable pub names_of : List (List ℕ) → Option RolesRead
-names_of arguments = named_by (filter (λ argument. not (is_flag argument)) arguments)
+unfoldable pub names_by_arguments : List (List ℕ) → Option RolesRead
+names_by_arguments arguments = named_by (filter (λ argument. not (is_flag argument)) arguments)

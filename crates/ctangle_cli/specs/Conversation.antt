@@ -21,16 +21,16 @@ use Rattle.tangle_session.specs.Sessions.{AreMade, SessionRead}
 use Rattle.tangle_session.specs.Tangle.{AreFaultsOf, output_at}
 use Rattle.tangle_session.specs.declared.refusing.ListRefusal.{ListRefusal}
 use Rattle.ctangle_cli.specs.Messages.{fault_lines, refusal_name}
-use Rattle.ctangle_cli.specs.declared.conversation.Taken.{Taken}
-use Rattle.ctangle_cli.specs.declared.conversation.Taken.TheVariants.{Made, Held}
+use Rattle.ctangle_cli.specs.declared.conversation.Accepted.{Accepted}
+use Rattle.ctangle_cli.specs.declared.conversation.Accepted.TheVariants.{Made, Held}
 
 -- a session, and the list of edits that is open, if one is
-pub record ConversationRead : Type 0 where
+pub record SessionAndDraft : Type 0 where
   pub session : SessionRead
   pub draft : Option (List Edit)
 
-abbrev pub in_conversation : SessionRead → Option (Vec Edit Global) → ConversationRead
-in_conversation session draft =
+abbrev pub session_and_draft : SessionRead → Option (Vec Edit Global) → SessionAndDraft
+session_and_draft session draft =
     record { session = session; draft = option_map (λ d. d.items) draft }
 
 abbrev pub marks_request : MarkMode → Request
@@ -50,14 +50,14 @@ abbrev pub refused_line : Refusal → List ℕ
 refused_line refusal = codes "no " ++ refusal_name refusal ++ codes "\n"
 
 -- the line that says that an edit was made, or is held in the list that is open
-abbrev pub word_line : Taken → List ℕ
-word_line Made = codes "ok\n"
-word_line Held = codes "held\n"
+abbrev pub accepted_line : Accepted → List ℕ
+accepted_line Made = codes "ok\n"
+accepted_line Held = codes "held\n"
 
--- the line that says what came of an edit
-abbrev pub taken_line : Result Taken Refusal → List ℕ
-taken_line (Ok taken) = word_line taken
-taken_line (Err refusal) = refused_line refusal
+-- the answer to an edit
+abbrev pub edit_line : Result Accepted Refusal → List ℕ
+edit_line (Ok accepted) = accepted_line accepted
+edit_line (Err refusal) = refused_line refusal
 
 -- the number of the edit that a list is refused for, from 1; 0 where memory ran out
 abbrev pub edit_number_of : Refusal → ℕ → ℕ
@@ -72,64 +72,64 @@ list_refused_line refused =
     codes "no " ++ refusal_name refused.refusal ++ codes " " ++ decimal (edit_number refused)
     ++ codes "\n"
 
--- the line that says what came of a list of edits
+-- the answer to a list of edits
 abbrev pub list_line : {T : Type 0} → Result T ListRefusal → List ℕ
 list_line (Ok done) = codes "ok\n"
 list_line (Err refused) = list_refused_line refused
 
 -- an edit is made and answered so, or is refused and changes nothing
-pub data AnswersEdit (s : SessionRead) (made : Edit) (text : List ℕ) (t : SessionRead) :
+pub data AnswersEdit (s : SessionRead) (made : Edit) (output : List ℕ) (t : SessionRead) :
     Type 0 where
-  IsMade : session_refusal s.files s.roles made ≡ None → text ≡ codes "ok\n"
-      → AreMade s (made ∷ []) t → AnswersEdit s made text t
+  IsMade : session_refusal s.files s.roles made ≡ None → output ≡ codes "ok\n"
+      → AreMade s (made ∷ []) t → AnswersEdit s made output t
   IsRefused : (refusal : Refusal) → session_refusal s.files s.roles made ≡ Some refusal
-      → text ≡ refused_line refusal → t ≡ s → AnswersEdit s made text t
+      → output ≡ refused_line refusal → t ≡ s → AnswersEdit s made output t
 
 -- so is a list of edits, which may also run out of memory, and then changes nothing
-pub data AnswersList (s : SessionRead) (made : List Edit) (text : List ℕ) (t : SessionRead) :
+pub data AnswersList (s : SessionRead) (made : List Edit) (output : List ℕ) (t : SessionRead) :
     Type 0 where
-  IsListMade : list_refusal s.files s.roles made ≡ None → text ≡ codes "ok\n" → AreMade s made t
-      → AnswersList s made text t
+  IsListMade : list_refusal s.files s.roles made ≡ None → output ≡ codes "ok\n" → AreMade s made t
+      → AnswersList s made output t
   IsListRefused : (refused : ListRefusal) → list_refusal s.files s.roles made ≡ Some refused
-      → text ≡ list_refused_line refused → t ≡ s → AnswersList s made text t
-  IsListOutOfMemory : text ≡ list_refused_line list_memory → t ≡ s → AnswersList s made text t
+      → output ≡ list_refused_line refused → t ≡ s → AnswersList s made output t
+  IsListOutOfMemory : output ≡ list_refused_line list_memory → t ≡ s → AnswersList s made output t
 
 -- an edit is made while no list is open, and is held last in the list that is open
 abbrev pub AnswersIn :
-    Option (List Edit) → ConversationRead → Edit → List ℕ → ConversationRead → Type 0
-AnswersIn None s made text t = AnswersEdit s.session made text t.session × (t.draft ≡ None)
-AnswersIn (Some held) s made text t =
-    (text ≡ codes "held\n")
+    Option (List Edit) → SessionAndDraft → Edit → List ℕ → SessionAndDraft → Type 0
+AnswersIn None s made output t = AnswersEdit s.session made output t.session × (t.draft ≡ None)
+AnswersIn (Some held) s made output t =
+    (output ≡ codes "held\n")
     × (t ≡ record { session = s.session; draft = Some (held ++ made ∷ []) })
 
 -- the answer to a request for an edit
-abbrev pub AnswersRequest : ConversationRead → Request → List ℕ → ConversationRead → Type 0
-AnswersRequest s request text t =
-    (made : Edit) × (request_for made ≡ request) × AnswersIn s.draft s made text t
+abbrev pub AnswersRequest : SessionAndDraft → Request → List ℕ → SessionAndDraft → Type 0
+AnswersRequest s request output t =
+    (made : Edit) × (request_for made ≡ request) × AnswersIn s.draft s made output t
 
-abbrev pub IsBad : ConversationRead → List ℕ → ConversationRead → Type 0
-IsBad s text t = (text ≡ codes "no BadCommand\n") × (t ≡ s)
+abbrev pub IsBad : SessionAndDraft → List ℕ → SessionAndDraft → Type 0
+IsBad s output t = (output ≡ codes "no BadCommand\n") × (t ≡ s)
 
 -- a list is opened, where none is open
 abbrev pub AnswersBegin :
-    Option (List Edit) → ConversationRead → List ℕ → ConversationRead → Type 0
-AnswersBegin None s text t =
-    (text ≡ codes "ok\n") × (t ≡ record { session = s.session; draft = Some [] })
-AnswersBegin (Some held) s text t = IsBad s text t
+    Option (List Edit) → SessionAndDraft → List ℕ → SessionAndDraft → Type 0
+AnswersBegin None s output t =
+    (output ≡ codes "ok\n") × (t ≡ record { session = s.session; draft = Some [] })
+AnswersBegin (Some held) s output t = IsBad s output t
 
 -- the edits of the list that is open are made, all or none, and the list is closed
 abbrev pub AnswersCommit :
-    Option (List Edit) → ConversationRead → List ℕ → ConversationRead → Type 0
-AnswersCommit None s text t = IsBad s text t
-AnswersCommit (Some held) s text t =
-    AnswersList s.session held text t.session × (t.draft ≡ None)
+    Option (List Edit) → SessionAndDraft → List ℕ → SessionAndDraft → Type 0
+AnswersCommit None s output t = IsBad s output t
+AnswersCommit (Some held) s output t =
+    AnswersList s.session held output t.session × (t.draft ≡ None)
 
 -- the list that is open is dropped
 abbrev pub AnswersCancel :
-    Option (List Edit) → ConversationRead → List ℕ → ConversationRead → Type 0
-AnswersCancel None s text t = IsBad s text t
-AnswersCancel (Some held) s text t =
-    (text ≡ codes "ok\n") × (t ≡ record { session = s.session; draft = None })
+    Option (List Edit) → SessionAndDraft → List ℕ → SessionAndDraft → Type 0
+AnswersCancel None s output t = IsBad s output t
+AnswersCancel (Some held) s output t =
+    (output ≡ codes "ok\n") × (t ≡ record { session = s.session; draft = None })
 
 -- an output file of this name as it is shown, or that there is none
 abbrev pub shown : List ℕ → Option (List ℕ) → List ℕ
@@ -143,32 +143,32 @@ listed_faults faults =
 
 -- the faults of the files are listed
 abbrev pub ListsFaults : SessionRead → List ℕ → Type 0
-ListsFaults s text =
-    (faults : List FaultRead) × AreFaultsOf s.files s.roles faults × (text ≡ listed_faults faults)
+ListsFaults s output =
+    (faults : List FaultRead) × AreFaultsOf s.files s.roles faults × (output ≡ listed_faults faults)
 
--- This text answers the request, and the other conversation is the one after it. Questions are
--- answered from the session, whether a list is open or not, and change nothing.
-abbrev pub answers : ConversationRead → Request → List ℕ → ConversationRead → Type 0
-answers s (Insert at file line) text t = AnswersRequest s (Insert at file line) text t
-answers s (Replace at file line) text t = AnswersRequest s (Replace at file line) text t
-answers s (Remove at file) text t = AnswersRequest s (Remove at file) text t
-answers s (Create file) text t = AnswersRequest s (Create file) text t
-answers s (Discard file) text t = AnswersRequest s (Discard file) text t
-answers s MarksFull text t = AnswersRequest s MarksFull text t
-answers s MarksNone text t = AnswersRequest s MarksNone text t
-answers s Begin text t = AnswersBegin s.draft s text t
-answers s Commit text t = AnswersCommit s.draft s text t
-answers s Cancel text t = AnswersCancel s.draft s text t
-answers s (Show file) text t =
-    (text ≡ shown file (output_at s.session.files s.session.roles file)) × (t ≡ s)
-answers s Faults text t = ListsFaults s.session text × (t ≡ s)
-answers s Work text t =
-    (text ≡ codes "work " ++ decimal (length s.session.work) ++ codes "\n") × (t ≡ s)
-answers s Quit text t = (text ≡ codes "ok\n") × (t ≡ s)
-answers s BadCommand text t = IsBad s text t
+-- This output answers the request, and the other session, with its open list, is the one after it.
+-- Questions are answered from the session, whether a list is open or not, and change nothing.
+abbrev pub answers : SessionAndDraft → Request → List ℕ → SessionAndDraft → Type 0
+answers s (Insert at file text) output t = AnswersRequest s (Insert at file text) output t
+answers s (Replace at file text) output t = AnswersRequest s (Replace at file text) output t
+answers s (Remove at file) output t = AnswersRequest s (Remove at file) output t
+answers s (Create file) output t = AnswersRequest s (Create file) output t
+answers s (Discard file) output t = AnswersRequest s (Discard file) output t
+answers s MarksFull output t = AnswersRequest s MarksFull output t
+answers s MarksNone output t = AnswersRequest s MarksNone output t
+answers s Begin output t = AnswersBegin s.draft s output t
+answers s Commit output t = AnswersCommit s.draft s output t
+answers s Cancel output t = AnswersCancel s.draft s output t
+answers s (Show file) output t =
+    (output ≡ shown file (output_at s.session.files s.session.roles file)) × (t ≡ s)
+answers s Faults output t = ListsFaults s.session output × (t ≡ s)
+answers s Work output t =
+    (output ≡ codes "work " ++ decimal (length s.session.work) ++ codes "\n") × (t ≡ s)
+answers s Quit output t = (output ≡ codes "ok\n") × (t ≡ s)
+answers s BadCommand output t = IsBad s output t
 
 -- whether an error is among the faults of the files
-abbrev pub HasError : ConversationRead → Bool → Type 0
+abbrev pub HasError : SessionAndDraft → Bool → Type 0
 HasError s error =
     (faults : List FaultRead) × AreFaultsOf s.session.files s.session.roles faults
     × (error ≡ list_any is_error faults)

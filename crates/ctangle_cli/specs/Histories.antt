@@ -6,7 +6,7 @@ use Rattle.tangle_files.specs.declared.refusal.Refusal.{Refusal}
 use Rattle.tangle_script.specs.Requests.{Command, Request, is_edit, request_of}
 use Rattle.tangle_script.specs.Requests.Request.{Begin, Commit, Cancel}
 use Rattle.tangle_session.specs.Edits.{of_first}
-use Rattle.tangle_session.specs.Headline.{Call, OneEdit, ListOf}
+use Rattle.tangle_session.specs.Headline.{Call, Single, Several}
 use Rattle.tangle_session.specs.declared.refusing.ListRefusal.{ListRefusal}
 use Rattle.ctangle_cli.specs.Conversation.{list_line, refused_line, request_for}
 
@@ -15,7 +15,7 @@ abbrev pub one_answer : Result (Unit {0}) Refusal → Result (Unit {0}) ListRefu
 one_answer (Ok done) = Ok done
 one_answer (Err refusal) = Err (of_first refusal)
 
--- the line that says what came of one edit
+-- the line that answers one edit
 abbrev pub one_line : Result (Unit {0}) Refusal → List ℕ
 one_line (Ok done) = codes "ok\n"
 one_line (Err refusal) = refused_line refusal
@@ -28,39 +28,39 @@ is_of_list (Some held) Commit = true
 is_of_list (Some held) Cancel = true
 is_of_list (Some held) _ = false
 
--- What became of a request that was answered by this text: the calls of it, of which there is one or
--- none, and the list that is open before and after it, if one is.
-pub data IsCallOf (request : Request) (text : List ℕ) :
+-- What became of a request that was answered by this output: the calls of it, of which there is one
+-- or none, and the list that is open before and after it, if one is.
+pub data IsCallOf (request : Request) (output : List ℕ) :
     Option (List Edit) → List Call → Option (List Edit) → Type 0 where
-  -- an edit was passed, and answered as the text says
+  -- an edit was passed, and answered by this output
   IsEdit : (edit : Edit) (answer : Result (Unit {0}) Refusal)
-      → request_for edit ≡ request → text ≡ one_line answer
-      → IsCallOf request text None ((OneEdit edit, one_answer answer) ∷ []) None
+      → request_for edit ≡ request → output ≡ one_line answer
+      → IsCallOf request output None ((Single edit, one_answer answer) ∷ []) None
   -- an edit is held in the list that is open
-  IsHeld : (held : List Edit) (edit : Edit) → request_for edit ≡ request → text ≡ codes "held\n"
-      → IsCallOf request text (Some held) [] (Some (held ++ edit ∷ []))
+  IsHeld : (held : List Edit) (edit : Edit) → request_for edit ≡ request → output ≡ codes "held\n"
+      → IsCallOf request output (Some held) [] (Some (held ++ edit ∷ []))
   -- a list was opened
-  IsOpened : request ≡ Begin → text ≡ codes "ok\n" → IsCallOf request text None [] (Some [])
-  -- the edits of the list were passed at once, and answered as the text says
+  IsOpened : request ≡ Begin → output ≡ codes "ok\n" → IsCallOf request output None [] (Some [])
+  -- the edits of the list were passed at once, and answered by this output
   IsCommitted : (held : List Edit) (answer : Result (Unit {0}) ListRefusal) → request ≡ Commit
-      → text ≡ list_line answer
-      → IsCallOf request text (Some held) ((ListOf held, answer) ∷ []) None
+      → output ≡ list_line answer
+      → IsCallOf request output (Some held) ((Several held, answer) ∷ []) None
   -- the list was dropped
-  IsDropped : (held : List Edit) → request ≡ Cancel → text ≡ codes "ok\n"
-      → IsCallOf request text (Some held) [] None
+  IsDropped : (held : List Edit) → request ≡ Cancel → output ≡ codes "ok\n"
+      → IsCallOf request output (Some held) [] None
   -- the request asks for none of these
   IsNoEdit : (draft : Option (List Edit)) → is_edit request ≡ false
-      → is_of_list draft request ≡ false → IsCallOf request text draft [] draft
-  -- memory ran out for the texts of an edit, or for holding it
+      → is_of_list draft request ≡ false → IsCallOf request output draft [] draft
+  -- memory ran out for the bytes of an edit, or for holding it
   IsOutOfMemory : (draft : Option (List Edit)) → is_edit request ≡ true
-      → text ≡ codes "no NoMemory\n" → IsCallOf request text draft [] draft
+      → output ≡ codes "no NoMemory\n" → IsCallOf request output draft [] draft
 
--- what became of commands that were answered by this text, one after another
+-- what became of commands that were answered by this output, one after another
 abbrev pub AreCallsOf :
     List Command → List ℕ → Option (List Edit) → List Call → Option (List Edit) → Type 0
-AreCallsOf [] text old calls new = (text ≡ []) × (calls ≡ []) × (new ≡ old)
-AreCallsOf (command ∷ commands) text old calls new =
+AreCallsOf [] output old calls new = (output ≡ []) × (calls ≡ []) × (new ≡ old)
+AreCallsOf (command ∷ commands) output old calls new =
     (first rest : List ℕ) × (call later : List Call) × (between : Option (List Edit))
-    × (text ≡ first ++ rest) × (calls ≡ call ++ later)
+    × (output ≡ first ++ rest) × (calls ≡ call ++ later)
     × IsCallOf (request_of command) first old call between
     × AreCallsOf commands rest between later new

@@ -4,8 +4,8 @@ pub mod Writing
 pub mod Loading
 pub mod Messages
 pub mod Run
-pub mod Questions
-pub mod Asking
+pub mod AskedNames
+pub mod AskedOnce
 pub mod Tries
 pub mod Conversation
 pub mod Histories

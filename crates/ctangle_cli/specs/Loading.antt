@@ -1,7 +1,7 @@
--- Loading: the files that a run reads, and how it ends where one is in the way.
+-- Loading: the files that a run reads, and how it ends where one can't be read or is refused.
 use Rattle.std.specs.Prelude.{◌≡◌, ◌⊎◌, ◌<◌, ◌≤◌, ⊤, ℕ, zero, suc, ◌-◌, ◌==◌, ◌||◌, not, nat_lt, length, map, filter, Bool, true, false, List, [], ◌∷◌, ◌++◌, Option, None, Some, IfSome, Result, Ok, Err, if◌then◌else◌, All}
 use Rattle.tangle_files.specs.declared.refusal.Refusal.{Refusal}
-use Rattle.tangle_files.specs.declared.refusal.Refusal.TheVariants.{BadName, NoMemory as NoRoom}
+use Rattle.tangle_files.specs.declared.refusal.Refusal.TheVariants.{BadName, NoMemory as RefusalMemory}
 use Rattle.tangle_faults.specs.declared.faults.FaultKind.{FaultKind}
 use Rattle.tangle_faults.specs.declared.faults.FaultKind.TheVariants.{IncludeMissing}
 use Rattle.tangle_faults.specs.Faults.{FaultRead}
@@ -14,13 +14,13 @@ use Rattle.tangle_files.specs.Roles.{RolesRead}
 use Rattle.tangle_streams.specs.Streams.{Failed}
 use Rattle.tangle_folders.specs.Folder.{File, file_bytes, file_limit}
 use Rattle.ctangle_cli.specs.declared.loading.LoadFault.{LoadFault}
-use Rattle.ctangle_cli.specs.declared.loading.LoadFault.TheVariants.{CannotRead, Refused, NoMemory}
+use Rattle.ctangle_cli.specs.declared.loading.LoadFault.TheVariants as fault
 
 -- why loading ends without its files: a file can't be read, or is refused, or memory runs out
 pub data LoadEnd : Type 0 where
-  Unreadable : List ℕ → LoadEnd
-  Refuses : List ℕ → Refusal → LoadEnd
-  Memory : LoadEnd
+  CannotRead : List ℕ → LoadEnd
+  Refused : List ℕ → Refusal → LoadEnd
+  NoMemory : LoadEnd
 
 -- the files loaded, or why there are none
 abbrev pub Loaded : Type 0
@@ -33,15 +33,15 @@ and_then (Err ending) rest = Err ending
 -- a file is added, unless the table refuses it
 abbrev pub unless_refused : FileTable → List ℕ → List ℕ → Option Refusal → Loaded
 unless_refused files name bytes None = Ok (with_file files name bytes)
-unless_refused files name bytes (Some refusal) = Err (Refuses name refusal)
+unless_refused files name bytes (Some refusal) = Err (Refused name refusal)
 
 abbrev pub add_bytes : FileTable → List ℕ → List ℕ → Loaded
 add_bytes files name bytes =
-    if nat_lt file_limit (length bytes) then Err (Unreadable name) else unless_refused files name bytes (add_refusal files name bytes)
+    if nat_lt file_limit (length bytes) then Err (CannotRead name) else unless_refused files name bytes (add_refusal files name bytes)
 
 -- a file that has to be there
 abbrev pub add_needed : FileTable → List ℕ → Option (List ℕ) → Loaded
-add_needed files name None = Err (Unreadable name)
+add_needed files name None = Err (CannotRead name)
 add_needed files name (Some bytes) = add_bytes files name bytes
 
 -- a file that may be missing
@@ -58,7 +58,7 @@ abbrev pub missed_in : List FaultRead → List (List ℕ)
 missed_in faults = map (λ f. f.subject) (filter (λ f. is_missing_kind f.kind) faults)
 
 unfoldable pub missing_of : FileTable → RolesRead → List (List ℕ)
-missing_of files names = missed_in (source_of files names).faults
+missing_of files roles = missed_in (source_of files roles).faults
 
 -- a line that includes a file that isn't in the table
 abbrev pub misses_name : FileTable → Option (List ℕ) → Bool
@@ -68,9 +68,9 @@ misses_name files (Some name) = not (has_file files name)
 abbrev pub misses_file : FileTable → List ℕ → Bool
 misses_file files line = misses_name files (included_name line)
 
--- no line of a file is one
-abbrev pub IsSettled : FileTable → Type 0
-IsSettled files = (n : ℕ) → list_any (misses_file files) (lines_at files n) ≡ false
+-- no line of a file includes a file that is missing
+abbrev pub IncludesNoMissing : FileTable → Type 0
+IncludesNoMissing files = (n : ℕ) → list_any (misses_file files) (lines_at files n) ≡ false
 
 -- A round that adds no file is the last. Each name that it misses was tried, and the folder doesn't change.
 abbrev pub after_round : FileTable → Loaded → (FileTable → Loaded) → Loaded
@@ -97,10 +97,10 @@ module _ (all : List File) where
   with_inclusions [] files = Ok files
   with_inclusions (name ∷ names) files = and_then (with_inclusion files name) (λ next. with_inclusions names next)
 
-  module _ (names : RolesRead) where
+  module _ (roles : RolesRead) where
     -- the sources are read, and the files that they miss are added
     abbrev pub with_round : FileTable → Loaded
-    with_round files = with_inclusions (missing_of files names) files
+    with_round files = with_inclusions (missing_of files roles) files
 
     -- at most so many rounds
     unfoldable pub rounds_in : ℕ → FileTable → Loaded
@@ -117,20 +117,20 @@ bad_change (Some name) rest = if is_name name then rest else Some name
 
 -- the first of the web, the change file and the main file whose name is no file name
 abbrev pub bad_name : RolesRead → Option (List ℕ)
-bad_name names =
-    if not (is_name names.web) then Some names.web else bad_change names.change (if is_name names.out then None else Some names.out)
+bad_name roles =
+    if not (is_name roles.web) then Some roles.web else bad_change roles.change (if is_name roles.out then None else Some roles.out)
 
 abbrev pub load_unless : List File → RolesRead → Option (List ℕ) → Loaded
-load_unless all names (Some name) = Err (Refuses name BadName)
-load_unless all names None =
-    and_then (with_needed all [] names.web) (λ files. and_then (with_change all files names.change) (λ more. rounds_from all names more))
+load_unless all roles (Some name) = Err (Refused name BadName)
+load_unless all roles None =
+    and_then (with_needed all [] roles.web) (λ files. and_then (with_change all files roles.change) (λ more. rounds_from all roles more))
 
 -- What loading by these names gives, of a folder with these files: the web, then the change file, and then in
 -- rounds the files that inclusions miss.
 abbrev pub load_of : List File → RolesRead → Loaded
-load_of all names = load_unless all names (bad_name names)
+load_of all roles = load_unless all roles (bad_name roles)
 
--- the table has these files, and perhaps others behind them, up to its limit
+-- the table has these files, and perhaps others after them, up to its limit
 pub record Grows (old new : FileTable) : Type 0 where
   pub more : FileTable
   pub is : new ≡ old ++ more
@@ -142,11 +142,11 @@ LoadsTo reported loads failures failures' files = IfSome reported (λ all. loads
 
 -- why a loading stopped: by what the folder has, or because it failed, or for lack of memory
 abbrev pub StopsFor : Option (List File) → (List File → Loaded) → ℕ → ℕ → LoadEnd → Type 0
-StopsFor reported loads failures failures' (Unreadable name) =
-    (IfSome reported (λ all. loads all ≡ Err (Unreadable name)) × (failures' ≡ failures)) ⊎ Failed failures failures'
-StopsFor reported loads failures failures' (Refuses name refusal) =
-    IfSome reported (λ all. loads all ≡ Err (Refuses name refusal)) × (failures' ≡ failures)
-StopsFor reported loads failures failures' Memory = ⊤
+StopsFor reported loads failures failures' (CannotRead name) =
+    (IfSome reported (λ all. loads all ≡ Err (CannotRead name)) × (failures' ≡ failures)) ⊎ Failed failures failures'
+StopsFor reported loads failures failures' (Refused name refusal) =
+    IfSome reported (λ all. loads all ≡ Err (Refused name refusal)) × (failures' ≡ failures)
+StopsFor reported loads failures failures' NoMemory = ⊤
 
 -- the name that the folder was asked for last, where it reports what it was asked for
 abbrev pub IsAskedLast : Option (List (List ℕ)) → List ℕ → Type 0
@@ -155,9 +155,9 @@ IsAskedLast asked name = IfSome asked (λ names. (before : List (List ℕ)) × (
 -- A file that can't be read is the one that the folder was asked for last. So where the folder failed, the name is that of
 -- the file at which it failed.
 abbrev pub NamesLastAsked : Option (List (List ℕ)) → LoadEnd → Type 0
-NamesLastAsked asked (Unreadable name) = IsAskedLast asked name
-NamesLastAsked asked (Refuses name refusal) = ⊤
-NamesLastAsked asked Memory = ⊤
+NamesLastAsked asked (CannotRead name) = IsAskedLast asked name
+NamesLastAsked asked (Refused name refusal) = ⊤
+NamesLastAsked asked NoMemory = ⊤
 
 -- the folder, where it reports its files, has none of these names
 abbrev pub AreAbsent : Option (List File) → List (List ℕ) → Type 0
@@ -165,14 +165,14 @@ AreAbsent reported names = IfSome reported (λ all. All (λ name. file_bytes all
 
 -- a refusal ends a loading, and lack of memory does
 abbrev pub refused_as : List ℕ → Refusal → LoadEnd
-refused_as name NoRoom = Memory
-refused_as name refusal = Refuses name refusal
+refused_as name RefusalMemory = NoMemory
+refused_as name refusal = Refused name refusal
 
--- this ending, unless memory was short
+-- this ending, or out of memory
 abbrev pub IsLoadEnd : LoadEnd → LoadEnd → Type 0
-IsLoadEnd expected given = (given ≡ expected) ⊎ (given ≡ Memory)
+IsLoadEnd expected given = (given ≡ expected) ⊎ (given ≡ NoMemory)
 
 abbrev pub ending_of : LoadFault → LoadEnd
-ending_of (CannotRead name) = Unreadable name.items
-ending_of (Refused name refusal) = Refuses name.items refusal
-ending_of NoMemory = Memory
+ending_of (fault.CannotRead name) = CannotRead name.items
+ending_of (fault.Refused name refusal) = Refused name.items refusal
+ending_of fault.NoMemory = NoMemory

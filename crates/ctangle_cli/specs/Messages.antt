@@ -4,12 +4,12 @@ use Rattle.std.specs.Io.KnownBytes.{Appends}
 use Rattle.tangle_files.specs.declared.refusal.Refusal.{Refusal}
 use Rattle.tangle_files.specs.declared.refusal.Refusal.TheVariants.{BadName, FileExists, TooManyFiles, LineTooLong, TooManyLines, NoMemory, UnknownFile, NoSuchLine, BadLine, NoWeb, NoChange, RoleFile, NoOutput, WriteFault}
 use Rattle.tangle_faults.specs.Faults.{FaultRead, is_error}
-use Rattle.tangle_faults.specs.FaultText.{fault_line}
+use Rattle.tangle_faults.specs.FaultLine.{fault_line}
 use Rattle.tangle_streams.specs.Streams.{Stream, Failed}
 use Rattle.tangle_folders.specs.declared.folder.FolderFault.{FolderFault}
-use Rattle.tangle_folders.specs.declared.folder.FolderFault.TheVariants.{Missing, TooBig, Failed as IsFailed, NoMemory as NoRoom}
+use Rattle.tangle_folders.specs.declared.folder.FolderFault.TheVariants.{Missing, TooBig, Failed as IsFailed, NoMemory as FolderMemory}
 use Rattle.ctangle_cli.specs.Loading.{LoadEnd}
-use Rattle.ctangle_cli.specs.Loading.LoadEnd.{Unreadable, Refuses, Memory}
+use Rattle.ctangle_cli.specs.Loading.LoadEnd.{CannotRead, Refused, NoMemory as LoadMemory}
 
 abbrev pub usage_line : List ℕ
 usage_line = codes "usage: ctangle [flags] web [change [out]]\n"
@@ -30,32 +30,32 @@ refusal_name RoleFile = codes "RoleFile"
 refusal_name NoOutput = codes "NoOutput"
 refusal_name (WriteFault n) = codes "WriteFault"
 
--- the line of a loading that ended without its files, behind the program's name
+-- the line of a loading that ended without its files, after the program's name
 abbrev pub ending_line : List ℕ → LoadEnd → List ℕ
-ending_line program (Unreadable name) = program ++ codes ": cannot read " ++ name ++ codes "\n"
-ending_line program (Refuses name refusal) = program ++ codes ": " ++ name ++ codes ": " ++ refusal_name refusal ++ codes "\n"
-ending_line program Memory = program ++ codes ": NoMemory\n"
+ending_line program (CannotRead name) = program ++ codes ": cannot read " ++ name ++ codes "\n"
+ending_line program (Refused name refusal) = program ++ codes ": " ++ name ++ codes ": " ++ refusal_name refusal ++ codes "\n"
+ending_line program LoadMemory = program ++ codes ": NoMemory\n"
 
 abbrev pub no_memory_line : List ℕ
-no_memory_line = ending_line (codes "ctangle") Memory
+no_memory_line = ending_line (codes "ctangle") LoadMemory
 
 abbrev pub cannot_write_line : List ℕ → List ℕ
 cannot_write_line name = codes "ctangle: cannot write " ++ name ++ codes "\n"
 
 -- the line of an output that was not written
 abbrev pub unwritten_line : FolderFault → List ℕ → List ℕ
-unwritten_line NoRoom name = no_memory_line
+unwritten_line FolderMemory name = no_memory_line
 unwritten_line Missing name = cannot_write_line name
 unwritten_line IsFailed name = cannot_write_line name
 unwritten_line TooBig name = cannot_write_line name
 
--- the stream took the whole text, and did not fail
+-- the stream took all of these bytes, and did not fail
 abbrev pub TakesAll : Stream → Stream → List ℕ → Type 0
-TakesAll old new text = Appends old.taken new.taken text × (new.failures ≡ old.failures)
+TakesAll old new bytes = Appends old.taken new.taken bytes × (new.failures ≡ old.failures)
 
--- it took a prefix of the text, and failed
-abbrev pub TakesFront : Stream → Stream → List ℕ → Type 0
-TakesFront old new text = (n : ℕ) × (n < length text) × Appends old.taken new.taken (take n text) × Failed old.failures new.failures
+-- it took a prefix of them, and failed
+abbrev pub TakesPrefix : Stream → Stream → List ℕ → Type 0
+TakesPrefix old new bytes = (n : ℕ) × (n < length bytes) × Appends old.taken new.taken (take n bytes) × Failed old.failures new.failures
 
 -- the lines of the faults
 abbrev pub fault_lines : List FaultRead → List ℕ

@@ -4,7 +4,7 @@ use Rattle.clap.specs.Words.{App, Row, Rule, Text, first_of, matches_of, new_app
 use Rattle.clap.specs.declared.builder.action.ArgAction.TheVariants.{Set}
 use Rattle.tangle_files.specs.Roles.{RolesRead}
 use Rattle.ctangle_cli.specs.Arguments.{completed_names}
-use Rattle.ctangle_cli.specs.declared.retangle_arguments.Values.{Values}
+use Rattle.ctangle_cli.specs.declared.retangle_names.Values.{Values}
 
 -- WEB is required, and takes one value
 abbrev pub web_rule : Rule

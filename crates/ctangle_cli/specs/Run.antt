@@ -7,11 +7,11 @@ use Rattle.tangle_session.specs.Tangle.{Tangling, IsTanglingOf}
 use Rattle.tangle_folders.specs.declared.folder.FolderFault.{FolderFault}
 use Rattle.tangle_folders.specs.declared.folder.FolderFault.TheVariants.{NoMemory}
 use Rattle.tangle_folders.specs.Folder.{File, FolderRead, with_created}
-use Rattle.ctangle_cli.specs.Writing.{IsPart}
-use Rattle.ctangle_cli.specs.Arguments.{names_of}
+use Rattle.ctangle_cli.specs.Writing.{IsPrefixOf}
+use Rattle.ctangle_cli.specs.Arguments.{names_by_arguments}
 use Rattle.ctangle_cli.specs.Loading.{LoadEnd, LoadsTo, StopsFor, NamesLastAsked, load_of}
-use Rattle.ctangle_cli.specs.Questions.{AsksAll, AsksUntil, FailsLast}
-use Rattle.ctangle_cli.specs.Messages.{TakesAll, TakesFront, usage_line, ending_line, no_memory_line, unwritten_line, fault_lines, faults_status}
+use Rattle.ctangle_cli.specs.AskedNames.{AsksByRounds, AsksUntil, FailsLast}
+use Rattle.ctangle_cli.specs.Messages.{TakesAll, TakesPrefix, usage_line, ending_line, no_memory_line, unwritten_line, fault_lines, faults_status}
 
 -- what is known of the folder and of the error stream at a moment
 pub record Moment : Type 0 where
@@ -21,17 +21,17 @@ pub record Moment : Type 0 where
 abbrev pub moment : FolderRead → Stream → Moment
 moment folder stream = record { folder = folder; stream = stream }
 
--- the error stream took the text, and did not fail
+-- the error stream took these bytes, and did not fail
 abbrev pub Writes : Moment → Moment → List ℕ → Type 0
-Writes old new text = TakesAll old.stream new.stream text
+Writes old new bytes = TakesAll old.stream new.stream bytes
 
--- the error stream failed, and took a prefix of the text
+-- the error stream failed, and took a prefix of them
 abbrev pub IsCutOff : Moment → Moment → List ℕ → Type 0
-IsCutOff old new text = TakesFront old.stream new.stream text
+IsCutOff old new bytes = TakesPrefix old.stream new.stream bytes
 
 -- one or the other
 abbrev pub TriesToWrite : Moment → Moment → List ℕ → Type 0
-TriesToWrite old new text = Writes old new text ⊎ IsCutOff old new text
+TriesToWrite old new bytes = Writes old new bytes ⊎ IsCutOff old new bytes
 
 abbrev pub CreatesNothing : Moment → Moment → Type 0
 CreatesNothing old new = new.folder.created ≡ old.folder.created
@@ -46,9 +46,9 @@ LeavesFolder old new = CreatesNothing old new × AsksNothing old new × (new.fol
 
 -- The files of these names are loaded, and nothing else is done: the folder was asked for just the names of loading, and did
 -- not fail.
-pub record Loads (names : RolesRead) (old new : Moment) (files : FileTable) : Type 0 where
-  pub loaded : LoadsTo old.folder.files (λ all. load_of all names) old.folder.failures new.folder.failures files
-  pub asks : AsksAll old.folder.files names old.folder.asked new.folder.asked
+pub record Loads (roles : RolesRead) (old new : Moment) (files : FileTable) : Type 0 where
+  pub loaded : LoadsTo old.folder.files (λ all. load_of all roles) old.folder.failures new.folder.failures files
+  pub asks : AsksByRounds old.folder.files roles old.folder.asked new.folder.asked
   pub unfailed : new.folder.failed ≡ old.folder.failed
   pub files_stay : new.folder.files ≡ old.folder.files
   pub nothing_created : CreatesNothing old new
@@ -56,23 +56,23 @@ pub record Loads (names : RolesRead) (old new : Moment) (files : FileTable) : Ty
 
 -- Loading ended without its files: why; for which names the folder was asked until then, of which the last is the one that
 -- can't be read; and that it failed at none before that one.
-pub record StopsLoading (names : RolesRead) (old new : Moment) (ending : LoadEnd) : Type 0 where
-  pub why : StopsFor old.folder.files (λ all. load_of all names) old.folder.failures new.folder.failures ending
-  pub asks : AsksUntil old.folder.files names old.folder.asked new.folder.asked ending
+pub record StopsLoading (roles : RolesRead) (old new : Moment) (ending : LoadEnd) : Type 0 where
+  pub why : StopsFor old.folder.files (λ all. load_of all roles) old.folder.failures new.folder.failures ending
+  pub asks : AsksUntil old.folder.files roles old.folder.asked new.folder.asked ending
   pub reported : NamesLastAsked new.folder.asked ending
   pub fails : FailsLast old.folder new.folder
 
--- The outputs before the one of this name are created whole, and of that one this part: no file, or a prefix of its bytes; where
--- memory ran out, no file. No output after it is created.
+-- The outputs before the one of this name are created whole, and of that one this prefix: no file, or a prefix of its bytes;
+-- where memory ran out, no file. No output after it is created.
 pub record StopsAt (outputs : List File) (old new : Option (List File)) (name : List ℕ) (fault : FolderFault) : Type 0 where
   pub before : List File
   pub bytes : List ℕ
   pub after : List File
   pub split : outputs ≡ before ++ (name, bytes) ∷ after
-  pub part : List File
-  pub is_part : IsPart (name, bytes) part
-  pub no_part : fault ≡ NoMemory → part ≡ []
-  pub created : new ≡ with_created old (before ++ part)
+  pub prefix : List File
+  pub is_prefix : IsPrefixOf (name, bytes) prefix
+  pub no_prefix : fault ≡ NoMemory → prefix ≡ []
+  pub created : new ≡ with_created old (before ++ prefix)
 
 -- Writing the outputs stopped at one of them: the folder failed, or an allocation failed. The lines of the faults were
 -- written before, and then the line of that output, or a prefix of it.
@@ -94,43 +94,43 @@ pub data TangledEnds (tangling : Tangling) (old new : Moment) (status : ℕ) : T
   IsDone : Writes old new (fault_lines tangling.faults) → new.folder.created ≡ with_created old.folder.created tangling.outputs
       → new.folder.failures ≡ old.folder.failures → status ≡ faults_status tangling.faults → TangledEnds tangling old new status
   -- 3: the error stream fails at the lines of the faults, and no file is created
-  IsUnheard : IsCutOff old new (fault_lines tangling.faults) → LeavesFolder old new → status ≡ 3 → TangledEnds tangling old new status
+  IsCutAtFaults : IsCutOff old new (fault_lines tangling.faults) → LeavesFolder old new → status ≡ 3 → TangledEnds tangling old new status
   -- 3: an output can't be written
   IsUnwritten : IsStopped tangling old new → status ≡ 3 → TangledEnds tangling old new status
 
 -- how a run ends that has started a session of these files
-pub record SessionEnds (files : FileTable) (names : RolesRead) (old new : Moment) (status : ℕ) : Type 0 where
+pub record SessionEnds (files : FileTable) (roles : RolesRead) (old new : Moment) (status : ℕ) : Type 0 where
   pub tangling : Tangling
-  pub is : IsTanglingOf files names tangling
+  pub is : IsTanglingOf files roles tangling
   pub ends : TangledEnds tangling old new status
   pub asks_nothing : AsksNothing old new
 
 -- how a run ends whose arguments give these names
-pub data NamedEnds (names : RolesRead) (old new : Moment) (status : ℕ) : Type 0 where
+pub data NamedEnds (roles : RolesRead) (old new : Moment) (status : ℕ) : Type 0 where
   -- 3: a file can't be read, or is refused, or memory runs out
-  IsUnloaded : (ending : LoadEnd) → StopsLoading names old new ending → TriesToWrite old new (ending_line (codes "ctangle") ending)
-      → CreatesNothing old new → status ≡ 3 → NamedEnds names old new status
+  IsUnloaded : (ending : LoadEnd) → StopsLoading roles old new ending → TriesToWrite old new (ending_line (codes "ctangle") ending)
+      → CreatesNothing old new → status ≡ 3 → NamedEnds roles old new status
   -- 3: the files are loaded, and memory runs out to tangle them
-  IsUntangled : (files : FileTable) (loaded : Moment) → Loads names old loaded files → TriesToWrite loaded new no_memory_line
-      → LeavesFolder loaded new → status ≡ 3 → NamedEnds names old new status
+  IsUntangled : (files : FileTable) (loaded : Moment) → Loads roles old loaded files → TriesToWrite loaded new no_memory_line
+      → LeavesFolder loaded new → status ≡ 3 → NamedEnds roles old new status
   -- they are loaded, and the session is started that tangles them: 0, 1 or 3
-  IsTangled : (files : FileTable) (loaded : Moment) → Loads names old loaded files → SessionEnds files names loaded new status
-      → NamedEnds names old new status
+  IsTangled : (files : FileTable) (loaded : Moment) → Loads roles old loaded files → SessionEnds files roles loaded new status
+      → NamedEnds roles old new status
 
 -- how a run ends
 pub data RunEnds (arguments : List (List ℕ)) (old new : Moment) (status : ℕ) : Type 0 where
   -- 2: there is no name among the arguments, or more than three
-  IsMisused : names_of arguments ≡ None → Writes old new usage_line → LeavesFolder old new → status ≡ 2 → RunEnds arguments old new status
+  IsMisused : names_by_arguments arguments ≡ None → Writes old new usage_line → LeavesFolder old new → status ≡ 2 → RunEnds arguments old new status
   -- 3: the same, and the error stream fails
-  IsMisusedUnheard : names_of arguments ≡ None → IsCutOff old new usage_line → LeavesFolder old new → status ≡ 3 → RunEnds arguments old new status
+  IsCutAtUsage : names_by_arguments arguments ≡ None → IsCutOff old new usage_line → LeavesFolder old new → status ≡ 3 → RunEnds arguments old new status
   -- 3: memory runs out while the arguments are read
   IsUnnamed : TriesToWrite old new no_memory_line → LeavesFolder old new → status ≡ 3 → RunEnds arguments old new status
   -- the arguments give names
-  IsNamed : (names : RolesRead) → names_of arguments ≡ Some names → NamedEnds names old new status → RunEnds arguments old new status
+  IsNamed : (roles : RolesRead) → names_by_arguments arguments ≡ Some roles → NamedEnds roles old new status → RunEnds arguments old new status
 
 -- nothing was read, created, asked for or written, and nothing failed
-abbrev pub quiet : Moment
-quiet = record {
+abbrev pub nothing_done : Moment
+nothing_done = record {
   folder = record { files = Some []; created = Some []; asked = Some []; failed = Some []; failures = 0 };
   stream = record { taken = Some []; failures = 0 };
 }

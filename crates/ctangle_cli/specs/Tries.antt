@@ -6,10 +6,10 @@ use Rattle.tangle_files.specs.Adding.{has_file, is_name}
 use Rattle.tangle_files.specs.Lines.{FileTable}
 use Rattle.tangle_files.specs.Roles.{RolesRead}
 use Rattle.tangle_folders.specs.Folder.{File}
-use Rattle.ctangle_cli.specs.Asking.{AsksOnce, IsNeeded}
+use Rattle.ctangle_cli.specs.AskedOnce.{AsksOnce, IsNeeded}
 use Rattle.ctangle_cli.specs.Loading.{LoadEnd}
-use Rattle.ctangle_cli.specs.Loading.LoadEnd.{Unreadable, Refuses, Memory}
-use Rattle.ctangle_cli.specs.Questions.{StopsAmong, ask_all, asked_in, files_under}
+use Rattle.ctangle_cli.specs.Loading.LoadEnd.{CannotRead, Refused, NoMemory}
+use Rattle.ctangle_cli.specs.AskedNames.{StopsAmong, with_all_asked, asked_in, files_under}
 
 -- the names asked for so far, where the folder reports them, the files in the table, and the names that the folder doesn't have
 pub record Tries : Type 0 where
@@ -26,7 +26,7 @@ is_tried now name = has_file now.files name || list_any (bytes_eq name) now.abse
 -- what was asked for since, each once, is what was tried, and each is among these
 pub record TriesSince (names : List (List ℕ)) (now : Tries) (needed : List (List ℕ)) : Type 0 where
   pub asked : List (List ℕ)
-  pub behind : now.asked ≡ Some (names ++ asked)
+  pub after : now.asked ≡ Some (names ++ asked)
   pub once : IsDistinct bytes_eq asked
   pub same : (name : List ℕ) → list_any (bytes_eq name) asked ≡ is_tried now name
   pub only : All (Contains needed) asked
@@ -60,25 +60,25 @@ RoundsOnce before now roles = (needed : List (List ℕ)) × All (IsNeeded now.fi
 
 -- these names, one after another, were asked for since, and the table has the files that the folder has under them
 pub record HasAsked (all : List File) (before : List (List ℕ)) (now : Tries) (names : List (List ℕ)) : Type 0 where
-  pub behind : now.asked ≡ Some (before ++ names)
+  pub after : now.asked ≡ Some (before ++ names)
   pub same : (name : List ℕ) → list_any (bytes_eq name) names ≡ is_tried now name
   pub files : now.files ≡ files_under all names
 
 -- from one to the other these names were asked for, in this order, but for those that were asked for before
 abbrev pub GoesOn : Option (List File) → Tries → Tries → List (List ℕ) → Type 0
 GoesOn reported old new names =
-    IfSome reported (λ all. (before since : List (List ℕ)) → HasAsked all before old since → HasAsked all before new (ask_all since names))
+    IfSome reported (λ all. (before since : List (List ℕ)) → HasAsked all before old since → HasAsked all before new (with_all_asked since names))
 
 -- and where loading ends some of them, up to the one that the ending reports
 abbrev pub EndsAmong : Option (List File) → Tries → Option (List (List ℕ)) → List (List ℕ) → LoadEnd → Type 0
 EndsAmong reported old asked names ending =
-    IfSome reported (λ all. (before since : List (List ℕ)) → HasAsked all before old since → StopsAmong (ask_all since names) before asked ending)
+    IfSome reported (λ all. (before since : List (List ℕ)) → HasAsked all before old since → StopsAmong (with_all_asked since names) before asked ending)
 
 -- an ending that reports this name, or none
 abbrev pub IsAbout : List ℕ → LoadEnd → Type 0
-IsAbout name (Unreadable reported) = reported ≡ name
-IsAbout name (Refuses reported refusal) = reported ≡ name
-IsAbout name Memory = ⊤
+IsAbout name (CannotRead reported) = reported ≡ name
+IsAbout name (Refused reported refusal) = reported ≡ name
+IsAbout name NoMemory = ⊤
 
 -- since the beginning of loading so many rounds were made
 abbrev pub InRounds : List File → RolesRead → List (List ℕ) → Tries → Type 0

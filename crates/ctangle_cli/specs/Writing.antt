@@ -10,9 +10,9 @@ abbrev pub output_file : FileTable → RolesRead → List ℕ → File
 output_file files roles name = (name, unwrap_or (output_at files roles name) [])
 
 -- of this file nothing was created, or it has a prefix of its bytes
-abbrev pub IsPart : File → List File → Type 0
-IsPart file part = (part ≡ []) ⊎ ((n : ℕ) × (part ≡ (file.0, take n file.1) ∷ []))
+abbrev pub IsPrefixOf : File → List File → Type 0
+IsPrefixOf file prefix = (prefix ≡ []) ⊎ ((n : ℕ) × (prefix ≡ (file.0, take n file.1) ∷ []))
 
--- a part of the file was created
-abbrev pub AddsPart : Option (List File) → Option (List File) → File → Type 0
-AddsPart old new file = (part : List File) × IsPart file part × (new ≡ with_created old part)
+-- a prefix of the file was created, or nothing
+abbrev pub AddsPrefix : Option (List File) → Option (List File) → File → Type 0
+AddsPrefix old new file = (prefix : List File) × IsPrefixOf file prefix × (new ≡ with_created old prefix)

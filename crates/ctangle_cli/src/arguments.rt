@@ -1,11 +1,11 @@
 //! The arguments of a run of `ctangle`.
-ghost use Rattle.std.specs.Prelude.{◌≡◌, ◌≢◌, ◌++◌, ◌==◌, not, Option};
+ghost use Rattle.std.specs.Prelude.{◌≡◌, ◌≢◌, ◌++◌, ◌==◌, not};
 ghost use Rattle.std.specs.Prelude.{Some, None, filter, map, IfErr, IfOk};
 ghost use Rattle.std.specs.Option.{option_copied, option_map};
 ghost use Rattle.std.specs.List.{before_last};
-ghost use Rattle.ctangle_cli.specs.Arguments.{base_name, change_of, completed_names};
+ghost use Rattle.ctangle_cli.specs.Arguments.{base_name, change_of, completed_names, dot};
 ghost use Rattle.ctangle_cli.specs.Arguments.{has_extension as name_has_extension, is_flag};
-ghost use Rattle.ctangle_cli.specs.Arguments.{named_by, names_of, out_of, with_extension};
+ghost use Rattle.ctangle_cli.specs.Arguments.{named_by, names_by_arguments, out_of, with_extension};
 ghost use Rattle.ctangle_cli.specs.declared.arguments.WordFault.TheVariants.{NoMemory};
 
 use bstr::ByteSlice;
@@ -44,10 +44,10 @@ fn after_slash(name: &[u8]) -> &[u8]
 
 // The part of a name before its last dot.
 fn before_dot(name: &[u8]) -> &[u8]
-    ensures { result.now ≡ before_last (λ b. b == 46) name.now }
+    ensures { result.now ≡ before_last (λ b. b == dot) name.now }
 {
     match name.rfind_byte(b'.') {
-        Some(dot) => &name[..dot],
+        Some(end) => &name[..end],
         None => &[],
     }
 }
@@ -142,7 +142,7 @@ fn complete_all(alloc: Global, names: &[&[u8]]) -> Result<Words, WordFault>
         _ => return Err(WordFault::Usage),
     };
     match completed {
-        Ok(arguments) => Ok(arguments),
+        Ok(names) => Ok(names),
         Err(_) => Err(WordFault::NoMemory),
     }
 }
@@ -155,16 +155,16 @@ fn complete_all(alloc: Global, names: &[&[u8]]) -> Result<Words, WordFault>
 /// isn't named, it is the web's part after the last `/`, cut before its last dot, with `.c`.
 ///
 /// Of CTANGLE's command line it has the three names, their extensions and `-` for no change file;
-/// flags are taken and have no effect (`docs/programs.md`).
+/// flags are accepted and have no effect (`docs/programs.md`).
 ///
 /// # Errors
 ///
-/// `Usage` where there is no name among the arguments, or more than three; `NoMemory` where an
-/// allocation fails.
+/// `Usage` where there is no name among the arguments, or more than three; `NoMemory`, where an
+/// allocation failed.
 pub fn read_words(alloc: Global, arguments: &[&[u8]]) -> Result<Words, WordFault>
-    ensures ok { IfOk result (λ w. names_of (map (λ v. v.now) arguments.now) ≡ Some w) }
+    ensures ok { IfOk result (λ w. names_by_arguments (map (λ v. v.now) arguments.now) ≡ Some w) }
     ensures usage { IfErr result
-        (λ fault. fault ≢ NoMemory → names_of (map (λ v. v.now) arguments.now) ≡ None) }
+        (λ fault. fault ≢ NoMemory → names_by_arguments (map (λ v. v.now) arguments.now) ≡ None) }
 {
     match names_among(alloc, arguments) {
         Ok(names) => complete_all(alloc, names.as_slice()),

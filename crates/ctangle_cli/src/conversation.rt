@@ -14,21 +14,20 @@ ghost use Rattle.tangle_script.specs.Requests.Request.{Commit as commit_request}
 ghost use Rattle.tangle_script.specs.Requests.Request.{Create as create, Discard as discard};
 ghost use Rattle.tangle_script.specs.Requests.Request.{Insert as insert, Remove as remove};
 ghost use Rattle.tangle_script.specs.Requests.Request.{Replace as replace};
-ghost use Rattle.tangle_script.specs.Script.{Replies, WritesText, conversation};
+ghost use Rattle.tangle_script.specs.Script.{Replies, WritesAnswer, conversation};
 ghost use Rattle.tangle_session.specs.Tangle.{output_at};
-ghost use Rattle.ctangle_cli.specs.Conversation.{HasError, answers, edit_number};
-ghost use Rattle.ctangle_cli.specs.Conversation.{in_conversation, list_line, listed_faults};
-ghost use Rattle.ctangle_cli.specs.Conversation.{marks_request, request_for, shown};
-ghost use Rattle.ctangle_cli.specs.Conversation.{taken_line, word_line};
+ghost use Rattle.ctangle_cli.specs.Conversation.{HasError, accepted_line, answers, edit_line};
+ghost use Rattle.ctangle_cli.specs.Conversation.{edit_number, list_line, listed_faults};
+ghost use Rattle.ctangle_cli.specs.Conversation.{marks_request, request_for, session_and_draft};
+ghost use Rattle.ctangle_cli.specs.Conversation.{shown};
 ghost use Rattle.ctangle_cli.specs.Messages.{fault_lines};
 
 use crate::messages::{name_of, write_faults};
 use itoa::Buffer;
 use std::alloc::{AllocError, Global};
-use tangle_lines::{Edit, Fault, MarkMode, Refusal, Sink, put};
+use tangle_lines::{Edit, Fault, Feed, MarkMode, Refusal, Sink, write_after};
 use tangle_script::{Project, Request, SinkFailed, run_script};
 use tangle_session::{ListRefusal, Session};
-use tangle_streams::Feed;
 
 // Writes the bytes after what was written so far, unless the sink failed in that.
 fn say<S: Sink>(
@@ -36,40 +35,43 @@ fn say<S: Sink>(
     so_far: Result<(), SinkFailed>,
     bytes: &[u8],
 ) -> Result<(), SinkFailed>
-    ensures { (old : Stream) (text : List ℕ) → WritesText old (S.stream sink.old) text so_far
-        → WritesText old (S.stream sink.new) (text ++ bytes.now) result }
+    ensures { (old : Stream) (output : List ℕ) → WritesAnswer old (S.stream sink.old) output so_far
+        → WritesAnswer old (S.stream sink.new) (output ++ bytes.now) result }
 {
     match so_far {
         Err(failed) => Err(failed),
-        Ok(()) => match put(sink, Ok(0), bytes) {
+        Ok(()) => match write_after(sink, Ok(0), bytes) {
             Ok(_) => Ok(()),
             Err(_) => Err(SinkFailed),
         },
     }
 }
 
-// What became of an edit that was not refused.
+// How an edit that was not refused was answered.
 #[derive(Clone, Copy, Debug, PartialEq, Eq)]
-enum Taken {
+enum Accepted {
     Made,
     Held,
 }
 
-fn word_of(taken: Taken) -> &'static [u8]
-    ensures { result.now ≡ word_line taken }
+fn accepted_line(accepted: Accepted) -> &'static [u8]
+    ensures { result.now ≡ accepted_line accepted }
 {
-    match taken {
-        Taken::Made => b"ok\n",
-        Taken::Held => b"held\n",
+    match accepted {
+        Accepted::Made => b"ok\n",
+        Accepted::Held => b"held\n",
     }
 }
 
-// Says what came of an edit.
-fn say_taken<S: Sink>(taken: Result<Taken, Refusal>, sink: &mut S) -> Result<(), SinkFailed>
-    ensures { WritesText (S.stream sink.old) (S.stream sink.new) (taken_line taken) result }
+// Writes the answer to an edit.
+fn write_edit_answer<S: Sink>(
+    answer: Result<Accepted, Refusal>,
+    sink: &mut S,
+) -> Result<(), SinkFailed>
+    ensures { WritesAnswer (S.stream sink.old) (S.stream sink.new) (edit_line answer) result }
 {
-    match taken {
-        Ok(taken) => say(sink, Ok(()), word_of(taken)),
+    match answer {
+        Ok(accepted) => say(sink, Ok(()), accepted_line(accepted)),
         Err(refusal) => {
             let no = say(sink, Ok(()), b"no ");
             let name = say(sink, no, name_of(refusal));
@@ -79,7 +81,7 @@ fn say_taken<S: Sink>(taken: Result<Taken, Refusal>, sink: &mut S) -> Result<(),
 }
 
 // The number of the edit that a list is refused for, from 1; 0 where memory ran out.
-fn number_of(refused: ListRefusal) -> u128
+fn edit_number(refused: ListRefusal) -> u128
     ensures { result ≡ edit_number refused }
 {
     match refused.refusal {
@@ -88,9 +90,9 @@ fn number_of(refused: ListRefusal) -> u128
     }
 }
 
-// Says what came of a list of edits.
-fn say_list<S: Sink>(done: Result<(), ListRefusal>, sink: &mut S) -> Result<(), SinkFailed>
-    ensures { WritesText (S.stream sink.old) (S.stream sink.new) (list_line done) result }
+// Writes the answer to a list of edits.
+fn write_list_answer<S: Sink>(done: Result<(), ListRefusal>, sink: &mut S) -> Result<(), SinkFailed>
+    ensures { WritesAnswer (S.stream sink.old) (S.stream sink.new) (list_line done) result }
 {
     match done {
         Ok(()) => say(sink, Ok(()), b"ok\n"),
@@ -99,15 +101,15 @@ fn say_list<S: Sink>(done: Result<(), ListRefusal>, sink: &mut S) -> Result<(), 
             let no = say(sink, Ok(()), b"no ");
             let name = say(sink, no, name_of(refused.refusal));
             let space = say(sink, name, b" ");
-            let number = say(sink, space, digits.format(number_of(refused)).as_bytes());
+            let number = say(sink, space, digits.format(edit_number(refused)).as_bytes());
             say(sink, number, b"\n")
         }
     }
 }
 
-// What comes before the bytes of an output file that is shown.
-fn say_head<S: Sink>(name: &[u8], size: u128, sink: &mut S) -> Result<(), SinkFailed>
-    ensures { WritesText (S.stream sink.old) (S.stream sink.new)
+// Writes the line before the bytes of an output file that is shown.
+fn write_head<S: Sink>(name: &[u8], size: u128, sink: &mut S) -> Result<(), SinkFailed>
+    ensures { WritesAnswer (S.stream sink.old) (S.stream sink.new)
         (codes "= " ++ name.now ++ codes " " ++ decimal size ++ codes "\n") result }
 {
     let mut digits = Buffer::new();
@@ -118,17 +120,17 @@ fn say_head<S: Sink>(name: &[u8], size: u128, sink: &mut S) -> Result<(), SinkFa
     say(sink, sized, b"\n")
 }
 
-// The bytes of the output file of this name after what was written so far.
-fn say_output<S: Sink>(
+// Writes the bytes of the output file of this name after what was written so far.
+fn write_bytes<S: Sink>(
     session: &Session,
     name: &[u8],
     so_far: Result<(), SinkFailed>,
     sink: &mut S,
 ) -> Result<(), SinkFailed>
-    ensures { (old : Stream) (text bytes : List ℕ)
+    ensures { (old : Stream) (output bytes : List ℕ)
         → output_at session.now.files session.now.roles name.now ≡ Some bytes
-        → WritesText old (S.stream sink.old) text so_far
-        → WritesText old (S.stream sink.new) (text ++ bytes) result }
+        → WritesAnswer old (S.stream sink.old) output so_far
+        → WritesAnswer old (S.stream sink.new) (output ++ bytes) result }
 {
     match so_far {
         Err(failed) => Err(failed),
@@ -141,26 +143,26 @@ fn say_output<S: Sink>(
 
 // Shows the output file of this name.
 fn show<S: Sink>(session: &Session, name: &[u8], sink: &mut S) -> Result<(), SinkFailed>
-    ensures { WritesText (S.stream sink.old) (S.stream sink.new)
+    ensures { WritesAnswer (S.stream sink.old) (S.stream sink.new)
         (shown name.now (output_at session.now.files session.now.roles name.now)) result }
 {
     match session.output_size(name) {
         None => say(sink, Ok(()), b"no NoOutput\n"),
         Some(size) => {
-            let head = say_head(name, size, sink);
-            say_output(session, name, head, sink)
+            let head = write_head(name, size, sink);
+            write_bytes(session, name, head, sink)
         }
     }
 }
 
-// The lines of the faults after what was written so far.
-fn say_lines<S: Sink>(
+// Writes the lines of the faults after what was written so far.
+fn write_lines<S: Sink>(
     faults: &[Fault],
     so_far: Result<(), SinkFailed>,
     sink: &mut S,
 ) -> Result<(), SinkFailed>
-    ensures { (old : Stream) (text : List ℕ) → WritesText old (S.stream sink.old) text so_far
-        → WritesText old (S.stream sink.new) (text ++ fault_lines faults.now) result }
+    ensures { (old : Stream) (output : List ℕ) → WritesAnswer old (S.stream sink.old) output so_far
+        → WritesAnswer old (S.stream sink.new) (output ++ fault_lines faults.now) result }
 {
     match so_far {
         Err(failed) => Err(failed),
@@ -171,26 +173,26 @@ fn say_lines<S: Sink>(
     }
 }
 
-// Says how many faults there are, and their lines.
+// Writes how many faults there are, and their lines.
 fn list_faults<S: Sink>(faults: &[Fault], sink: &mut S) -> Result<(), SinkFailed>
-    ensures { WritesText (S.stream sink.old) (S.stream sink.new)
+    ensures { WritesAnswer (S.stream sink.old) (S.stream sink.new)
         (listed_faults faults.now) result }
 {
     let mut digits = Buffer::new();
-    let argument = say(sink, Ok(()), b"faults ");
-    let counted = say(sink, argument, digits.format(faults.len()).as_bytes());
+    let front = say(sink, Ok(()), b"faults ");
+    let counted = say(sink, front, digits.format(faults.len()).as_bytes());
     let line = say(sink, counted, b"\n");
-    say_lines(faults, line, sink)
+    write_lines(faults, line, sink)
 }
 
-// Says how many nodes were expanded last.
-fn say_work<S: Sink>(work: u64, sink: &mut S) -> Result<(), SinkFailed>
-    ensures { WritesText (S.stream sink.old) (S.stream sink.new)
+// Writes how many nodes were expanded last.
+fn write_work<S: Sink>(work: u64, sink: &mut S) -> Result<(), SinkFailed>
+    ensures { WritesAnswer (S.stream sink.old) (S.stream sink.new)
         (codes "work " ++ decimal work ++ codes "\n") result }
 {
     let mut digits = Buffer::new();
-    let argument = say(sink, Ok(()), b"work ");
-    let counted = say(sink, argument, digits.format(work).as_bytes());
+    let front = say(sink, Ok(()), b"work ");
+    let counted = say(sink, front, digits.format(work).as_bytes());
     say(sink, counted, b"\n")
 }
 
@@ -240,11 +242,11 @@ fn setting(mode: MarkMode) -> Result<Edit, AllocError>
     Ok(Edit::Marks { mode })
 }
 
-// Puts an edit last in the list.
+// Adds an edit at the end of the list.
 fn hold(held: &mut Vec<Edit>, edit: Edit) -> Result<(), Refusal>
     ensures ok { OnOk result (held.new.items ≡ held.old.items ++ edit ∷ []) }
     ensures err { OnErr result (held.new.items ≡ held.old.items) }
-    ensures short { IfErr result (λ refusal. refusal ≡ no_memory) }
+    ensures memory { IfErr result (λ refusal. refusal ≡ no_memory) }
 {
     match held.push(edit) {
         Ok(()) => Ok(()),
@@ -253,33 +255,33 @@ fn hold(held: &mut Vec<Edit>, edit: Edit) -> Result<(), Refusal>
 }
 
 // Makes the edit that a request asks for, or holds it while a list is open, if there was memory for
-// its texts.
-fn take_edit(
+// its bytes.
+fn make_or_hold(
     session: &mut Session,
     draft: &mut Option<Vec<Edit>>,
     edit: Result<Edit, AllocError>,
-) -> Result<Taken, Refusal>
+) -> Result<Accepted, Refusal>
     ensures { (request : _) → IfOk edit (λ made. request_for made ≡ request)
         → is_edit request ≡ true
-        → Replies answers (in_conversation session.old draft.old) request (taken_line result)
-        (in_conversation session.new draft.new) }
+        → Replies answers (session_and_draft session.old draft.old) request (edit_line result)
+        (session_and_draft session.new draft.new) }
 {
     match edit {
         Err(_) => Err(Refusal::NoMemory),
         Ok(edit) => match draft {
             Some(held) => match hold(held, edit) {
-                Ok(()) => Ok(Taken::Held),
+                Ok(()) => Ok(Accepted::Held),
                 Err(refusal) => Err(refusal),
             },
             None => match session.apply(&edit) {
-                Ok(()) => Ok(Taken::Made),
+                Ok(()) => Ok(Accepted::Made),
                 Err(refusal) => Err(refusal),
             },
         },
     }
 }
 
-// Does what a request for an edit asks for, and says what came of it.
+// Does what a request for an edit asks for, and writes the answer.
 fn answer_edit<S: Sink>(
     session: &mut Session,
     draft: &mut Option<Vec<Edit>>,
@@ -288,12 +290,13 @@ fn answer_edit<S: Sink>(
 ) -> Result<(), SinkFailed>
     ensures { (request : _) → IfOk edit (λ made. request_for made ≡ request)
         → is_edit request ≡ true
-        → (text : List ℕ) × Replies answers (in_conversation session.old draft.old) request text
-        (in_conversation session.new draft.new)
-        × WritesText (S.stream sink.old) (S.stream sink.new) text result }
+        → (output : List ℕ)
+        × Replies answers (session_and_draft session.old draft.old) request output
+        (session_and_draft session.new draft.new)
+        × WritesAnswer (S.stream sink.old) (S.stream sink.new) output result }
 {
-    let taken = take_edit(session, draft, edit);
-    say_taken(taken, sink)
+    let answer = make_or_hold(session, draft, edit);
+    write_edit_answer(answer, sink)
 }
 
 // Opens a list, if none is open.
@@ -302,10 +305,10 @@ fn begin<S: Sink>(
     draft: &mut Option<Vec<Edit>>,
     sink: &mut S,
 ) -> Result<(), SinkFailed>
-    ensures { (session : _) → (text : List ℕ)
-        × answers (in_conversation session draft.old) begin_request text
-        (in_conversation session draft.new)
-        × WritesText (S.stream sink.old) (S.stream sink.new) text result }
+    ensures { (session : _) → (output : List ℕ)
+        × answers (session_and_draft session draft.old) begin_request output
+        (session_and_draft session draft.new)
+        × WritesAnswer (S.stream sink.old) (S.stream sink.new) output result }
 {
     if draft.is_some() {
         return say(sink, Ok(()), b"no BadCommand\n");
@@ -316,10 +319,10 @@ fn begin<S: Sink>(
 
 // Drops the list, if one is open.
 fn cancel<S: Sink>(draft: &mut Option<Vec<Edit>>, sink: &mut S) -> Result<(), SinkFailed>
-    ensures { (session : _) → (text : List ℕ)
-        × answers (in_conversation session draft.old) cancel_request text
-        (in_conversation session draft.new)
-        × WritesText (S.stream sink.old) (S.stream sink.new) text result }
+    ensures { (session : _) → (output : List ℕ)
+        × answers (session_and_draft session draft.old) cancel_request output
+        (session_and_draft session draft.new)
+        × WritesAnswer (S.stream sink.old) (S.stream sink.new) output result }
 {
     if draft.is_some() {
         *draft = None;
@@ -334,16 +337,16 @@ fn commit<S: Sink>(
     draft: &mut Option<Vec<Edit>>,
     sink: &mut S,
 ) -> Result<(), SinkFailed>
-    ensures { (text : List ℕ)
-        × answers (in_conversation session.old draft.old) commit_request text
-        (in_conversation session.new draft.new)
-        × WritesText (S.stream sink.old) (S.stream sink.new) text result }
+    ensures { (output : List ℕ)
+        × answers (session_and_draft session.old draft.old) commit_request output
+        (session_and_draft session.new draft.new)
+        × WritesAnswer (S.stream sink.old) (S.stream sink.new) output result }
 {
     match draft.take() {
         None => say(sink, Ok(()), b"no BadCommand\n"),
         Some(held) => {
             let done = session.apply_all(&held);
-            say_list(done, sink)
+            write_list_answer(done, sink)
         }
     }
 }
@@ -354,20 +357,20 @@ fn is_error_among(faults: &[Fault]) -> bool
     faults.iter().any(|fault| fault.is_error())
 }
 
-// A session answers a script.
-struct Conversation;
+// A session as the project that answers a script.
+struct SessionProject;
 
-impl Project for Conversation {
-    type Held = Session;
+impl Project for SessionProject {
+    type Session = Session;
 
     type Draft = Option<Vec<Edit>>;
 
-    ghost use Rattle.ctangle_cli.specs.Conversation.{ConversationRead, HasError};
-    ghost use Rattle.ctangle_cli.specs.Conversation.{answers, in_conversation};
+    ghost use Rattle.ctangle_cli.specs.Conversation.{HasError, SessionAndDraft};
+    ghost use Rattle.ctangle_cli.specs.Conversation.{answers, session_and_draft};
 
-    ghost State = { ConversationRead };
+    ghost State = { SessionAndDraft };
 
-    ghost state = { in_conversation };
+    ghost state = { session_and_draft };
 
     ghost answers = { answers };
 
@@ -399,7 +402,7 @@ impl Project for Conversation {
             Request::Cancel => cancel(draft, sink),
             Request::Show { file } => show(session, file, sink),
             Request::Faults => list_faults(session.faults(), sink),
-            Request::Work => say_work(session.last_work(), sink),
+            Request::Work => write_work(session.last_work(), sink),
             Request::Quit => say(sink, Ok(()), b"ok\n"),
             Request::BadCommand => say(sink, Ok(()), b"no BadCommand\n"),
         }
@@ -410,21 +413,25 @@ impl Project for Conversation {
     }
 }
 
-/// Answers a script of edits and questions: the status that the program ends with. While a list of
-/// edits is open, edits are held, and questions are answered from the session. At the end of the
-/// run an open list is dropped.
-pub fn run_retangle<R: Feed, W: Sink>(
+/// Answers a script of edits and questions, and returns the status that the program ends with.
+/// While a list of edits is open, edits are held, and questions are answered from the session. At
+/// the end of the run an open list is dropped.
+///
+/// The status is 0, or 1 where an error is among the faults at its end. It is 3 where the reader or
+/// the writer failed, the script is longer than `SCRIPT_LIMIT`, or memory ran out for a command of
+/// more than 4,096 bytes.
+pub fn run_retangle<R: Feed, S: Sink>(
     alloc: Global,
     session: &mut Session,
-    r: &mut R,
-    w: &mut W,
+    feed: &mut R,
+    sink: &mut S,
 ) -> u8
     ensures { (draft : Option (List EditRead)) × ConversationEnds answers HasError
         (conversation (record { session = session.old; draft = None })
-        (W.stream w.old) (R.coming r.old) (R.failures r.old))
+        (S.stream sink.old) (R.remaining feed.old) (R.failures feed.old))
         (conversation (record { session = session.new; draft = draft })
-        (W.stream w.new) (R.coming r.new) (R.failures r.new)) result }
+        (S.stream sink.new) (R.remaining feed.new) (R.failures feed.new)) result }
 {
     let mut draft = None;
-    run_script::<Conversation, R, W>(alloc, session, &mut draft, r, w)
+    run_script::<SessionProject, R, S>(alloc, session, &mut draft, feed, sink)
 }

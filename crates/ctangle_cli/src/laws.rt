@@ -12,32 +12,32 @@ ghost use Rattle.tangle_script.specs.Requests.{Command};
 ghost use Rattle.tangle_script.specs.Script.{Dialogue};
 ghost use Rattle.tangle_session.specs.Headline.{Call, History};
 ghost use Rattle.tangle_session.specs.Tangle.{outputs_of};
-ghost use Rattle.ctangle_cli.specs.Conversation.{ConversationRead, answers};
+ghost use Rattle.ctangle_cli.specs.Conversation.{SessionAndDraft, answers};
 ghost use Rattle.ctangle_cli.specs.Histories.{AreCallsOf};
 ghost use Rattle.ctangle_cli.specs.Loading.{LoadEnd, load_of, missing_of, rounds_from, with_round};
 
 use tangle_session::outputs_are_found_by_their_names;
 
-/// Loading goes round by round: a round that adds a file is followed by the rounds from there, one
-/// that adds none is the last, and where one ends loading, it ends so. So the bound on the rounds
-/// is no part of what loading gives.
+/// Loading goes round by round: a round that adds a file is followed by the rounds from there; one
+/// that adds none is the last; one that ends in a fault ends loading. So the bound on the rounds
+/// does not matter for what loading gives.
 pub fn loading_goes_round_by_round()
-    ensures further { (all : List File) (names : RolesRead) (files next : FileTable)
-        → with_round all names files ≡ Ok next
-        → length next ≢ length files → rounds_from all names files ≡ rounds_from all names next }
-    ensures last { (all : List File) (names : RolesRead) (files next : FileTable)
-        → with_round all names files ≡ Ok next
-        → length next ≡ length files → rounds_from all names files ≡ Ok next }
-    ensures stopped { (all : List File) (names : RolesRead) (files : FileTable) (ending : LoadEnd)
-        → with_round all names files ≡ Err ending → rounds_from all names files ≡ Err ending }
+    ensures further { (all : List File) (roles : RolesRead) (files next : FileTable)
+        → with_round all roles files ≡ Ok next
+        → length next ≢ length files → rounds_from all roles files ≡ rounds_from all roles next }
+    ensures last { (all : List File) (roles : RolesRead) (files next : FileTable)
+        → with_round all roles files ≡ Ok next
+        → length next ≡ length files → rounds_from all roles files ≡ Ok next }
+    ensures stopped { (all : List File) (roles : RolesRead) (files : FileTable) (ending : LoadEnd)
+        → with_round all roles files ≡ Err ending → rounds_from all roles files ≡ Err ending }
 {}
 
-/// Where the files are loaded, a name that their reading misses, and that is not the name of one of
-/// them, is no file name, or the folder has no such file.
+/// After loading, an included name that no loaded file has is no file name, or the folder has no
+/// file of that name.
 pub fn missing_names_are_not_there()
-    ensures { (all : List File) (names : RolesRead) (files : FileTable) → load_of all names
+    ensures { (all : List File) (roles : RolesRead) (files : FileTable) → load_of all roles
         ≡ Ok files
-        → (name : List ℕ) → Contains (missing_of files names) name → has_file files name ≡ false
+        → (name : List ℕ) → Contains (missing_of files roles) name → has_file files name ≡ false
         → (is_name name ≡ false) ⊎ (file_bytes all name ≡ None) }
 {}
 
@@ -55,8 +55,8 @@ pub fn output_names_differ()
 /// So the headline holds at each line of a script.
 pub fn the_answers_of_a_script_are_a_history()
     ensures { (files : FileTable) (roles : RolesRead) (calls : List Call)
-        (old new : ConversationRead) (commands : List Command) (text : List ℕ)
-        → History files roles calls old.session → Dialogue answers old commands text new
-        → (more : List Call) × AreCallsOf commands text old.draft more new.draft
+        (old new : SessionAndDraft) (commands : List Command) (output : List ℕ)
+        → History files roles calls old.session → Dialogue answers old commands output new
+        → (more : List Call) × AreCallsOf commands output old.draft more new.draft
         × History files roles (calls ++ more) new.session }
 {}

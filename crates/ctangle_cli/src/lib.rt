@@ -2,7 +2,8 @@
 //! run.
 //!
 //! [`run_ctangle`] is a whole run of `ctangle` over a [`Folder`] and an error stream: it starts a
-//! session and writes what that answers. The folders are those of `tangle_folders`, re-exported.
+//! session and writes its faults and its outputs. The folders are those of `tangle_folders`,
+//! re-exported.
 //! [`run_retangle`] answers a script of edits and questions over a session.
 #![tactic(auto)]
 
@@ -12,7 +13,7 @@ mod laws;
 mod loading;
 mod messages;
 mod opening;
-mod retangle_arguments;
+mod retangle_names;
 mod run;
 mod writing;
 
@@ -25,8 +26,6 @@ pub use laws::{
 pub use loading::{LoadFault, load};
 pub use messages::write_load;
 pub use opening::{command_line, lines_to};
-pub use retangle_arguments::{RetangleFault, read_retangle};
-pub use run::{Ended, run_ctangle, run_keeping_session, silence_is_no_failure};
-pub use tangle_folders::{
-    CreatedFile, Disk, FILE_LIMIT, Folder, FolderFault, MemoryFolder, MemorySink,
-};
+pub use retangle_names::{RetangleFault, read_retangle};
+pub use run::{Ended, run_ctangle, run_keeping_session, status_3_needs_a_failure};
+pub use tangle_folders::{Disk, FILE_LIMIT, Folder, FolderFault, MemoryFolder};

@@ -8,18 +8,18 @@ ghost use Rattle.std.specs.Str.{bytes_eq};
 ghost use Rattle.tangle_folders.specs.Folder.{file_limit};
 ghost use Rattle.tangle_files.specs.Adding.{has_file, is_name};
 ghost use Rattle.tangle_files.specs.Roles.{fits, has_file_if_any};
-ghost use Rattle.ctangle_cli.specs.Asking.{AsksForAll, AsksOnce};
-ghost use Rattle.ctangle_cli.specs.Questions.{AsksAll, AsksUntil, AsksWhole, FailsLast, StopsAmong};
-ghost use Rattle.ctangle_cli.specs.Questions.{asked_in, named_in};
+ghost use Rattle.ctangle_cli.specs.AskedOnce.{AsksForNeeded, AsksOnce};
+ghost use Rattle.ctangle_cli.specs.AskedNames.{AsksByRounds, AsksUntil, AsksWhole, FailsLast};
+ghost use Rattle.ctangle_cli.specs.AskedNames.{StopsAmong, asked_in, named_in};
 ghost use Rattle.ctangle_cli.specs.Tries.{AsksOn, EndsAmong, GoesOn, InRounds, IsAbout, RoundsOnce};
 ghost use Rattle.ctangle_cli.specs.Tries.{StopsAsking, TriesAll, tried};
-ghost use Rattle.ctangle_cli.specs.Loading.{AreAbsent, Grows, IsLoadEnd, IsSettled, LoadsTo};
-ghost use Rattle.ctangle_cli.specs.Loading.{StopsFor, NamesLastAsked, add_bytes, bad_name};
+ghost use Rattle.ctangle_cli.specs.Loading.{AreAbsent, Grows, IncludesNoMissing, IsLoadEnd};
+ghost use Rattle.ctangle_cli.specs.Loading.{LoadsTo, NamesLastAsked, StopsFor, add_bytes, bad_name};
 ghost use Rattle.ctangle_cli.specs.Loading.{ending_of, is_missing_kind, load_of, load_unless};
 ghost use Rattle.ctangle_cli.specs.Loading.{misses_file, missed_in, missing_of, refused_as};
 ghost use Rattle.ctangle_cli.specs.Loading.{rounds_from, with_change, with_inclusion};
 ghost use Rattle.ctangle_cli.specs.Loading.{with_inclusions, with_needed};
-ghost use Rattle.ctangle_cli.specs.Loading.LoadEnd.{Unreadable};
+ghost use Rattle.ctangle_cli.specs.Loading.LoadEnd.{CannotRead};
 
 use crate::arguments::Words;
 use indexmap::IndexSet;
@@ -95,9 +95,9 @@ impl Absent {
     }
 }
 
-// `CannotRead` with this name, unless memory is short.
+// `CannotRead` with this name, unless out of memory.
 fn cannot_read(alloc: Global, name: &[u8]) -> LoadFault
-    ensures { IsLoadEnd (Unreadable name.now) (ending_of result) }
+    ensures { IsLoadEnd (CannotRead name.now) (ending_of result) }
 {
     match Vec::from_slice(alloc, name) {
         Ok(name) => LoadFault::CannotRead(name),
@@ -105,7 +105,7 @@ fn cannot_read(alloc: Global, name: &[u8]) -> LoadFault
     }
 }
 
-// `Refused` with this name, unless memory is short.
+// `Refused` with this name, unless out of memory.
 fn refused(alloc: Global, name: &[u8], refusal: Refusal) -> LoadFault
     ensures { IsLoadEnd (refused_as name.now refusal) (ending_of result) }
 {
@@ -129,7 +129,7 @@ fn add_file(alloc: Global, files: &mut Files, name: &[u8], bytes: Vec<u8>) -> Re
     requires { length bytes.items ≤ file_limit }
     ensures ok { OnOk result (add_bytes files.old name.now bytes.items ≡ Ok files.new) }
     ensures grows { OnOk result (Grows files.old files.new) }
-    ensures there { OnOk result (has_file files.new name.now ≡ true) }
+    ensures has_file { OnOk result (has_file files.new name.now ≡ true) }
     ensures err { IfErr result (λ fault. (reported : Option _) (n : ℕ)
         → StopsFor reported (λ _. add_bytes files.old name.now bytes.items) n n (ending_of fault)) }
     ensures reported { IfErr result
@@ -157,7 +157,7 @@ fn read_needed<F: Folder>(
         (λ fault. StopsFor (F.state folder.old).files (λ all. with_needed all files.old name.now)
         (F.state folder.old).failures (F.state folder.new).failures (ending_of fault)) }
     ensures grows { OnOk result (Grows files.old files.new) }
-    ensures there { OnOk result (has_file files.new name.now ≡ true) }
+    ensures has_file { OnOk result (has_file files.new name.now ≡ true) }
     ensures reported { IfErr result
         (λ fault. NamesLastAsked (F.state folder.new).asked (ending_of fault)) }
     ensures asks { OnOk result
@@ -201,7 +201,7 @@ fn read_change<F: Folder>(
         (λ all. with_change all files.old (option_copied change.entry))
         (F.state folder.old).failures (F.state folder.new).failures (ending_of fault)) }
     ensures grows { OnOk result (Grows files.old files.new) }
-    ensures there { OnOk result (has_file_if_any files.new (option_copied change.entry) ≡ true) }
+    ensures has_file { OnOk result (has_file_if_any files.new (option_copied change.entry) ≡ true) }
     ensures reported { IfErr result
         (λ fault. NamesLastAsked (F.state folder.new).asked (ending_of fault)) }
     ensures asks { OnOk result
@@ -296,7 +296,7 @@ fn is_missing(kind: FaultKind) -> bool
     }
 }
 
-// Reads the files that a round misses, by the faults of its reading.
+// Reads the files that the faults of a round's reading name as missing.
 fn read_inclusions<F: Folder>(
     alloc: Global,
     folder: &mut F,
@@ -353,7 +353,7 @@ fn misses(files: &Files, line: &Line) -> bool
     }
 }
 
-// Whether one of the lines does.
+// Whether one of the lines includes a file that isn't in the table.
 fn any_misses(files: &Files, lines: &[Line]) -> bool
     ensures { result ≡ list_any (misses_file files.now) lines.now }
 {
@@ -366,8 +366,8 @@ fn any_misses(files: &Files, lines: &[Line]) -> bool
 }
 
 // Whether each file that some line includes is in the table, so that none is missing.
-fn is_settled(files: &Files) -> bool
-    ensures { result ≡ true → IsSettled files.now }
+fn includes_no_missing(files: &Files) -> bool
+    ensures { result ≡ true → IncludesNoMissing files.now }
 {
     for number in 0..files.count() {
         if any_misses(files, files.lines_at(number as u16)) {
@@ -377,14 +377,13 @@ fn is_settled(files: &Files) -> bool
     true
 }
 
-// The faults of reading these files, for the inclusions that are missing. Where all that lines
-// include is there, a look at the front of each line reports that none is, and the session alone
-// reads the sources.
+// The faults of reading these files, of which those for missing inclusions are used. Where each
+// included file is in the table there are none, and the sources are not read.
 fn faults_of(alloc: Global, files: &Files, roles: &Roles) -> Result<Vec<Fault>, NoMemory>
     requires { fits files.now roles.now ≡ true }
     ensures { IfOk result (λ faults. missed_in faults.items ≡ missing_of files.now roles.now) }
 {
-    if is_settled(files) {
+    if includes_no_missing(files) {
         return Ok(Vec::new(alloc));
     }
     let source = read_source(alloc, files, roles)?;
@@ -411,7 +410,7 @@ fn read_rounds<F: Folder>(
     ensures asks { OnOk result
         ((before : Option _)
         → RoundsOnce before (tried (F.state folder.old).asked files.old []) roles.now
-        → AsksForAll before (F.state folder.new).asked files.new roles.now) }
+        → AsksForNeeded before (F.state folder.new).asked files.new roles.now) }
     ensures stops { OnErr result
         ((before : Option _)
         → RoundsOnce before (tried (F.state folder.old).asked files.old []) roles.now
@@ -441,18 +440,18 @@ fn read_rounds<F: Folder>(
 }
 
 // The first of the names that is no file name.
-fn first_bad(arguments: &Words) -> Option<&[u8]>
-    ensures { option_copied result ≡ bad_name arguments.now }
+fn first_bad(names: &Words) -> Option<&[u8]>
+    ensures { option_copied result ≡ bad_name names.now }
 {
-    if !is_file_name(arguments.web()) {
-        return Some(arguments.web());
+    if !is_file_name(names.web()) {
+        return Some(names.web());
     }
-    match arguments.change() {
+    match names.change() {
         Some(name) if !is_file_name(name) => return Some(name),
         _ => {}
     }
-    if !is_file_name(arguments.out()) {
-        return Some(arguments.out());
+    if !is_file_name(names.out()) {
+        return Some(names.out());
     }
     None
 }
@@ -469,11 +468,11 @@ fn load_files<F: Folder>(alloc: Global, roles: &Roles, folder: &mut F) -> Result
     ensures reported { IfErr result
         (λ fault. NamesLastAsked (F.state folder.new).asked (ending_of fault)) }
     ensures asks { IfOk result
-        (λ files. AsksForAll (F.state folder.old).asked (F.state folder.new).asked files
+        (λ files. AsksForNeeded (F.state folder.old).asked (F.state folder.new).asked files
         roles.now) }
     ensures once { AsksOnce (F.state folder.old).asked (F.state folder.new).asked }
     ensures order { OnOk result
-        (AsksAll (F.state folder.old).files roles.now (F.state folder.old).asked
+        (AsksByRounds (F.state folder.old).files roles.now (F.state folder.old).asked
         (F.state folder.new).asked) }
     ensures ends { IfErr result (λ fault. bad_name roles.now ≡ None
         → AsksUntil (F.state folder.old).files roles.now (F.state folder.old).asked
@@ -499,52 +498,51 @@ fn load_files<F: Folder>(alloc: Global, roles: &Roles, folder: &mut F) -> Result
 /// stays missing and keeps its fault; the folder is asked once for each name. A web or change file
 /// that is missing, and any other failure, is a fault of loading.
 ///
-/// The arguments are those of `read_words`: of CTANGLE's command line they have the three names,
-/// their extensions and `-` for no change file, and no flag has an effect (`docs/programs.md`).
+/// The names are those of `read_words`: of CTANGLE's command line there are the three names, their
+/// extensions and `-` for no change file, and no flag has an effect (`docs/programs.md`).
 ///
 /// # Errors
 ///
 /// `CannotRead` with the name of a web or change file that is missing, of a file over the limit, or
 /// of one at which the folder failed. `Refused` with a name and `BadName` where one of the three
 /// names is no file name, and with `TooManyFiles`, `LineTooLong` or `TooManyLines` where the table
-/// of files refuses a file. `NoMemory` where an allocation fails.
+/// of files refuses a file. `NoMemory`, where an allocation failed.
 pub fn load<F: Folder>(
     alloc: Global,
-    arguments: &Words,
+    names: &Words,
     folder: &mut F,
 ) -> Result<(Files, Roles), LoadFault>
     ensures ok { IfOk result
-        (λ r. LoadsTo (F.state folder.old).files (λ all. load_of all arguments.now)
+        (λ r. LoadsTo (F.state folder.old).files (λ all. load_of all names.now)
         (F.state folder.old).failures (F.state folder.new).failures r.0) }
-    ensures roles { IfOk result (λ r. r.1 ≡ arguments.now) }
+    ensures roles { IfOk result (λ r. r.1 ≡ names.now) }
     ensures fits { IfOk result (λ r. fits r.0 r.1 ≡ true) }
     ensures err { IfErr result
-        (λ fault. StopsFor (F.state folder.old).files (λ all. load_of all arguments.now)
+        (λ fault. StopsFor (F.state folder.old).files (λ all. load_of all names.now)
         (F.state folder.old).failures (F.state folder.new).failures (ending_of fault)) }
     ensures reported { IfErr result
         (λ fault. NamesLastAsked (F.state folder.new).asked (ending_of fault)) }
     ensures asks { IfOk result
-        (λ r. AsksForAll (F.state folder.old).asked (F.state folder.new).asked r.0 r.1) }
+        (λ r. AsksForNeeded (F.state folder.old).asked (F.state folder.new).asked r.0 r.1) }
     ensures once { AsksOnce (F.state folder.old).asked (F.state folder.new).asked }
     ensures order { OnOk result
-        (AsksAll (F.state folder.old).files arguments.now (F.state folder.old).asked
+        (AsksByRounds (F.state folder.old).files names.now (F.state folder.old).asked
         (F.state folder.new).asked) }
     ensures ends { IfErr result
-        (λ fault. AsksUntil (F.state folder.old).files arguments.now (F.state folder.old).asked
+        (λ fault. AsksUntil (F.state folder.old).files names.now (F.state folder.old).asked
         (F.state folder.new).asked (ending_of fault)) }
     ensures unfailed { OnOk result ((F.state folder.new).failed ≡ (F.state folder.old).failed) }
     ensures fails { OnErr result (FailsLast (F.state folder.old) (F.state folder.new)) }
     ensures files_stay { (F.state folder.new).files ≡ (F.state folder.old).files }
     ensures created_stay { (F.state folder.new).created ≡ (F.state folder.old).created }
 {
-    if let Some(name) = first_bad(arguments) {
+    if let Some(name) = first_bad(names) {
         return Err(refused(alloc, name, Refusal::BadName));
     }
-    let Ok(mut roles) = Roles::new(alloc, arguments.web(), arguments.change(), arguments.out())
-    else {
+    let Ok(mut roles) = Roles::new(alloc, names.web(), names.change(), names.out()) else {
         return Err(LoadFault::NoMemory);
     };
-    roles.set_marks(arguments.marks());
+    roles.set_marks(names.marks());
     let files = load_files(alloc, &roles, folder)?;
     Ok((files, roles))
 }

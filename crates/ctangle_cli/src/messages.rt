@@ -2,13 +2,13 @@
 ghost use Rattle.std.specs.Prelude.{◌≡◌, OnOk, OnErr};
 ghost use Rattle.tangle_streams.specs.Streams.{IsWritten};
 ghost use Rattle.ctangle_cli.specs.Loading.{ending_of};
-ghost use Rattle.ctangle_cli.specs.Loading.LoadEnd.{Memory, Refuses, Unreadable};
-ghost use Rattle.ctangle_cli.specs.Messages.{TakesAll, TakesFront, cannot_write_line, ending_line};
+ghost use Rattle.ctangle_cli.specs.Loading.LoadEnd.{CannotRead, NoMemory, Refused};
+ghost use Rattle.ctangle_cli.specs.Messages.{TakesAll, TakesPrefix, cannot_write_line, ending_line};
 ghost use Rattle.ctangle_cli.specs.Messages.{fault_lines, refusal_name, unwritten_line, usage_line};
 
 use crate::loading::LoadFault;
 use tangle_folders::FolderFault;
-use tangle_lines::{Fault, Refusal, Sink, WriteFault, put, write_fault};
+use tangle_lines::{Fault, Refusal, Sink, WriteFault, write_after, write_fault};
 
 /// A refusal's name.
 pub fn name_of(refusal: Refusal) -> &'static [u8]
@@ -34,12 +34,12 @@ pub fn name_of(refusal: Refusal) -> &'static [u8]
 
 fn write_cannot_read<E: Sink>(program: &[u8], name: &[u8], err: &mut E) -> Result<u128, WriteFault>
     ensures { IsWritten (E.stream err.old) (E.stream err.new)
-        (ending_line program.now (Unreadable name.now)) result }
+        (ending_line program.now (CannotRead name.now)) result }
 {
-    let front = put(err, Ok(0), program);
-    let reported = put(err, front, b": cannot read ");
-    let named = put(err, reported, name);
-    put(err, named, b"\n")
+    let front = write_after(err, Ok(0), program);
+    let labelled = write_after(err, front, b": cannot read ");
+    let named = write_after(err, labelled, name);
+    write_after(err, named, b"\n")
 }
 
 fn write_refused<E: Sink>(
@@ -49,25 +49,25 @@ fn write_refused<E: Sink>(
     err: &mut E,
 ) -> Result<u128, WriteFault>
     ensures { IsWritten (E.stream err.old) (E.stream err.new)
-        (ending_line program.now (Refuses name.now refusal)) result }
+        (ending_line program.now (Refused name.now refusal)) result }
 {
-    let front = put(err, Ok(0), program);
-    let reported = put(err, front, b": ");
-    let named = put(err, reported, name);
-    let colon = put(err, named, b": ");
-    let why = put(err, colon, name_of(refusal));
-    put(err, why, b"\n")
+    let front = write_after(err, Ok(0), program);
+    let separated = write_after(err, front, b": ");
+    let named = write_after(err, separated, name);
+    let colon = write_after(err, named, b": ");
+    let why = write_after(err, colon, name_of(refusal));
+    write_after(err, why, b"\n")
 }
 
 fn write_no_memory<E: Sink>(program: &[u8], err: &mut E) -> Result<u128, WriteFault>
-    ensures { IsWritten (E.stream err.old) (E.stream err.new) (ending_line program.now Memory)
+    ensures { IsWritten (E.stream err.old) (E.stream err.new) (ending_line program.now NoMemory)
         result }
 {
-    let front = put(err, Ok(0), program);
-    put(err, front, b": NoMemory\n")
+    let front = write_after(err, Ok(0), program);
+    write_after(err, front, b": NoMemory\n")
 }
 
-/// Writes the line of a loading that ended without its files, behind the program's name, and gives
+/// Writes the line of a loading that ended without its files, after the program's name, and returns
 /// its length.
 ///
 /// # Errors
@@ -88,22 +88,30 @@ pub fn write_load<E: Sink>(
     }
 }
 
-/// Writes the line that says how `ctangle` is used, and gives its length.
+/// Writes the line that says how `ctangle` is used, and returns its length.
+///
+/// # Errors
+///
+/// `WriteFault(n)` where the stream failed, or took no byte, after the first `n` bytes of the line.
 pub fn write_usage<E: Sink>(err: &mut E) -> Result<u128, WriteFault>
     ensures { IsWritten (E.stream err.old) (E.stream err.new) usage_line result }
 {
-    put(err, Ok(0), b"usage: ctangle [flags] web [change [out]]\n")
+    write_after(err, Ok(0), b"usage: ctangle [flags] web [change [out]]\n")
 }
 
 fn write_cannot_write<E: Sink>(name: &[u8], err: &mut E) -> Result<u128, WriteFault>
     ensures { IsWritten (E.stream err.old) (E.stream err.new) (cannot_write_line name.now) result }
 {
-    let reported = put(err, Ok(0), b"ctangle: cannot write ");
-    let named = put(err, reported, name);
-    put(err, named, b"\n")
+    let labelled = write_after(err, Ok(0), b"ctangle: cannot write ");
+    let named = write_after(err, labelled, name);
+    write_after(err, named, b"\n")
 }
 
-/// Writes the line of an output that was not written.
+/// Writes the line of an output that was not written, and returns its length.
+///
+/// # Errors
+///
+/// `WriteFault(n)` where the stream failed, or took no byte, after the first `n` bytes of the line.
 pub fn write_unwritten<E: Sink>(
     name: &[u8],
     fault: FolderFault,
@@ -120,16 +128,20 @@ pub fn write_unwritten<E: Sink>(
     }
 }
 
-/// The error stream failed before it took all of a text.
+/// The error stream failed before it took all bytes.
 #[derive(Clone, Copy, Debug)]
 pub struct StreamFailed;
 
-/// Writes the lines of the faults, and says whether the stream took them.
+/// Writes the lines of the faults.
+///
+/// # Errors
+///
+/// The stream failed, or took no byte, before it had all of them.
 pub fn write_faults<E: Sink>(faults: &[Fault], err: &mut E) -> Result<(), StreamFailed>
     ensures whole { OnOk result
         (TakesAll (E.stream err.old) (E.stream err.new) (fault_lines faults.now)) }
     ensures cut { OnErr result
-        (TakesFront (E.stream err.old) (E.stream err.new) (fault_lines faults.now)) }
+        (TakesPrefix (E.stream err.old) (E.stream err.new) (fault_lines faults.now)) }
 {
     for fault in faults {
         match write_fault(fault, err) {

@@ -3,13 +3,13 @@ ghost use Rattle.std.specs.Prelude.{◌≡◌};
 
 use std::io::{Error, LineWriter, Write};
 use std::{env, io};
-use tangle_streams::IoSink;
+use tangle_lines::IoSink;
 
 /// The arguments of the command line, the program's name first.
 ///
 /// # Errors
 ///
-/// That of the system: memory is out, or an argument is not UTF-8.
+/// That of the system: out of memory, or an argument that is not UTF-8.
 pub fn command_line(rt: &HostRuntime) -> io::Result<Vec<String>> {
     match env::args(rt) {
         Ok(arguments) => arguments.collect(rt.alloc()).map_err(Error::from),

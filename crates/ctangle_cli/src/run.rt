@@ -2,13 +2,13 @@
 ghost use Rattle.std.specs.Prelude.{◌≡◌, ℕ, List, IfOk, map};
 ghost use Rattle.ctangle_cli.specs.Messages.{faults_status};
 ghost use Rattle.ctangle_cli.specs.Run.{Loads, Moment, NamedEnds, RunEnds, SessionEnds, moment};
-ghost use Rattle.ctangle_cli.specs.Run.{quiet};
+ghost use Rattle.ctangle_cli.specs.Run.{nothing_done};
 
 use crate::arguments::{WordFault, Words, read_words};
 use crate::laws::output_names_differ;
 use crate::loading::{LoadFault, load};
 use crate::messages::{write_faults, write_load, write_unwritten, write_usage};
-use crate::writing::write_outputs;
+use crate::writing::create_outputs;
 use std::alloc::Global;
 use tangle_folders::Folder;
 use tangle_lines::{Fault, Files, NoMemory, Roles, Sink};
@@ -40,7 +40,7 @@ fn run_session<F: Folder, E: Sink>(
     let faults = session.faults();
     match write_faults(faults, err) {
         Err(_) => 3,
-        Ok(()) => match write_outputs(alloc, session, folder) {
+        Ok(()) => match create_outputs(alloc, session, folder) {
             Ok(()) => status(faults),
             Err(stop) => {
                 let _ = write_unwritten(stop.name, stop.fault, err);
@@ -50,8 +50,8 @@ fn run_session<F: Folder, E: Sink>(
     }
 }
 
-// A session of these files. They have the web and the change file that is named, so only memory can
-// run out.
+// A session of these files. They have the web and the change file that is named, so only an
+// allocation can fail.
 fn started(alloc: Global, files: Files, roles: Roles) -> Result<Session, NoMemory>
     ensures files { IfOk result (λ session. session.files ≡ files) }
     ensures roles { IfOk result (λ session. session.roles ≡ roles) }
@@ -108,17 +108,12 @@ fn run_loaded<F: Folder, E: Sink>(
 }
 
 // Loads the files of these names, and starts a session of them.
-fn run_named<F: Folder, E: Sink>(
-    alloc: Global,
-    arguments: &Words,
-    folder: &mut F,
-    err: &mut E,
-) -> Ended
-    ensures { NamedEnds arguments.now
+fn run_named<F: Folder, E: Sink>(alloc: Global, names: &Words, folder: &mut F, err: &mut E) -> Ended
+    ensures { NamedEnds names.now
         (moment (F.state folder.old) (E.stream err.old))
         (moment (F.state folder.new) (E.stream err.new)) result.status }
 {
-    match load(alloc, arguments, folder) {
+    match load(alloc, names, folder) {
         Err(fault) => {
             let _ = write_load(b"ctangle", &fault, err);
             unstarted()
@@ -127,8 +122,8 @@ fn run_named<F: Folder, E: Sink>(
     }
 }
 
-/// Runs `ctangle` as [`run_ctangle`] does, and gives the session besides. A program that ends
-/// behind the run need not free it: the system takes all memory back at once.
+/// Runs `ctangle` as [`run_ctangle`] does, and returns the session besides. A program that ends
+/// after the run need not free it: the system takes all memory back at once.
 pub fn run_keeping_session<F: Folder, E: Sink>(
     alloc: Global,
     arguments: &[&[u8]],
@@ -151,11 +146,12 @@ pub fn run_keeping_session<F: Folder, E: Sink>(
             let _ = write_load(b"ctangle", &LoadFault::NoMemory, err);
             unstarted()
         }
-        Ok(arguments) => run_named(alloc, &arguments, folder, err),
+        Ok(names) => run_named(alloc, &names, folder, err),
     }
 }
 
-/// Runs `ctangle` with these arguments, in a folder and with an error stream, and gives its status.
+/// Runs `ctangle` with these arguments, in a folder and with an error stream, and returns its
+/// status.
 ///
 /// It loads the files, starts a session of them, writes the line of each fault on the error stream,
 /// and then each output into the folder, the main file first. The status is 0, or 1 where an error
@@ -164,7 +160,7 @@ pub fn run_keeping_session<F: Folder, E: Sink>(
 /// out, and where the error stream fails.
 ///
 /// Of CTANGLE's command line it has the three names, their extensions and `-` for no change file;
-/// flags are taken and have no effect (`docs/programs.md`).
+/// flags are accepted and have no effect (`docs/programs.md`).
 pub fn run_ctangle<F: Folder, E: Sink>(
     alloc: Global,
     arguments: &[&[u8]],
@@ -179,9 +175,8 @@ pub fn run_ctangle<F: Folder, E: Sink>(
     ended.status
 }
 
-/// A run that writes nothing, and in which nothing fails, does not end with status 3: over a folder
-/// that reports that it has no files, and a stream that reports its bytes, `RunEnds` can't be met
-/// by it.
-pub fn silence_is_no_failure()
-    ensures { (arguments : List (List ℕ)) → RunEnds arguments quiet quiet 3 → ⊥ }
+/// A run that reads and writes nothing, and in which nothing fails, does not end with status 3. So
+/// a body that always ends so, without a line, is refused.
+pub fn status_3_needs_a_failure()
+    ensures { (arguments : List (List ℕ)) → RunEnds arguments nothing_done nothing_done 3 → ⊥ }
 {}

@@ -6,7 +6,7 @@ ghost use Rattle.tangle_streams.specs.Streams.{Failed};
 ghost use Rattle.tangle_folders.specs.Folder.{with_created};
 ghost use Rattle.tangle_folders.specs.declared.folder.FolderFault.TheVariants.{NoMemory};
 ghost use Rattle.tangle_session.specs.Tangle.{output_at, outputs_of};
-ghost use Rattle.ctangle_cli.specs.Writing.{AddsPart, output_file};
+ghost use Rattle.ctangle_cli.specs.Writing.{AddsPrefix, output_file};
 ghost use Rattle.ctangle_cli.specs.Run.{StopsAt};
 
 use std::alloc::Global;
@@ -15,7 +15,7 @@ use tangle_session::Session;
 
 // Creates the output of this name, at this index among the names. Its writer is closed also where
 // it failed.
-fn write_file<F: Folder>(
+fn create_output<F: Folder>(
     alloc: Global,
     session: &Session,
     folder: &mut F,
@@ -27,13 +27,14 @@ fn write_file<F: Folder>(
         ≡ with_created (F.state folder.old).created
         (output_file session.now.files session.now.roles name.now ∷ [])) }
     ensures unfailed { OnOk result ((F.state folder.new).failures ≡ (F.state folder.old).failures) }
-    ensures part { OnErr result (AddsPart (F.state folder.old).created (F.state folder.new).created
+    ensures prefix { OnErr result
+        (AddsPrefix (F.state folder.old).created (F.state folder.new).created
         (output_file session.now.files session.now.roles name.now)) }
     ensures nothing { IfErr result
         (λ fault. fault ≡ NoMemory → (F.state folder.new).created ≡ (F.state folder.old).created) }
     ensures failed { IfErr result (λ fault. fault ≢ NoMemory
         → Failed (F.state folder.old).failures (F.state folder.new).failures) }
-    ensures unfailed_memory { IfErr result (λ fault. fault ≡ NoMemory
+    ensures no_failure { IfErr result (λ fault. fault ≡ NoMemory
         → (F.state folder.new).failures ≡ (F.state folder.old).failures) }
     ensures asked_stay { (F.state folder.new).asked ≡ (F.state folder.old).asked }
     ensures failed_stay { (F.state folder.new).failed ≡ (F.state folder.old).failed }
@@ -48,20 +49,24 @@ fn write_file<F: Folder>(
     }
 }
 
-/// The name of the output at which the writing stopped, and why.
+/// The name of the output that was not written whole, and why.
 #[derive(Clone, Copy, Debug)]
-pub struct FileStop<'a> {
+pub struct UnwrittenOutput<'a> {
     pub name: &'a [u8],
     pub fault: FolderFault,
 }
 
 /// Creates the outputs in order, up to the first that can't be written. No two of them have one
 /// name, so none is written over another, and each is found where its name is.
-pub fn write_outputs<'a, F: Folder>(
+///
+/// # Errors
+///
+/// The name of the output that can't be written, and why.
+pub fn create_outputs<'a, F: Folder>(
     alloc: Global,
     session: &'a Session,
     folder: &mut F,
-) -> Result<(), FileStop<'a>>
+) -> Result<(), UnwrittenOutput<'a>>
     requires { IsDistinct bytes_eq
         (map (λ output. output.0) (outputs_of session.now.files session.now.roles)) }
     ensures whole { OnOk result ((F.state folder.new).created
@@ -73,7 +78,7 @@ pub fn write_outputs<'a, F: Folder>(
     ensures failed { IfErr result
         (λ stop. stop.fault ≢ NoMemory
         → Failed (F.state folder.old).failures (F.state folder.new).failures) }
-    ensures unfailed_memory { IfErr result
+    ensures no_failure { IfErr result
         (λ stop. stop.fault ≡ NoMemory
         → (F.state folder.new).failures ≡ (F.state folder.old).failures) }
     ensures asked_stay { (F.state folder.new).asked ≡ (F.state folder.old).asked }
@@ -81,9 +86,9 @@ pub fn write_outputs<'a, F: Folder>(
 {
     let names = session.output_names();
     for (index, name) in names.enumerate() {
-        match write_file(alloc, session, folder, index, name) {
+        match create_output(alloc, session, folder, index, name) {
             Ok(()) => {}
-            Err(fault) => return Err(FileStop { name, fault }),
+            Err(fault) => return Err(UnwrittenOutput { name, fault }),
         }
     }
     Ok(())

@@ -6,7 +6,7 @@ use std::alloc::Global;
 use std::process::Abort;
 use std::test::Fail;
 use tangle_folders::{MemoryFolder, MemorySink};
-use tangle_test_support::{end_refusals, fail_allocation};
+use tangle_test_support::{end_failures, fail_allocation};
 
 const OUTPUT: &[u8] =
     b"/*1:*/\n#line 2 \"a.w\"\n\n#line 4 \"a.ch\"\nint z;\n#line 1 \"b.w\"\nint b;\n/*:1*/\n";
@@ -31,38 +31,38 @@ fn assert_fronts(rt: &impl Abort, folder: &MemoryFolder) {
     }
 }
 
-// Runs with this allocation failing, and gives the status, and whether none was.
-fn run_without(
+// Runs with this allocation failing, and returns the status, and whether none failed.
+fn run_with_failure(
     alloc: Global,
     folder: &mut MemoryFolder,
     err: &mut MemorySink,
     nth: u32,
 ) -> (u8, bool) {
     let arguments = [b"a".as_slice(), b"a"];
-    let is_harnessed = fail_allocation(alloc, nth);
+    let has_library = fail_allocation(alloc, nth);
     let status = run_ctangle(alloc, &arguments, folder, err);
-    (status, end_refusals(alloc, is_harnessed))
+    (status, end_failures(alloc, has_library))
 }
 
 // Runs with this allocation failing, and says whether none did.
-fn run_is_spared(rt: &impl Abort, alloc: Global, nth: u32) -> Result<bool, Fail> {
+fn run_without_failure(rt: &impl Abort, alloc: Global, nth: u32) -> Result<bool, Fail> {
     let mut folder = folder_of_three(alloc)?;
     let mut err = MemorySink::new(alloc, AMPLE);
-    let (status, was_spared) = run_without(alloc, &mut folder, &mut err, nth);
-    assert_eq!(rt; status, if was_spared { 1 } else { 3 });
+    let (status, none_failed) = run_with_failure(alloc, &mut folder, &mut err, nth);
+    assert_eq!(rt; status, if none_failed { 1 } else { 3 });
     assert_fronts(rt, &folder);
-    if was_spared {
+    if none_failed {
         let reported = b"a.w:5: error: included file not found: n.w\n";
         assert_eq!(rt; err.bytes(), reported.as_slice());
         check_only_output(rt, &folder, OUTPUT);
     }
-    Ok(was_spared)
+    Ok(none_failed)
 }
 
 #[test]
 fn each_allocation_of_a_run_failing(rt: HostRuntime) -> Result<(), Fail> {
     for nth in 1..1000 {
-        if run_is_spared(&rt, rt.alloc(), nth)? {
+        if run_without_failure(&rt, rt.alloc(), nth)? {
             return Ok(());
         }
     }

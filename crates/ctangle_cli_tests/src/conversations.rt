@@ -1,4 +1,4 @@
-//! A conversation whose writer fails: an edit that was accepted by then is.
+//! A conversation whose writer fails: an edit that was accepted before stays made.
 use crate::support::AMPLE;
 use ctangle_cli::run_retangle;
 use std::alloc::Global;
@@ -17,8 +17,8 @@ const ANSWERS: &[u8] =
       ok\n";
 
 // Answers the script to a writer that takes so many bytes: the status, and what was written.
-fn converse(alloc: Global, session: &mut Session, room: usize) -> (u8, MemorySink) {
-    let mut written = MemorySink::new(alloc, room);
+fn converse(alloc: Global, session: &mut Session, capacity: usize) -> (u8, MemorySink) {
+    let mut written = MemorySink::new(alloc, capacity);
     let mut script = IoFeed::new(SCRIPT);
     let status = run_retangle(alloc, session, &mut script, &mut written);
     (status, written)
@@ -48,7 +48,7 @@ fn started(alloc: Global, files: Files, roles: Roles) -> Option<Session> {
 }
 
 #[test]
-fn a_writer_that_fails_behind_an_edit(rt: HostRuntime) -> Result<(), Fail> {
+fn a_writer_that_fails_after_an_edit(rt: HostRuntime) -> Result<(), Fail> {
     let files = files_with(rt.alloc(), &[(b"a.w", b"@ A.\n@c\nint x;\n")])?;
     let roles = Roles::new(rt.alloc(), b"a.w", None, b"a.c")?;
     let mut session = started(rt.alloc(), files, roles).ok_or("not started")?;

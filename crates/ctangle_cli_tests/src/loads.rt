@@ -20,7 +20,7 @@ fn lines_asked(alloc: Global, folder: &MemoryFolder) -> Result<Vec<u8>, Fail> {
 // The files of a folder.
 type InFolder = &'static [(&'static [u8], &'static [u8])];
 
-// Of the arguments of a run and the files of its folder, the names that it asks for, each on a line.
+// The arguments of a run, the files of its folder, and the names that it asks for, each on a line.
 const ASKED: [(&[u8], InFolder, &[u8]); 4] = [
     // The web and the change file first, then what they include, round by round.
     (

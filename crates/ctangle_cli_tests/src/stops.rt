@@ -1,5 +1,5 @@
-//! Runs that end with status 2 or 3: the line on standard error, and the files that are.
-use crate::support::{check_only_output, folder_with, run, run_with_room};
+//! Runs that end with status 2 or 3: the line on standard error, and the files that were created.
+use crate::support::{check_only_output, folder_with, run, run_with_capacity};
 use std::alloc::Global;
 use std::process::Abort;
 use std::test::Fail;
@@ -17,9 +17,9 @@ fn check_stop(
     line: &[u8],
     status: u8,
 ) -> Result<(), Fail> {
-    let (answer, err) = run(alloc, arguments, &mut folder)?;
+    let (ended, err) = run(alloc, arguments, &mut folder)?;
     assert!(rt; err.bytes() == line);
-    assert_eq!(rt; (answer, folder.created().len()), (status, 0));
+    assert_eq!(rt; (ended, folder.created().len()), (status, 0));
     Ok(())
 }
 
@@ -134,7 +134,7 @@ fn check_short_stream(
 ) -> Result<(), Fail> {
     let change = b"@x\nint x;\nint c;\n@y\nint z;\n@z\n";
     let mut folder = folder_with(alloc, &[(b"a.w", WEB), (b"a.ch", change)])?;
-    let (status, err) = run_with_room(alloc, arguments, &mut folder, 3)?;
+    let (status, err) = run_with_capacity(alloc, arguments, &mut folder, 3)?;
     assert!(rt; err.bytes() == reported);
     assert_eq!(rt; (status, folder.created().len()), (3, 0));
     Ok(())

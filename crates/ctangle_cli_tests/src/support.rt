@@ -22,23 +22,23 @@ pub(crate) fn arguments_in<'a>(alloc: Global, text: &'a [u8]) -> Result<Vec<&'a 
     Ok(text.split(|b| *b == b' ').collect(alloc)?)
 }
 
-/// Runs `ctangle` with these arguments, and gives its status and what it wrote on standard error.
+/// Runs `ctangle` with these arguments, and returns its status and what it wrote on standard error.
 pub(crate) fn run(
     alloc: Global,
     arguments: &[u8],
     folder: &mut MemoryFolder,
 ) -> Result<(u8, MemorySink), Fail> {
-    run_with_room(alloc, arguments, folder, AMPLE)
+    run_with_capacity(alloc, arguments, folder, AMPLE)
 }
 
 /// The same, where standard error takes so many bytes.
-pub(crate) fn run_with_room(
+pub(crate) fn run_with_capacity(
     alloc: Global,
     arguments: &[u8],
     folder: &mut MemoryFolder,
-    room: usize,
+    capacity: usize,
 ) -> Result<(u8, MemorySink), Fail> {
-    let mut err = MemorySink::new(alloc, room);
+    let mut err = MemorySink::new(alloc, capacity);
     let arguments = arguments_in(alloc, arguments)?;
     let status = run_ctangle(alloc, arguments.as_slice(), folder, &mut err);
     Ok((status, err))

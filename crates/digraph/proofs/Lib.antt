@@ -6,6 +6,6 @@ pub mod RootLemmas
 pub mod FindingLemmas
 pub mod CycleLemmas
 pub mod TitleLemmas
-pub mod PlacingLemmas
+pub mod OrderSoFarLemmas
 pub mod OrderLemmas
 pub mod PathLemmas

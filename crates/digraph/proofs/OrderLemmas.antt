@@ -14,11 +14,11 @@ earlier order k m c =
     let room : c.0 < length order = omega (arith, short, length-take k order) in
     (c.0, low, room, get_or_default order c.0 0 m room ∙ sym (get_or-take k order c.0 m low) ∙ c.2)
 
-module _ (graph : Graph) (order : List ℕ) (placed : IsAfterUses graph order) (P : ℕ → Type 0) (step : (n : ℕ) → ((m : ℕ) → HasUse graph n m → P m) → P n) where
+module _ (graph : Graph) (order : List ℕ) (after_uses : IsAfterUses graph order) (P : ℕ → Type 0) (step : (n : ℕ) → ((m : ℕ) → HasUse graph n m → P m) → P n) where
   below : (bound k : ℕ) → k < bound → k < length order → P (get_or order k 0)
   below zero k h room = absurd (omega (arith, h))
   below (suc bound) k h room = step (get_or order k 0) (λ m u.
-      let at = earlier order k m (placed.after k m room u) in
+      let at = earlier order k m (after_uses.after k m room u) in
       let low : at.0 < bound = omega (arith, h, at.1) in
       subst P at.3 (below bound at.0 low at.2))
 
@@ -40,7 +40,7 @@ cycle_used graph n k here c = (c.0, c.1, (n, c.2, c))
 cycle_used graph n k (on {b = m} u r) c = (m, u, (k, r, c))
 
 pub ordered_acyclic : (graph : Graph) (order : List ℕ) (n : ℕ) → IsOrder graph order → Contains order n → ReachesCycle (HasUse graph) n → ⊥
-ordered_acyclic graph order n is = along graph order is.placed (λ k. ReachesCycle (HasUse graph) k → ⊥)
+ordered_acyclic graph order n is = along graph order is.after_uses (λ k. ReachesCycle (HasUse graph) k → ⊥)
     (λ k below c. let next = cycle_used graph k c.0 c.1 c.2 in below next.0 next.1 next.2) n
 
 pub left_out_paths : (graph : Graph) (order : List ℕ) (n steps : ℕ) → IsOrder graph order → InRange graph → n < length graph → (Contains order n → ⊥) → HasPath (HasUse graph) steps n

@@ -10,7 +10,7 @@ use Rattle.std.proofs.lemmas.List.Folds.{list_any_more, Any-from_list_any, list_
 use Rattle.std.proofs.lemmas.List.Elements.{Contains-get_or, All-nil, All-cons, All-contains, Contains-append_right, Contains-append_cases}
 use Rattle.std.proofs.lemmas.List.Kept.{AllPairs-from_increasing}
 use Rattle.digraph.specs.Graph.{Graph, InRange, rows_of, row_at}
-use Rattle.digraph.specs.Rows.{IsRowsOf, GrowsBy, IsConverse}
+use Rattle.digraph.specs.Rows.{IsRowsOf, GrowsBy, IsReversed}
 use Rattle.digraph.specs.Users.{positions, users_of}
 use Rattle.digraph.proofs.GraphLemmas.{row_read, rows_size, node_in, use_in}
 use Rattle.digraph.proofs.RowLemmas.{grows_more}
@@ -135,14 +135,14 @@ user_uses rows m n c =
 uses_user : (rows : List (List ℕ)) (m n : ℕ) → n < length rows → Contains (row_at rows n) m → Contains (users_of rows m) n
 uses_user rows m n h c = subst (Contains (users_of rows m)) (zero-add n) (passes_into (list_any (λ x. eqb x m)) [] 0 rows n h (passed (row_at rows n) m c))
 
-pub is_converse : (uses users : Graph) → InRange uses → IsRowsOf (length uses) (users_of (rows_of uses)) (rows_of users) → IsConverse uses users
-is_converse uses users range is = record {
+pub is_reversed : (uses users : Graph) → InRange uses → IsRowsOf (length uses) (users_of (rows_of uses)) (rows_of users) → IsReversed uses users
+is_reversed uses users range is = record {
   increasing = λ m. elim (dec_lt m (length uses)) [
     | yes low ↦ subst IsStrictlyIncreasing (sym (is.row m low)) (rising (rows_of uses) m)
     | no past ↦ (let none : row_at (rows_of users) m ≡ [] = get_or_past (rows_of users) m [] (omega (arith, past, is.size)) in
         subst IsStrictlyIncreasing (sym none) (λ i h. absurd (omega (arith, h))))
   ];
-  turned = λ n m. (
+  reversed = λ n m. (
     (λ u. (let low : m < length uses = omega (arith, node_in users m n u, is.size, rows_size users) in
         user_uses (rows_of uses) m n (subst (λ row. Contains row n) (is.row m low) u))),
     (λ u. (let low : m < length uses = use_in uses range n m u in

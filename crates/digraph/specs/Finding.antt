@@ -8,6 +8,6 @@ pub record IsFinding (graph : Graph) (flags found : List Bool) : Type 0 where
   pub size : length found ≡ length graph
   pub sound : (n : ℕ) → IsFlagged found n → ReachesFlagged graph flags n
 
--- the node was found, or nothing speaks for it: it isn't flagged, and uses none that was found
-abbrev pub IsSettled : Graph → List Bool → List Bool → ℕ → Type 0
-IsSettled graph flags found n = IsFlagged found n ⊎ ((¬ (IsFlagged flags n)) × ((m : ℕ) → HasUse graph n m → ¬ (IsFlagged found m)))
+-- the node was found, or nothing shows that it reaches a flagged one: it isn't flagged, and uses none that was found
+abbrev pub IsDecided : Graph → List Bool → List Bool → ℕ → Type 0
+IsDecided graph flags found n = IsFlagged found n ⊎ ((¬ (IsFlagged flags n)) × ((m : ℕ) → HasUse graph n m → ¬ (IsFlagged found m)))

@@ -5,7 +5,7 @@ pub mod Order
 pub mod Rows
 pub mod Users
 pub mod Titles
-pub mod Placing
+pub mod OrderSoFar
 pub mod Finding
 pub mod Roots
 pub mod Evidence

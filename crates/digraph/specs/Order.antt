@@ -10,5 +10,5 @@ pub record IsAfterUses (graph : Graph) (order : List ℕ) : Type 0 where
 
 -- and each node that is left out uses one that is left out
 pub record IsOrder (graph : Graph) (order : List ℕ) : Type 0 where
-  pub placed : IsAfterUses graph order
+  pub after_uses : IsAfterUses graph order
   pub rest : (n : ℕ) → n < length graph → ¬ (Contains order n) → (m : ℕ) × HasUse graph n m × (¬ (Contains order m))

@@ -19,6 +19,6 @@ pub record IsOnceEach (all once : List ℕ) : Type 0 where
   pub same : (m : ℕ) → Contains once m ↔ Contains all m
 
 -- the users of each node are those that use it, each once, in increasing order
-pub record IsConverse (uses users : Graph) : Type 0 where
+pub record IsReversed (uses users : Graph) : Type 0 where
   pub increasing : (m : ℕ) → IsStrictlyIncreasing (row_at (rows_of users) m)
-  pub turned : (n m : ℕ) → HasUse users m n ↔ HasUse uses n m
+  pub reversed : (n m : ℕ) → HasUse users m n ↔ HasUse uses n m

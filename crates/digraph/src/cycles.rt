@@ -71,7 +71,7 @@ fn contains_itself(
     requires node { n < length uses.now }
     ensures { IfOk result (λ flag. (flag ≡ true) ↔ ContainsItself (HasUse uses.now) n) }
 {
-    match evidence.certified(uses, n) {
+    match evidence.conclusion(uses, n) {
         Some(flag) => Ok(flag),
         None => search(alloc, uses, users, n),
     }

@@ -1,11 +1,11 @@
-//! What certifies the answers: ranks that never fall, and flags of what roots reach and what
-//! reaches them.
+//! Evidence of which nodes contain themselves: ranks that never fall, and flags of what roots reach
+//! and of what reaches them.
 ghost use Rattle.std.specs.Prelude.{◌≡◌, ◌<◌, ◌↔◌, IfOk, IfSome, true, length};
 ghost use Rattle.digraph.specs.Graph.{InRange, HasUse};
 ghost use Rattle.digraph.specs.Reach.{ContainsItself};
 ghost use Rattle.digraph.specs.Evidence.{IsEvidence};
 
-use crate::proposals::{finishing, number};
+use crate::proposals::{postorder, rank_components};
 use crate::ranks::{lowest, never_falls};
 use crate::roots::{flag_reached, flag_reaching, leads_to_root};
 use std::alloc::{AllocError, Global};
@@ -14,7 +14,7 @@ use std::alloc::{AllocError, Global};
 #[derive(Drop)]
 pub struct Evidence {
     ranks: Vec<usize>,
-    rising: bool,
+    never_falls: bool,
     roots: Vec<usize>,
     from_root: Vec<bool>,
     to_root: Vec<bool>,
@@ -30,26 +30,26 @@ impl Evidence {
         requires { InRange uses.now }
         ensures { IfOk result (λ evidence. IsEvidence uses.now evidence) }
     {
-        let finished = finishing(alloc, uses)?;
+        let order = postorder(alloc, uses)?;
         let mut ranks = vec![in alloc; 0usize; uses.len()]?;
         let mut roots = vec![in alloc; 0usize; uses.len()]?;
-        let visits = number(alloc, users, &finished, &mut ranks, &mut roots)?;
+        let visits = rank_components(alloc, users, &order, &mut ranks, &mut roots)?;
         let mut from_root = vec![in alloc; false; uses.len()]?;
-        flag_reached(uses, &roots, &finished, &mut from_root);
+        flag_reached(uses, &roots, &order, &mut from_root);
         let mut to_root = vec![in alloc; false; uses.len()]?;
         flag_reaching(uses, &roots, &visits, &mut to_root);
-        let rising = never_falls(uses, &ranks);
+        let never_falls = never_falls(uses, &ranks);
         Ok(Evidence {
             ranks,
-            rising,
+            never_falls,
             roots,
             from_root,
             to_root,
         })
     }
 
-    /// Whether the node contains itself, where the evidence says so.
-    pub fn certified(&self, uses: &[Vec<usize>], n: usize) -> Option<bool>
+    /// Whether the node contains itself; `None`, where the evidence does not say.
+    pub fn conclusion(&self, uses: &[Vec<usize>], n: usize) -> Option<bool>
         requires range { InRange uses.now }
         requires evidence { IsEvidence uses.now self.now }
         requires node { n < length uses.now }
@@ -59,7 +59,7 @@ impl Evidence {
         if self.from_root[n] && leads_to_root(row, self.roots[n], &self.roots, &self.to_root) {
             return Some(true);
         }
-        if self.rising && lowest(row, &self.ranks) > self.ranks[n] {
+        if self.never_falls && lowest(row, &self.ranks) > self.ranks[n] {
             return Some(false);
         }
         None

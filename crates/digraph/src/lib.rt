@@ -1,7 +1,7 @@
 //! Directed graphs as rows of numbers: row n holds the nodes that node n uses.
 //!
-//! What is proposed in `proposals` is only a hint: whatever it says the answers are right, and
-//! where it is right they take linear time.
+//! What is proposed in `proposals` is only a hint: no result depends on it, only the time that it
+//! takes, which is linear after a good hint.
 #![tactic(auto)]
 
 mod cycles;
@@ -15,7 +15,7 @@ mod roots;
 mod rows;
 
 pub use cycles::{reaching_cycles, self_containing};
-pub use laws::{order_holds_what_reaches_no_cycle, rows_grow};
+pub use laws::order_holds_what_reaches_no_cycle;
 pub use ordering::order;
 pub use reach::reaching;
-pub use rows::{all_once, empty_rows, once_each, push_to, users};
+pub use rows::{all_once, empty_rows, push_to, users};

@@ -1,11 +1,11 @@
-//! An order of a graph's nodes in which each comes after those that it uses.
+//! A topological order of a graph's nodes: each comes after those that it uses.
 ghost use Rattle.std.specs.Prelude.{◌≡◌, ◌<◌, ℕ, IfOk, true, false, All, Contains, length};
 ghost use Rattle.digraph.specs.Graph.{InRange};
 ghost use Rattle.digraph.specs.Flags.{IsFlagged};
 ghost use Rattle.digraph.specs.Order.{IsOrder};
-ghost use Rattle.digraph.specs.Placing.{IsPlacing, IsStuck, unflagged};
+ghost use Rattle.digraph.specs.OrderSoFar.{IsOrderSoFar, IsStuck, unflagged};
 
-use crate::proposals::leaves_first;
+use crate::proposals::topological_order;
 use std::alloc::{AllocError, Global};
 
 /// The nodes that reach no cycle, each after those that it uses.
@@ -25,24 +25,24 @@ pub fn order(
 {
     let mut flags = vec![in alloc; false; uses.len()]?;
     let mut order = Vec::new(alloc);
-    for n in &leaves_first(alloc, uses, users)? {
+    for n in &topological_order(alloc, uses, users)? {
         if *n < uses.len() {
-            place(uses, *n, &mut flags, &mut order)?;
+            add_to_order(uses, *n, &mut flags, &mut order)?;
         }
     }
-    while place_each(uses, &mut flags, &mut order)? {}
+    while add_each(uses, &mut flags, &mut order)? {}
     Ok(order)
 }
 
-/// Places each node that can be placed, and says whether there was one.
-fn place_each(
+/// Adds each node that can be added to the order, and says whether there was one.
+fn add_each(
     uses: &[Vec<usize>],
     flags: &mut Vec<bool>,
     order: &mut Vec<usize>,
 ) -> Result<bool, AllocError>
     requires range { InRange uses.now }
-    requires placing { IsPlacing uses.now flags.old.items order.old.items }
-    ensures placing { IfOk result (λ _. IsPlacing uses.now flags.new.items order.new.items) }
+    requires order { IsOrderSoFar uses.now flags.old.items order.old.items }
+    ensures order { IfOk result (λ _. IsOrderSoFar uses.now flags.new.items order.new.items) }
     ensures more { IfOk result
         (λ any. any ≡ true → unflagged flags.new.items < unflagged flags.old.items) }
     ensures none { IfOk result
@@ -50,15 +50,16 @@ fn place_each(
 {
     let mut any = false;
     for n in 0..uses.len() {
-        if place(uses, n, flags, order)? {
+        if add_to_order(uses, n, flags, order)? {
             any = true;
         }
     }
     Ok(any)
 }
 
-/// Places the node if it isn't placed and all that it uses is, and says whether it was placed now.
-fn place(
+/// Adds the node to the order if it isn't there and all that it uses is, and says whether it was
+/// added now.
+fn add_to_order(
     uses: &[Vec<usize>],
     n: usize,
     flags: &mut Vec<bool>,
@@ -66,8 +67,8 @@ fn place(
 ) -> Result<bool, AllocError>
     requires range { InRange uses.now }
     requires node { n < length uses.now }
-    requires placing { IsPlacing uses.now flags.old.items order.old.items }
-    ensures placing { IfOk result (λ _. IsPlacing uses.now flags.new.items order.new.items) }
+    requires order { IsOrderSoFar uses.now flags.old.items order.old.items }
+    ensures order { IfOk result (λ _. IsOrderSoFar uses.now flags.new.items order.new.items) }
     ensures more { IfOk result
         (λ now. now ≡ true → unflagged flags.new.items < unflagged flags.old.items) }
     ensures same { IfOk result

@@ -1,10 +1,11 @@
-//! Proposals: orders, and components of a graph, by searches. Nothing rests on them but time.
+//! Proposals: orders, and strongly connected components, by searches. No result depends on them,
+//! only the time that it takes.
 
 use std::alloc::{AllocError, Global};
 
-/// Says whether the node is seen for the first time, and notes that it is seen.
-fn see(seen: &mut [bool], n: usize) -> bool {
-    match seen.get_mut(n) {
+/// Visits the node, and says whether for the first time.
+fn visit(visited: &mut [bool], n: usize) -> bool {
+    match visited.get_mut(n) {
         Some(flag) => {
             let first = !*flag;
             *flag = true;
@@ -14,8 +15,8 @@ fn see(seen: &mut [bool], n: usize) -> bool {
     }
 }
 
-/// The nodes that reach no cycle, each when nothing is left of what it uses.
-pub fn leaves_first(
+/// The nodes that reach no cycle, each after those that it uses (Kahn).
+pub fn topological_order(
     alloc: Global,
     uses: &[Vec<usize>],
     users: &[Vec<usize>],
@@ -47,13 +48,13 @@ pub fn leaves_first(
     Ok(queue)
 }
 
-/// The nodes in the order in which a search in depth is done with them.
-pub fn finishing(alloc: Global, uses: &[Vec<usize>]) -> Result<Vec<usize>, AllocError> {
-    let mut seen = vec![in alloc; false; uses.len()]?;
-    let mut finished = Vec::new(alloc);
+/// The nodes in the postorder of a depth-first search.
+pub fn postorder(alloc: Global, uses: &[Vec<usize>]) -> Result<Vec<usize>, AllocError> {
+    let mut visited = vec![in alloc; false; uses.len()]?;
+    let mut order = Vec::new(alloc);
     let mut stack: Vec<(usize, usize)> = Vec::new(alloc);
     for start in 0..uses.len() {
-        if see(&mut seen, start) {
+        if visit(&mut visited, start) {
             stack.push((start, 0))?;
         }
         for _ in 0..usize::MAX {
@@ -66,33 +67,34 @@ pub fn finishing(alloc: Global, uses: &[Vec<usize>]) -> Result<Vec<usize>, Alloc
             if next < row.len() {
                 stack.push((n, next + 1))?;
                 let m = row[next];
-                if see(&mut seen, m) {
+                if visit(&mut visited, m) {
                     stack.push((m, 0))?;
                 }
             } else {
-                finished.push(n)?;
+                order.push(n)?;
             }
         }
     }
-    Ok(finished)
+    Ok(order)
 }
 
-/// Ranks the components, and names a root of each: the node of it that the first search saw first.
+/// The strongly connected components, by Kosaraju's second search: a rank and a root for each node.
+/// A root is the node of its component that the first search visited first.
 ///
-/// The answer is the nodes in the order of these visits, each but a root after one of its component
-/// that it uses.
-pub fn number(
+/// Returns the nodes in the order of these visits, each but a root after one of its component that
+/// it uses.
+pub fn rank_components(
     alloc: Global,
     users: &[Vec<usize>],
-    finished: &[usize],
+    postorder: &[usize],
     ranks: &mut [usize],
     roots: &mut [usize],
 ) -> Result<Vec<usize>, AllocError> {
-    let mut seen = vec![in alloc; false; finished.len()]?;
+    let mut visited = vec![in alloc; false; postorder.len()]?;
     let mut visits = Vec::new(alloc);
-    for start in finished.iter().rev() {
+    for start in postorder.iter().rev() {
         let rank = visits.len();
-        if see(&mut seen, *start) {
+        if visit(&mut visited, *start) {
             visits.push(*start)?;
         }
         for head in rank..usize::MAX {
@@ -109,7 +111,7 @@ pub fn number(
                 continue;
             };
             for user in row {
-                if see(&mut seen, *user) {
+                if visit(&mut visited, *user) {
                     visits.push(*user)?;
                 }
             }
@@ -124,10 +126,10 @@ pub fn backward(
     users: &[Vec<usize>],
     flags: &[bool],
 ) -> Result<Vec<usize>, AllocError> {
-    let mut seen = vec![in alloc; false; flags.len()]?;
+    let mut visited = vec![in alloc; false; flags.len()]?;
     let mut visits = Vec::new(alloc);
     for (n, flag) in flags.iter().enumerate() {
-        if *flag && see(&mut seen, n) {
+        if *flag && visit(&mut visited, n) {
             visits.push(n)?;
         }
     }
@@ -139,7 +141,7 @@ pub fn backward(
             continue;
         };
         for user in row {
-            if see(&mut seen, *user) {
+            if visit(&mut visited, *user) {
                 visits.push(*user)?;
             }
         }

@@ -2,8 +2,8 @@
 ghost use Rattle.std.specs.Prelude.{◌≡◌, ◌<◌, ℕ, IfOk, true, false, All, Contains, length, vec_len};
 ghost use Rattle.digraph.specs.Graph.{InRange};
 ghost use Rattle.digraph.specs.Flags.{FlagsJust, IsFlagged, ReachesFlagged};
-ghost use Rattle.digraph.specs.Finding.{IsFinding, IsSettled};
-ghost use Rattle.digraph.specs.Placing.{unflagged};
+ghost use Rattle.digraph.specs.Finding.{IsFinding, IsDecided};
+ghost use Rattle.digraph.specs.OrderSoFar.{unflagged};
 
 use crate::proposals::backward;
 use std::alloc::{AllocError, Global};
@@ -62,7 +62,7 @@ fn find_each(uses: &[Vec<usize>], flags: &[bool], found: &mut [bool]) -> bool
     ensures finding { IsFinding uses.now flags.now found.new }
     ensures more { result ≡ true → unflagged found.new < unflagged found.old }
     ensures none { result ≡ false → (n : ℕ) → n < length uses.now
-        → IsSettled uses.now flags.now found.new n }
+        → IsDecided uses.now flags.now found.new n }
 {
     let mut any = false;
     for n in 0..uses.len() {
@@ -82,7 +82,7 @@ fn find(uses: &[Vec<usize>], n: usize, flags: &[bool], found: &mut [bool]) -> bo
     ensures finding { IsFinding uses.now flags.now found.new }
     ensures more { result ≡ true → unflagged found.new < unflagged found.old }
     ensures same { result ≡ false → found.new ≡ found.old }
-    ensures settled { result ≡ false → IsSettled uses.now flags.now found.old n }
+    ensures decided { result ≡ false → IsDecided uses.now flags.now found.old n }
 {
     if found[n] || !(flags[n] || any_flagged(&uses[n], found)) {
         return false;

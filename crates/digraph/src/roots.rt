@@ -6,8 +6,7 @@ ghost use Rattle.digraph.specs.Graph.{InRange};
 ghost use Rattle.digraph.specs.Flags.{IsFlagged};
 ghost use Rattle.digraph.specs.Roots.{FromRoots, ToRoots};
 
-/// Flags nodes more that their roots reach, where `backwards` is an order in which each of them
-/// comes after those it leads to.
+/// Flags further nodes that their roots reach, tried from the end of `backwards`.
 pub fn flag_reached(uses: &[Vec<usize>], roots: &[usize], backwards: &[usize], flags: &mut [bool])
     requires range { InRange uses.now }
     requires roots { length roots.now ≡ length uses.now }
@@ -16,13 +15,13 @@ pub fn flag_reached(uses: &[Vec<usize>], roots: &[usize], backwards: &[usize], f
 {
     for n in backwards.iter().rev() {
         if *n < uses.len() {
-            hand_on(uses, *n, roots, flags);
+            flag_from_root(uses, *n, roots, flags);
         }
     }
 }
 
 /// Flags the node if it is a root, and where it is flagged, those of its root that it uses.
-fn hand_on(uses: &[Vec<usize>], n: usize, roots: &[usize], flags: &mut [bool])
+fn flag_from_root(uses: &[Vec<usize>], n: usize, roots: &[usize], flags: &mut [bool])
     requires range { InRange uses.now }
     requires node { n < length uses.now }
     requires roots { length roots.now ≡ length uses.now }
@@ -52,8 +51,7 @@ fn flag_row(row: &[usize], root: usize, roots: &[usize], flags: &mut [bool])
     }
 }
 
-/// Flags nodes more that reach their roots, in an order in which each of them comes after one that
-/// it uses.
+/// Flags further nodes that reach their roots, tried in this order.
 pub fn flag_reaching(uses: &[Vec<usize>], roots: &[usize], order: &[usize], flags: &mut [bool])
     requires range { InRange uses.now }
     requires roots { length roots.now ≡ length uses.now }
@@ -62,13 +60,13 @@ pub fn flag_reaching(uses: &[Vec<usize>], roots: &[usize], order: &[usize], flag
 {
     for n in order {
         if *n < uses.len() {
-            take_up(uses, *n, roots, flags);
+            flag_to_root(uses, *n, roots, flags);
         }
     }
 }
 
 /// Flags the node if it is a root or uses a flagged one of its root.
-fn take_up(uses: &[Vec<usize>], n: usize, roots: &[usize], flags: &mut [bool])
+fn flag_to_root(uses: &[Vec<usize>], n: usize, roots: &[usize], flags: &mut [bool])
     requires range { InRange uses.now }
     requires node { n < length uses.now }
     requires roots { length roots.now ≡ length uses.now }

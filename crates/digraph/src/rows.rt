@@ -4,7 +4,7 @@ ghost use Rattle.std.specs.Prelude.{if◌then◌else◌};
 ghost use Rattle.std.specs.List.{list_any};
 ghost use Rattle.std.specs.List.Sorted.{IsStrictlyIncreasing};
 ghost use Rattle.digraph.specs.Graph.{InRange, rows_of, row_at};
-ghost use Rattle.digraph.specs.Rows.{IsRowsOf, GrowsBy, IsOnceEach, IsConverse};
+ghost use Rattle.digraph.specs.Rows.{IsRowsOf, GrowsBy, IsOnceEach, IsReversed};
 ghost use Rattle.digraph.specs.Users.{users_of};
 
 use std::alloc::{AllocError, Global};
@@ -24,7 +24,7 @@ pub fn empty_rows(alloc: Global, count: usize) -> Result<Vec<Vec<usize>>, AllocE
     Ok(rows)
 }
 
-/// Puts a number last in row `n`.
+/// Adds a number at the end of row `n`.
 ///
 /// # Errors
 ///
@@ -39,7 +39,7 @@ pub fn push_to(rows: &mut Vec<Vec<usize>>, n: usize, number: usize) -> Result<()
 }
 
 /// Leaves each number of the row once, in increasing order.
-pub fn once_each(row: &mut Vec<usize>)
+fn once_each(row: &mut Vec<usize>)
     ensures { IsOnceEach row.old.items row.new.items }
 {
     row.sort_unstable();
@@ -69,13 +69,13 @@ pub fn users(alloc: Global, uses: &[Vec<usize>]) -> Result<Vec<Vec<usize>>, Allo
     requires range { InRange uses.now }
     requires increasing { All (λ row. IsStrictlyIncreasing row.items) uses.now }
     ensures size { IfOk result (λ users. vec_len users ≡ length uses.now) }
-    ensures converse { IfOk result (λ users. IsConverse uses.now users.items) }
+    ensures reversed { IfOk result (λ users. IsReversed uses.now users.items) }
 {
-    turned(alloc, uses)
+    reversed(alloc, uses)
 }
 
 /// For each node the rows that have it, in their order.
-fn turned(alloc: Global, uses: &[Vec<usize>]) -> Result<Vec<Vec<usize>>, AllocError>
+fn reversed(alloc: Global, uses: &[Vec<usize>]) -> Result<Vec<Vec<usize>>, AllocError>
     requires range { InRange uses.now }
     requires increasing { All (λ row. IsStrictlyIncreasing row.items) uses.now }
     ensures { IfOk result (λ users. IsRowsOf (length uses.now) (users_of (rows_of uses.now))
@@ -88,7 +88,7 @@ fn turned(alloc: Global, uses: &[Vec<usize>]) -> Result<Vec<Vec<usize>>, AllocEr
     Ok(users)
 }
 
-/// Puts the user last in each row that `row` names.
+/// Adds the user at the end of each row whose number is in `row`.
 fn add_user(users: &mut Vec<Vec<usize>>, row: &[usize], user: usize) -> Result<(), AllocError>
     requires increasing { IsStrictlyIncreasing row.now }
     requires within { All (λ m. m < length users.old.items) row.now }

@@ -8,19 +8,18 @@ use ctangle_cli::{
 };
 use std::io::ErrorKind;
 use std::process::ExitCode;
-use tangle_lines::Sink;
+use tangle_lines::{IoFeed, Sink};
 use tangle_session::Session;
-use tangle_streams::IoFeed;
 
-// Writes why there is nothing to answer from.
+// Writes the line of a fault of loading, or of out of memory, and returns status 3.
 fn report<E: Sink>(fault: &LoadFault, err: &mut E) -> u8 {
     let _ = write_load(b"retangle", fault, err);
     3
 }
 
-// Loads what the arguments name, and answers the script on standard input.
-fn run_named<E: Sink>(rt: &HostRuntime, arguments: &Words, err: &mut E) -> u8 {
-    match load(rt.alloc(), arguments, &mut Disk::new(rt)) {
+// Loads the files of these names, and answers the script on standard input.
+fn run_named<E: Sink>(rt: &HostRuntime, names: &Words, err: &mut E) -> u8 {
+    match load(rt.alloc(), names, &mut Disk::new(rt)) {
         Err(fault) => report(&fault, err),
         Ok((files, roles)) => match Session::start(rt.alloc(), files, roles) {
             Err(_) => report(&LoadFault::NoMemory, err),
@@ -33,7 +32,7 @@ fn run_named<E: Sink>(rt: &HostRuntime, arguments: &Words, err: &mut E) -> u8 {
     }
 }
 
-// Runs `retangle`, and gives its status. With an argument that is not UTF-8 it has no arguments,
+// Runs `retangle`, and returns its status. With an argument that is not UTF-8 it has no arguments,
 // and `clap` reports its usage.
 fn run<E: Sink>(rt: &HostRuntime, err: &mut E) -> u8 {
     let arguments = match command_line(rt) {
@@ -47,7 +46,7 @@ fn run<E: Sink>(rt: &HostRuntime, err: &mut E) -> u8 {
     match read_retangle(rt.alloc(), arguments.as_slice()) {
         Ok(names) => run_named(rt, &names, err),
         Err(RetangleFault::NoMemory) => report(&LoadFault::NoMemory, err),
-        Err(RetangleFault::Parse(text)) => match eprint!(rt; "{text}") {
+        Err(RetangleFault::Parse(error)) => match eprint!(rt; "{error}") {
             Ok(()) => 2,
             Err(_) => 3,
         },

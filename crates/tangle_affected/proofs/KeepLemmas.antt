@@ -1,8 +1,7 @@
 -- One more node is kept, and what is kept in the end.
 use Rattle.std.proofs.Common.{◌≡◌, ◌≢◌, ◌∙◌, ◌+◌, ◌<◌, ◌≤◌, ℕ, Bool, true, false, List, [], length, take, get_or, refl, ap, sym, subst, inl, inr, arith, Contains}
-use Rattle.std.specs.Prelude.{nat_lt, if◌then◌else◌, Some, None, IsSome}
+use Rattle.std.specs.Prelude.{Some, None, IsSome}
 use Rattle.std.specs.List.{filter}
-use Rattle.std.proofs.lemmas.Bool.Decides.{nat_tests}
 use Rattle.std.proofs.lemmas.List.{take_more, take_all}
 use Rattle.std.proofs.lemmas.List.Elements.{Contains-get_or, Contains-push_cases}
 use Rattle.tangle_expansion.specs.Affected.{IsExpandable}
@@ -12,25 +11,17 @@ use Rattle.tangle_plans.specs.Shapes.{Title, Named, Shapes, Uses}
 use Rattle.tangle_expansion.specs.declared.kept.Kept.{Kept}
 use Rattle.tangle_plans.specs.declared.nodes.Node.{Node}
 use Rattle.tangle_plans.specs.declared.nodes.Node.TheVariants.{Program, Name}
-use Rattle.tangle_graph.specs.Nodes.{IsNodeOf, UsesTitle, number_in, entry}
+use Rattle.tangle_graph.specs.Nodes.{UsesTitle}
 use Rattle.tangle_graph.specs.Ordering.{IsOrderIn}
 use Rattle.tangle_graph.specs.Stores.{StoreRead, IsNodeIn, IsStoreOf, KeepsUsed, UsesPiece, flag_at, is_expandable_at, title_in_store}
+use Rattle.tangle_graph.proofs.ExpandLemmas.{node_in}
 use Rattle.tangle_graph.proofs.NodeLemmas.{title_inside}
 use Rattle.tangle_affected.specs.Keeping.{IsKeptRight, KeepsJust, KeepsDone, KeepsUnflagged, IsExpandableList, CanExpand}
 use Rattle.tangle_affected.specs.Affected.{ListsAffected}
-use Rattle.tangle_affected.specs.Flags.{AreListed}
+use Rattle.tangle_affected.specs.Flags.{FlagsJustListed}
 use Rattle.tangle_affected.proofs.FilterLemmas.{into_filter}
 use Rattle.tangle_affected.proofs.ListLemmas.{expandable_list}
 use Rattle.tangle_affected.proofs.FlagLemmas.{apart, node_discrete}
-
--- a node that has a flag is the store's
-node_in : (names : List (List ℕ)) (flags : List Bool) (node : Node) → entry false flags (number_in (length names) node) ≡ true → IsNodeOf names node
-node_in names flags Program e = tt
-node_in names flags (Name id) e = by (nat_lt id (length names)) refl e
-  where
-    by : (b : Bool) → nat_lt id (length names) ≡ b → entry false flags (if b then Some id else None) ≡ true → id < length names
-    by true t d = grind (arith, nat_tests)
-    by false t d = absurd (let no : false ≡ true = d in cc)
 
 pub expandable_in : (store : StoreRead) (node : Node) → is_expandable_at store node ≡ true → IsNodeIn store node
 expandable_in store node e = node_in store.names store.expandable node e
@@ -49,7 +40,7 @@ module _ (shapes : Shapes) (store : StoreRead) (list : List Node) (is : IsStoreO
 
   -- the names with a piece that it uses are kept
   pub next_kept : (i : ℕ) (kept : Kept) → i < length list → KeepsDone shapes store list i kept
-      → ((l h : ℕ) (p : Shapes) (node : Title) (name : List ℕ) → IsExpandable l h p node → Uses p node name → p (Named name) ≢ [] → IsExpandable l h p (Named name))
+      → ((l h : ℕ) (any : Shapes) (title : Title) (name : List ℕ) → IsExpandable l h any title → Uses any title name → any (Named name) ≢ [] → IsExpandable l h any (Named name))
       → KeepsUsed shapes store kept (get_or list i Program)
   next_kept i kept h keeps law id u =
       let node = get_or list i Program in
@@ -88,17 +79,17 @@ module _ (shapes : Shapes) (store : StoreRead) (list : List Node) (is : IsStoreO
 nothing_first : (list : List Node) (node : Node) → Contains (take 0 list) node → ⊥
 nothing_first list node c = absurd (omega (arith, c.1))
 
-module _ (shapes : Shapes) (store : StoreRead) (order : List Node) (placed : IsOrderIn store order) where
+module _ (shapes : Shapes) (store : StoreRead) (order : List Node) (ordered : IsOrderIn store order) where
   -- nothing is kept, and all expandable nodes are to come
   pub none_done : (kept : Kept) → ((node : Node) → kept_at kept node ≡ None) → KeepsDone shapes store (filter (is_expandable_at store) order) 0 kept
   none_done kept none = record {
     expandable = λ node e listed. absurd (nothing_first (filter (is_expandable_at store) order) node
-        (listed (into_filter (is_expandable_at store) order node (placed.expandable node (expandable_in store node e) e) e)));
+        (listed (into_filter (is_expandable_at store) order node (ordered.expandable node (expandable_in store node e) e) e)));
     others = λ node e. none node;
   }
 
   -- the unflagged nodes are kept, and those of the list, which are flagged, are to come
-  pub unflagged_done : (flags : List Bool) (list : List Node) (kept : Kept) → AreListed store flags list
+  pub unflagged_done : (flags : List Bool) (list : List Node) (kept : Kept) → FlagsJustListed store flags list
       → KeepsUnflagged shapes store (flag_at store flags) order kept → KeepsDone shapes store list 0 kept
   unflagged_done flags list kept are keeps = record {
     expandable = λ node e listed. by node e (flag_at store flags node) refl listed;
@@ -108,7 +99,7 @@ module _ (shapes : Shapes) (store : StoreRead) (order : List Node) (placed : IsO
       by : (node : Node) → is_expandable_at store node ≡ true → (b : Bool) → flag_at store flags node ≡ b
           → (Contains list node → Contains (take 0 list) node) → IsKeptRight shapes store kept node
       by node e true is_flagged listed = absurd (nothing_first list node (listed ((are node (expandable_in store node e)).0 is_flagged)))
-      by node e false is_flagged listed = keeps.unflagged node (placed.expandable node (expandable_in store node e) e) e is_flagged
+      by node e false is_flagged listed = keeps.unflagged node (ordered.expandable node (expandable_in store node e) e) e is_flagged
 
   pub none_unflagged : (flagged : Node → Bool) (kept : Kept) → ((node : Node) → kept_at kept node ≡ None) → KeepsUnflagged shapes store flagged (take 0 order) kept
   none_unflagged flagged kept none = record {
@@ -121,7 +112,7 @@ module _ (shapes : Shapes) (store : StoreRead) (order : List Node) (placed : IsO
       → KeepsUnflagged shapes store flagged (take (i + 1) order) after
   unflagged_more flagged i before after h flag keeps puts = record {
     unflagged = λ node c e is_flagged. elim (Contains-push_cases (take i order) (get_or order i Program) node (subst (λ l. Contains l node) (take_more order i Program h) c)) [
-      | inl old ↦ puts.others node (apart store order placed i node h old) ∙ keeps.unflagged node old e is_flagged
+      | inl old ↦ puts.others node (apart store order ordered i node h old) ∙ keeps.unflagged node old e is_flagged
       | inr same ↦ subst (λ m. kept_at after m ≡ Some (flat_of shapes (title_in_store store m))) same puts.put
     ];
     others = λ node e. puts.others node (λ same. true_false (is_expandable_at store node) (ap (is_expandable_at store) same ∙ flag) e) ∙ keeps.others node e;
@@ -142,12 +133,12 @@ module _ (shapes : Shapes) (store : StoreRead) (order : List Node) (placed : IsO
   pub all_ready : (list : List Node) (kept : Kept) → IsStoreOf shapes store → list ≡ filter (is_expandable_at store) order → ((node : Node) → kept_at kept node ≡ None) → CanExpand shapes store list kept
   all_ready list kept is same none = record {
     store_is = is;
-    list_is = subst (IsExpandableList shapes store) (sym same) (expandable_list shapes store order is placed (is_expandable_at store) (λ a e. e));
+    list_is = subst (IsExpandableList shapes store) (sym same) (expandable_list shapes store order is ordered (is_expandable_at store) (λ a e. e));
     expansions = subst (λ l. KeepsDone shapes store l 0 kept) (sym same) (none_done kept none);
   }
 
   pub affected_ready : (old : Shapes) (flags : List Bool) (list : List Node) (kept : Kept) → IsStoreOf shapes store → ListsAffected old shapes store list
-      → AreListed store flags list → KeepsUnflagged shapes store (flag_at store flags) order kept → CanExpand shapes store list kept
+      → FlagsJustListed store flags list → KeepsUnflagged shapes store (flag_at store flags) order kept → CanExpand shapes store list kept
   affected_ready old flags list kept is lists are keeps = record {
     store_is = is;
     list_is = record {

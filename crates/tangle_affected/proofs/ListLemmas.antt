@@ -13,12 +13,12 @@ use Rattle.tangle_graph.specs.Ordering.{IsOrderIn}
 use Rattle.tangle_graph.specs.Stores.{StoreRead, IsStoreOf, IsNodeIn, flag_at, is_expandable_at, title_in_store}
 use Rattle.tangle_affected.specs.Affected.{ListsAffected}
 use Rattle.tangle_affected.specs.Keeping.{IsExpandableList, ListsExpandable}
-use Rattle.tangle_affected.specs.Flags.{AreFlagged, AreListed, FlagsAffected, is_listed}
+use Rattle.tangle_affected.specs.Flags.{AreFlagged, FlagsJustListed, FlagsAffected, is_expandable_and_flagged}
 use Rattle.tangle_affected.proofs.FilterLemmas.{filter_position, out_of_filter, into_filter}
 use Rattle.tangle_affected.proofs.FlagLemmas.{at_position}
 use Rattle.tangle_affected.proofs.NameLemmas.{node_with_piece}
 
-module _ (shapes : Shapes) (store : StoreRead) (order : List Node) (is : IsStoreOf shapes store) (placed : IsOrderIn store order) where
+module _ (shapes : Shapes) (store : StoreRead) (order : List Node) (is : IsStoreOf shapes store) (ordered : IsOrderIn store order) where
   -- a node of a filter comes after those of the filter that it uses
   filtered_after : (p : Node → Bool) (k : ℕ) (used : Node) → k < length (filter p order) → Contains (filter p order) used
       → UsesTitle shapes (title_in_store store (get_or (filter p order) k Program)) (title_in_store store used) → Contains (take k (filter p order)) used
@@ -27,8 +27,8 @@ module _ (shapes : Shapes) (store : StoreRead) (order : List Node) (is : IsStore
       let there = out_of_filter p order used c in
       let user : UsesTitle shapes (title_in_store store (get_or order position.at Program)) (title_in_store store used) =
       subst (λ a. UsesTitle shapes (title_in_store store a) (title_in_store store used)) (sym position.same) u in
-      let uses = (is.uses (get_or order position.at Program) used (at_position store order placed position.at position.inside)).1 (placed.inside used there.0, user) in
-      let before = placed.after position.at used position.inside uses in
+      let uses = (is.uses (get_or order position.at Program) used (at_position store order ordered position.at position.inside)).1 (ordered.inside used there.0, user) in
+      let before = ordered.after position.at used position.inside uses in
       subst (λ l. Contains l used) (sym position.front) (into_filter p (take position.at order) used before there.1)
 
   pub expandable_list : (p : Node → Bool) → ((a : Node) → p a ≡ true → is_expandable_at store a ≡ true) → IsExpandableList shapes store (filter p order)
@@ -39,10 +39,10 @@ module _ (shapes : Shapes) (store : StoreRead) (order : List Node) (is : IsStore
 
   pub lists_expandable : ListsExpandable store (filter (is_expandable_at store) order)
   lists_expandable = record {
-    once = AllPairs-filter (λ a b. a ≢ b) (is_expandable_at store) order placed.once;
+    once = AllPairs-filter (λ a b. a ≢ b) (is_expandable_at store) order ordered.once;
     just = λ a. (
-      λ c. (let there = out_of_filter (is_expandable_at store) order a c in (placed.inside a there.0, there.1)),
-      λ both. into_filter (is_expandable_at store) order a (placed.expandable a both.0 both.1) both.1,
+      λ c. (let there = out_of_filter (is_expandable_at store) order a c in (ordered.inside a there.0, there.1)),
+      λ both. into_filter (is_expandable_at store) order a (ordered.expandable a both.0 both.1) both.1,
     );
   }
 
@@ -51,37 +51,37 @@ module _ (shapes : Shapes) (store : StoreRead) (order : List Node) (is : IsStore
     is_affected a c flag is_flagged =
         let r = (are a c).0 is_flagged in
         record {
-          expandable = (is.expandable a (placed.inside a c)).0 flag;
+          expandable = (is.expandable a (ordered.inside a c)).0 flag;
           cause = r.0;
           reaches = r.1;
           changed = r.2;
         }
 
-    pub lists_affected : ListsAffected old shapes store (filter (is_listed store flags) order)
+    pub lists_affected : ListsAffected old shapes store (filter (is_expandable_and_flagged store flags) order)
     lists_affected = record {
       all = λ node affected. all node affected;
       only = λ a c. only a c;
-      once = AllPairs-filter (λ a b. a ≢ b) (is_listed store flags) order placed.once;
-      after = λ k used h c u. filtered_after (is_listed store flags) k used h c u;
+      once = AllPairs-filter (λ a b. a ≢ b) (is_expandable_and_flagged store flags) order ordered.once;
+      after = λ k used h c u. filtered_after (is_expandable_and_flagged store flags) k used h c u;
     }
       where
-        all : (node : Title) → IsAffected levels heaviest old shapes node → (a : Node) × (title_in_store store a ≡ node) × Contains (filter (is_listed store flags) order) a
+        all : (node : Title) → IsAffected levels heaviest old shapes node → (a : Node) × (title_in_store store a ≡ node) × Contains (filter (is_expandable_and_flagged store flags) order) a
         all node affected =
             let at = node_with_piece shapes store node is affected.expandable.has_piece in
             let flag = (is.expandable at.0 at.1).1 (subst (IsExpandableNode shapes) (sym at.2) affected.expandable) in
-            let c = placed.expandable at.0 at.1 flag in
+            let c = ordered.expandable at.0 at.1 flag in
             let is_flagged = (are at.0 c).1 (affected.cause, subst (λ t. Reaches shapes t affected.cause) (sym at.2) affected.reaches, affected.changed) in
-            (at.0, at.2, into_filter (is_listed store flags) order at.0 c (and_from (is_expandable_at store at.0) (flag_at store flags at.0) flag is_flagged))
+            (at.0, at.2, into_filter (is_expandable_and_flagged store flags) order at.0 c (and_from (is_expandable_at store at.0) (flag_at store flags at.0) flag is_flagged))
 
-        only : (a : Node) → Contains (filter (is_listed store flags) order) a → IsNodeIn store a × IsAffected levels heaviest old shapes (title_in_store store a)
+        only : (a : Node) → Contains (filter (is_expandable_and_flagged store flags) order) a → IsNodeIn store a × IsAffected levels heaviest old shapes (title_in_store store a)
         only a c =
-            let there = out_of_filter (is_listed store flags) order a c in
+            let there = out_of_filter (is_expandable_and_flagged store flags) order a c in
             let both = and_parts (is_expandable_at store a) (flag_at store flags a) there.1 in
-            (placed.inside a there.0, is_affected a there.0 both.0 both.1)
+            (ordered.inside a there.0, is_affected a there.0 both.0 both.1)
 
 -- where the nodes of such a list are flagged, each affected one is
 pub listed_flagged : (old new : Shapes) (store : StoreRead) (nodes : List Node) (flags : List Bool) → IsStoreOf new store → ListsAffected old new store nodes
-    → AreListed store flags nodes → FlagsAffected old new store flags
+    → FlagsJustListed store flags nodes → FlagsAffected old new store flags
 listed_flagged old new store nodes flags is lists are node inside affected =
     let at = lists.all (title_in_store store node) affected in
     let same : at.0 ≡ node = is.once at.0 node (lists.only at.0 at.2).0 inside at.1 in

@@ -11,7 +11,7 @@ use Rattle.tangle_plans.specs.declared.nodes.Node.{Node}
 use Rattle.tangle_plans.specs.declared.nodes.Node.TheVariants.{Program, Name}
 use Rattle.tangle_graph.specs.Nodes.{title_of_node}
 use Rattle.tangle_graph.specs.Stores.{StoreRead, IsStoreOf, IsNodeIn, title_in_store}
-use Rattle.tangle_graph.proofs.NodeLemmas.{title_inside, named_inside, body_of_named}
+use Rattle.tangle_graph.proofs.NodeLemmas.{title_inside, named_inside, named_injective}
 
 small : (p : ℕ) (b : Bool) (n : ℕ) → p < n → cond b (1 + p) 0 < 1 + n
 small p true n h = omega (arith, h)
@@ -36,7 +36,7 @@ pub name_absent : (names : List (List ℕ)) (text : List ℕ) (other : Node) →
 name_absent names text Program none e = absurd (let both : title.Program ≡ Named text = e in cc)
 name_absent names text (Name id) none e =
     let low = named_inside names id text e in
-    let same = body_of_named text (get_or names id []) (sym e ∙ title_inside names id low) in
+    let same = named_injective text (get_or names id []) (sym e ∙ title_inside names id low) in
     none_found (bytes_eq text) names id [] none low ((bytes_eq-Decides text (get_or names id [])).1 same)
 
 -- a title with a piece is that of a node

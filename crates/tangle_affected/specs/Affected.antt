@@ -8,20 +8,20 @@ use Rattle.tangle_plans.specs.declared.nodes.Node.TheVariants.{Program}
 use Rattle.tangle_graph.specs.Nodes.{UsesTitle}
 use Rattle.tangle_graph.specs.Stores.{StoreRead, IsNodeIn, title_in_store}
 
--- the shapes before an edit and the one after it
+-- the shapes before an edit and after it
 pub record EditedShapes : Type 0 where
   pub old : Shapes
   pub new : Shapes
 
--- Just the affected nodes, as nodes of the new store: each once, and a node after those of the list that it uses. What is affected is said
--- of titles, which both shapes have.
+-- Just the affected nodes, as nodes of the new store: each once, and a node after those of the list that it uses. Titles are affected, which
+-- both shapes have.
 pub record ListsAffected (old new : Shapes) (store : StoreRead) (nodes : List Node) : Type 0 where
-  pub all : (node : Title) → IsAffected levels heaviest old new node → (a : Node) × (title_in_store store a ≡ node) × Contains nodes a
-  pub only : (a : Node) → Contains nodes a → IsNodeIn store a × IsAffected levels heaviest old new (title_in_store store a)
+  pub all : (title : Title) → IsAffected levels heaviest old new title → (node : Node) × (title_in_store store node ≡ title) × Contains nodes node
+  pub only : (node : Node) → Contains nodes node → IsNodeIn store node × IsAffected levels heaviest old new (title_in_store store node)
   pub once : AllPairs (λ a b. a ≢ b) nodes
   pub after : (k : ℕ) (used : Node) → k < length nodes → Contains nodes used
       → UsesTitle new (title_in_store store (slice_index_or nodes k Program)) (title_in_store store used) → Contains (take k nodes) used
 
--- these are listed behind what was listed before
-abbrev pub ListsAffectedBehind : Shapes → Shapes → StoreRead → List Node → List Node → Type 0
-ListsAffectedBehind old new store before after = (nodes : List Node) × (after ≡ before ++ nodes) × ListsAffected old new store nodes
+-- these are listed after what was listed before
+abbrev pub ListsAffectedAfter : Shapes → Shapes → StoreRead → List Node → List Node → Type 0
+ListsAffectedAfter old new store before after = (nodes : List Node) × (after ≡ before ++ nodes) × ListsAffected old new store nodes

@@ -6,22 +6,22 @@ use Rattle.tangle_plans.specs.Shapes.{Title, Shapes, Reaches}
 use Rattle.tangle_plans.specs.declared.nodes.Node.{Node}
 use Rattle.tangle_graph.specs.Stores.{StoreRead, IsNodeIn, flag_at, is_expandable_at, title_in_store}
 
--- the node reaches one whose shape is not the old one
-abbrev pub ReachesChanged : Shapes → Shapes → Title → Type 0
-ReachesChanged old new node = (cause : Title) × Reaches new node cause × (new cause ≢ old cause)
+-- the node with this title reaches one whose shape is not the old one
+abbrev pub ReachesNewShape : Shapes → Shapes → Title → Type 0
+ReachesNewShape old new title = (cause : Title) × Reaches new title cause × (new cause ≢ old cause)
 
--- of these nodes just those are flagged that reach a changed one
+-- of these nodes just those are flagged that reach one with a new shape
 abbrev pub AreFlagged : Shapes → Shapes → StoreRead → List Bool → List Node → Type 0
 AreFlagged old new store flags nodes =
-    (node : Node) → Contains nodes node → ((flag_at store flags node ≡ true) ↔ ReachesChanged old new (title_in_store store node))
+    (node : Node) → Contains nodes node → ((flag_at store flags node ≡ true) ↔ ReachesNewShape old new (title_in_store store node))
 
 -- the node is expandable, and flagged
-abbrev pub is_listed : StoreRead → List Bool → Node → Bool
-is_listed store flags node = is_expandable_at store node && flag_at store flags node
+abbrev pub is_expandable_and_flagged : StoreRead → List Bool → Node → Bool
+is_expandable_and_flagged store flags node = is_expandable_at store node && flag_at store flags node
 
 -- of the store's nodes just those of the list are flagged
-abbrev pub AreListed : StoreRead → List Bool → List Node → Type 0
-AreListed store flags nodes = (node : Node) → IsNodeIn store node → ((flag_at store flags node ≡ true) ↔ Contains nodes node)
+abbrev pub FlagsJustListed : StoreRead → List Bool → List Node → Type 0
+FlagsJustListed store flags nodes = (node : Node) → IsNodeIn store node → ((flag_at store flags node ≡ true) ↔ Contains nodes node)
 
 -- each affected node is flagged
 abbrev pub FlagsAffected : Shapes → Shapes → StoreRead → List Bool → Type 0

@@ -7,7 +7,7 @@ ghost use Rattle.tangle_graph.specs.Ordering.{IsOrderIn};
 ghost use Rattle.tangle_graph.specs.Stores.{IsStoreOf, IsNodeIn, KeepsBodies, flag_at};
 ghost use Rattle.tangle_graph.specs.Stores.{title_in_store};
 ghost use Rattle.tangle_affected.specs.Affected.{ListsAffected};
-ghost use Rattle.tangle_affected.specs.Flags.{AreFlagged, is_listed};
+ghost use Rattle.tangle_affected.specs.Flags.{AreFlagged, is_expandable_and_flagged};
 
 use std::alloc::Global;
 use tangle_graph::{Store, keeps_shape, same_shape};
@@ -20,7 +20,7 @@ use tangle_plans::{Node, PiecesByNode};
 ///
 /// # Errors
 ///
-/// `NoMemory`.
+/// `NoMemory`, where an allocation failed.
 pub fn affected(alloc: Global, old: &Store, new: &Store) -> Result<Vec<Node>, NoMemory>
     ensures { (old_shapes new_shapes : Shapes) → IsStoreOf old_shapes old.now
         → IsStoreOf new_shapes new.now
@@ -29,33 +29,33 @@ pub fn affected(alloc: Global, old: &Store, new: &Store) -> Result<Vec<Node>, No
     affected_over(alloc, old, new, &[])
 }
 
-/// The same nodes, where the flags say which nodes have the bodies of before, and use names as
-/// before. Of these nothing is compared.
+/// The same nodes, where the flags say which nodes have the old body, and use names as before.
+/// Their shapes are not compared.
 pub(crate) fn affected_over(
     alloc: Global,
     old: &Store,
     new: &Store,
-    are_kept: &[bool],
+    are_as_before: &[bool],
 ) -> Result<Vec<Node>, NoMemory>
-    requires kept { KeepsBodies old.now new.now are_kept.now }
+    requires bodies { KeepsBodies old.now new.now are_as_before.now }
     ensures { (old_shapes new_shapes : Shapes) → IsStoreOf old_shapes old.now
         → IsStoreOf new_shapes new.now
         → IfOk result (λ nodes. ListsAffected old_shapes new_shapes new.now nodes.items) }
 {
     let order = new.order();
-    let flags = reaching_changed(alloc, old, new, are_kept, order)?;
+    let flags = reaching_new_shapes(alloc, old, new, are_as_before, order)?;
     listed_nodes(alloc, new, &flags, order)
 }
 
-/// Flags, along the order, the nodes that reach a changed one.
-fn reaching_changed(
+/// Flags, along the order, the nodes that reach one with a new shape.
+fn reaching_new_shapes(
     alloc: Global,
     old: &Store,
     new: &Store,
-    are_kept: &[bool],
+    are_as_before: &[bool],
     order: &[Node],
 ) -> Result<Vec<bool>, NoMemory>
-    requires kept { KeepsBodies old.now new.now are_kept.now }
+    requires bodies { KeepsBodies old.now new.now are_as_before.now }
     requires order { IsOrderIn new.now order.now }
     ensures { (old_shapes new_shapes : Shapes) → IsStoreOf old_shapes old.now
         → IsStoreOf new_shapes new.now
@@ -63,23 +63,24 @@ fn reaching_changed(
 {
     let mut flags = new.no_flags(alloc)?;
     for node in order {
-        let is_flagged = is_changed(old, new, are_kept, *node)
+        let is_flagged = has_new_shape(old, new, are_as_before, *node)
             || any_flagged(new, &flags, new.uses(*node));
         new.set_flag(&mut flags, *node, is_flagged);
     }
     Ok(flags)
 }
 
-/// Whether the shape of the node is not the old one.
-fn is_changed(old: &Store, new: &Store, are_kept: &[bool], node: Node) -> bool
-    requires kept { KeepsBodies old.now new.now are_kept.now }
+/// Whether the shape of the node is not the old one. A node without an old one has a new shape if it
+/// has a piece.
+fn has_new_shape(old: &Store, new: &Store, are_as_before: &[bool], node: Node) -> bool
+    requires bodies { KeepsBodies old.now new.now are_as_before.now }
     requires node { IsNodeIn new.now node }
     ensures { (old_shapes new_shapes : Shapes) → IsStoreOf old_shapes old.now
         → IsStoreOf new_shapes new.now
         → ((result ≡ true) ↔ (new_shapes (title_in_store new.now node) ≢ old_shapes
         (title_in_store new.now node))) }
 {
-    if keeps_shape(old, new, are_kept, node) {
+    if keeps_shape(old, new, are_as_before, node) {
         return false;
     }
     match node_before(old, new, node) {
@@ -130,7 +131,7 @@ fn listed_nodes(
     order: &[Node],
 ) -> Result<Vec<Node>, NoMemory>
     ensures { IfOk result (λ nodes. nodes.items
-        ≡ filter (is_listed store.now flags.now) order.now) }
+        ≡ filter (is_expandable_and_flagged store.now flags.now) order.now) }
 {
     let mut nodes = Vec::new(alloc);
     for node in order {

@@ -8,10 +8,10 @@ ghost use Rattle.tangle_plans.specs.Shapes.{Shapes};
 ghost use Rattle.tangle_graph.specs.Ordering.{IsOrderIn};
 ghost use Rattle.tangle_graph.specs.Stores.{IsStoreOf, IsNodeIn, KeepsBodies, KeepsUsed};
 ghost use Rattle.tangle_graph.specs.Stores.{flag_at, is_expandable_at, title_in_store};
-ghost use Rattle.tangle_affected.specs.Affected.{EditedShapes, ListsAffectedBehind};
-ghost use Rattle.tangle_affected.specs.Keeping.{KeepsJust, KeepsUnflagged, ListsExpandableBehind};
+ghost use Rattle.tangle_affected.specs.Affected.{EditedShapes, ListsAffectedAfter};
+ghost use Rattle.tangle_affected.specs.Keeping.{KeepsJust, KeepsUnflagged, ListsExpandableAfter};
 ghost use Rattle.tangle_affected.specs.Keeping.{IsEditOf, IsUnaffected, CanExpand};
-ghost use Rattle.tangle_affected.specs.Flags.{AreListed, FlagsAffected};
+ghost use Rattle.tangle_affected.specs.Flags.{FlagsJustListed, FlagsAffected};
 
 use crate::edits::{affected_over, node_before};
 use std::alloc::Global;
@@ -25,12 +25,12 @@ use tangle_plans::Node;
 ///
 /// # Errors
 ///
-/// `NoMemory`.
+/// `NoMemory`, where an allocation failed.
 pub fn expand_all(alloc: Global, store: &Store, work: &mut Work) -> Result<Kept, NoMemory>
     requires { (shapes : Shapes) × IsStoreOf shapes store.now }
     ensures kept { (shapes : Shapes) → IsStoreOf shapes store.now
         → IfOk result (λ kept. KeepsJust shapes store.now kept) }
-    ensures work { OnOk result (ListsExpandableBehind store.now work.old work.new) }
+    ensures work { OnOk result (ListsExpandableAfter store.now work.old work.new) }
 {
     let list = expandable_nodes(alloc, store, store.order())?;
     let mut kept = Kept::new(alloc);
@@ -40,27 +40,27 @@ pub fn expand_all(alloc: Global, store: &Store, work: &mut Work) -> Result<Kept,
 
 /// Shares the old expansion of each expandable node that the edit doesn't affect, and expands the
 /// affected ones, each after those that it uses. The affected nodes go last in the work's list. The
-/// flags say which nodes have the bodies of before, and use names as before.
+/// flags say which nodes have the old body, and use names as before.
 ///
 /// # Errors
 ///
-/// `NoMemory`. The old expansions stay as they are.
+/// `NoMemory`, where an allocation failed. The old expansions stay as they are.
 pub fn expand_again(
     alloc: Global,
     old: &Store,
     old_kept: &Kept,
     new: &Store,
-    are_kept: &[bool],
+    are_as_before: &[bool],
     work: &mut Work,
 ) -> Result<Kept, NoMemory>
-    requires bodies { KeepsBodies old.now new.now are_kept.now }
-    requires change { (change : EditedShapes) × IsEditOf old.now new.now old_kept.now change }
-    ensures kept { (change : EditedShapes) → IsEditOf old.now new.now old_kept.now change
-        → IfOk result (λ kept. KeepsJust change.new new.now kept) }
-    ensures work { (change : EditedShapes) → IsEditOf old.now new.now old_kept.now change
-        → OnOk result (ListsAffectedBehind change.old change.new new.now work.old work.new) }
+    requires bodies { KeepsBodies old.now new.now are_as_before.now }
+    requires edit { (shapes : EditedShapes) × IsEditOf old.now new.now old_kept.now shapes }
+    ensures kept { (shapes : EditedShapes) → IsEditOf old.now new.now old_kept.now shapes
+        → IfOk result (λ kept. KeepsJust shapes.new new.now kept) }
+    ensures work { (shapes : EditedShapes) → IsEditOf old.now new.now old_kept.now shapes
+        → OnOk result (ListsAffectedAfter shapes.old shapes.new new.now work.old work.new) }
 {
-    let list = affected_over(alloc, old, new, are_kept)?;
+    let list = affected_over(alloc, old, new, are_as_before)?;
     let flags = flags_of(alloc, new, &list)?;
     let order = new.order();
     let mut kept = Kept::new(alloc);
@@ -85,7 +85,7 @@ fn expandable_nodes(alloc: Global, store: &Store, order: &[Node]) -> Result<Vec<
 /// Flags the nodes of the list.
 fn flags_of(alloc: Global, store: &Store, list: &[Node]) -> Result<Vec<bool>, NoMemory>
     requires { (node : Node) → Contains list.now node → IsNodeIn store.now node }
-    ensures { IfOk result (λ flags. AreListed store.now flags.items list.now) }
+    ensures { IfOk result (λ flags. FlagsJustListed store.now flags.items list.now) }
 {
     let mut flags = store.no_flags(alloc)?;
     for node in list {
@@ -97,11 +97,11 @@ fn flags_of(alloc: Global, store: &Store, list: &[Node]) -> Result<Vec<bool>, No
 /// A share of the old expansion of the node, which is matched by name.
 fn share_old(old: &Store, old_kept: &Kept, new: &Store, node: Node) -> Result<Expansion, NoMemory>
     requires node { IsNodeIn new.now node }
-    requires change { (change : EditedShapes) × IsEditOf old.now new.now old_kept.now change
-        × IsUnaffected new.now change node }
-    ensures { (change : EditedShapes) → IsEditOf old.now new.now old_kept.now change
-        → IsUnaffected new.now change node
-        → IfOk result (λ e. e ≡ flat_of change.new (title_in_store new.now node)) }
+    requires edit { (shapes : EditedShapes) × IsEditOf old.now new.now old_kept.now shapes
+        × IsUnaffected new.now shapes node }
+    ensures { (shapes : EditedShapes) → IsEditOf old.now new.now old_kept.now shapes
+        → IsUnaffected new.now shapes node
+        → IfOk result (λ e. e ≡ flat_of shapes.new (title_in_store new.now node)) }
 {
     unaffected_nodes_stay();
     let before = node_before(old, new, node).unwrap();
@@ -117,12 +117,12 @@ fn keep_share(
     kept: &mut Kept,
 ) -> Result<(), NoMemory>
     requires node { IsNodeIn new.now node }
-    requires change { (change : EditedShapes) × IsEditOf old.now new.now old_kept.now change
-        × IsUnaffected new.now change node }
-    ensures { (change : EditedShapes) → IsEditOf old.now new.now old_kept.now change
-        → IsUnaffected new.now change node
+    requires edit { (shapes : EditedShapes) × IsEditOf old.now new.now old_kept.now shapes
+        × IsUnaffected new.now shapes node }
+    ensures { (shapes : EditedShapes) → IsEditOf old.now new.now old_kept.now shapes
+        → IsUnaffected new.now shapes node
         → OnOk result (PutsKept kept.old kept.new node
-        (flat_of change.new (title_in_store new.now node))) }
+        (flat_of shapes.new (title_in_store new.now node))) }
 {
     let share = share_old(old, old_kept, new, node)?;
     kept.put(node, share)
@@ -138,12 +138,12 @@ fn share_unflagged(
     kept: &mut Kept,
 ) -> Result<(), NoMemory>
     requires order { IsOrderIn new.now order.now }
-    requires change { (change : EditedShapes) × IsEditOf old.now new.now old_kept.now change }
-    requires flags { (change : EditedShapes) → IsEditOf old.now new.now old_kept.now change
-        → FlagsAffected change.old change.new new.now flags.now }
+    requires edit { (shapes : EditedShapes) × IsEditOf old.now new.now old_kept.now shapes }
+    requires flags { (shapes : EditedShapes) → IsEditOf old.now new.now old_kept.now shapes
+        → FlagsAffected shapes.old shapes.new new.now flags.now }
     requires empty { (node : Node) → kept_at kept.old node ≡ None }
-    ensures { (change : EditedShapes) → IsEditOf old.now new.now old_kept.now change
-        → OnOk result (KeepsUnflagged change.new new.now (flag_at new.now flags.now) order.now
+    ensures { (shapes : EditedShapes) → IsEditOf old.now new.now old_kept.now shapes
+        → OnOk result (KeepsUnflagged shapes.new new.now (flag_at new.now flags.now) order.now
         kept.new) }
 {
     for node in order {
@@ -175,7 +175,7 @@ fn expand_next(
     kept.put(node, expansion)
 }
 
-/// Expands the nodes of the list in its order, each over what is kept by then.
+/// Expands the nodes of the list in its order, each with the expansions kept so far.
 fn expand_list(
     alloc: Global,
     store: &Store,

@@ -1,4 +1,4 @@
-//! Laws of what is affected.
+//! A law of what is affected.
 ghost use Rattle.std.specs.Prelude.{◌≡◌, [], List};
 ghost use Rattle.tangle_plans.specs.Shapes.{Title, Shapes};
 ghost use Rattle.tangle_plans.specs.declared.nodes.Node.{Node};
@@ -9,5 +9,6 @@ ghost use Rattle.tangle_affected.specs.Affected.{ListsAffected};
 /// numbers, or change macros alone.
 pub fn alike_shapes_affect_nothing()
     ensures { (old new : Shapes) (store : StoreRead) (nodes : List Node)
-        → ((node : Title) → new node ≡ old node) → ListsAffected old new store nodes → nodes ≡ [] }
+        → ((title : Title) → new title ≡ old title) → ListsAffected old new store nodes
+        → nodes ≡ [] }
 {}

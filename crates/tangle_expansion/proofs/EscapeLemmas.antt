@@ -5,7 +5,9 @@ use Rattle.std.proofs.lemmas.List.{drop_more, drop_all, take_more}
 use Rattle.std.proofs.lemmas.Grind.{flat_map-append}
 use Rattle.bstr.specs.Find.{occurs_at, matches_from, matches}
 use Rattle.bstr.specs.Text.{replaced_at, part}
-use Rattle.tangle_expansion.specs.Numbers.{backslash, quote, escaped_byte, escaped}
+use Rattle.tangle_lines.specs.Bytes.{double_quote}
+use Rattle.tangle_text.specs.Bytes.{backslash}
+use Rattle.tangle_expansion.specs.Numbers.{escaped_byte, escaped}
 
 -- what a byte becomes where others replace the byte c
 abbrev replaced_byte : ℕ → List ℕ → ℕ → List ℕ
@@ -25,7 +27,7 @@ module _ (hay : List ℕ) (c : ℕ) (others : List ℕ) where
   occurs-past : (i : ℕ) → length hay ≤ i → occurs_at hay (c ∷ []) i ≡ false
   occurs-past i past = ap (λ t. t && bytes_eq (take 1 (drop i hay)) (c ∷ [])) (lt-leb (i + 1) (length hay) (omega (arith, past)))
 
-  -- what the bytes from a place on become
+  -- what the bytes from a position on become
   abbrev replaced_from : ℕ → List ℕ
   replaced_from i = flat_map (replaced_byte c others) (drop i hay)
 
@@ -40,17 +42,17 @@ module _ (hay : List ℕ) (c : ℕ) (others : List ℕ) where
   part-more : (last i : ℕ) → last ≤ i → i < length hay → part last (i + 1) hay ≡ part last i hay ++ (get_or hay i 0 ∷ [])
   part-more last i le within =
       let more : i + 1 - last ≡ i - last + 1 = omega (arith, le) in
-      let place : last + (i - last) ≡ i = omega (arith, le) in
+      let at : last + (i - last) ≡ i = omega (arith, le) in
       ap (λ n. take n (drop last hay)) more
       ∙ take_more (drop last hay) (i - last) 0 (omega (arith, length-drop last hay, within, le))
-      ∙ ap (λ b. part last i hay ++ (b ∷ [])) (get_or-drop last hay (i - last) 0 ∙ ap (λ k. get_or hay k 0) place)
+      ∙ ap (λ b. part last i hay ++ (b ∷ [])) (get_or-drop last hay (i - last) 0 ∙ ap (λ k. get_or hay k 0) at)
 
   part-none : (i : ℕ) → part i i hay ≡ []
   part-none i =
       let none : i - i ≡ 0 = omega arith in
       ap (λ n. take n (drop i hay)) none
 
-  -- the bytes from the place `last` on, of which those below i match nothing
+  -- the bytes from the position `last` on, of which those below i match nothing
   replaced_at-is : (n last i : ℕ) → last ≤ i → i + n ≡ length hay + 1
       → replaced_at hay 1 others last (matches_from hay (c ∷ []) 0 i n) ≡ part last i hay ++ replaced_from i
   unfolding replaced_at matches_from
@@ -65,9 +67,9 @@ module _ (hay : List ℕ) (c : ℕ) (others : List ℕ) where
       ⊎_elim
       (λ within. ⊎_elim
       (λ yes.
-      let behind = replaced_at-is n (i + 1) (i + 1) (omega arith) (omega (arith, fit)) ∙ ap (λ p. p ++ replaced_from (i + 1)) (part-none (i + 1)) in
+      let after = replaced_at-is n (i + 1) (i + 1) (omega arith) (omega (arith, fit)) ∙ ap (λ p. p ++ replaced_from (i + 1)) (part-none (i + 1)) in
       found true (occurs-byte i within ∙ yes)
-      ∙ ap (λ l. part last i hay ++ (others ++ l)) behind
+      ∙ ap (λ l. part last i hay ++ (others ++ l)) after
       ∙ ap (λ l. part last i hay ++ l) (sym (this true within yes)))
       (λ no.
       found false (occurs-byte i within ∙ no)
@@ -90,7 +92,7 @@ abbrev with_slashes : ℕ → List ℕ
 with_slashes = replaced_byte backslash (backslash ∷ backslash ∷ [])
 
 abbrev with_quotes : ℕ → List ℕ
-with_quotes = replaced_byte quote (backslash ∷ quote ∷ [])
+with_quotes = replaced_byte double_quote (backslash ∷ double_quote ∷ [])
 
 byte-by_two : (b : ℕ) → flat_map with_quotes (with_slashes b) ≡ escaped_byte b
 byte-by_two b =
@@ -99,12 +101,12 @@ byte-by_two b =
     ⊎_elim
     (λ slash. known backslash slash refl)
     (λ no_slash. ⊎_elim
-    (λ double. known quote double refl)
+    (λ double. known double_quote double refl)
     (λ no_quote.
     ap (λ t. flat_map with_quotes (cond t (backslash ∷ backslash ∷ []) (b ∷ []))) no_slash
-    ∙ ap (λ t. cond t (backslash ∷ quote ∷ []) (b ∷ []) ++ []) no_quote
-    ∙ sym (ap (λ t. cond (t || (b == quote)) (backslash ∷ b ∷ []) (b ∷ [])) no_slash ∙ ap (λ t. cond t (backslash ∷ b ∷ []) (b ∷ [])) no_quote))
-    (cases_Bool (b == quote)))
+    ∙ ap (λ t. cond t (backslash ∷ double_quote ∷ []) (b ∷ []) ++ []) no_quote
+    ∙ sym (ap (λ t. cond (t || (b == double_quote)) (backslash ∷ b ∷ []) (b ∷ [])) no_slash ∙ ap (λ t. cond t (backslash ∷ b ∷ []) (b ∷ [])) no_quote))
+    (cases_Bool (b == double_quote)))
     (cases_Bool (b == backslash))
 
 bytes-by_two : (name : List ℕ) → flat_map with_quotes (flat_map with_slashes name) ≡ escaped name
@@ -115,11 +117,11 @@ bytes-by_two (b ∷ name) =
     ∙ ap (λ l. escaped_byte b ++ l) (bytes-by_two name)
 
 -- backslashes are replaced first: replacing the quotes adds some
-pub escaped-by_two : (name slashed text : List ℕ)
+pub escaped-by_two : (name slashed quoted : List ℕ)
     → slashed ≡ replaced_at name 1 (backslash ∷ backslash ∷ []) 0 (matches name (backslash ∷ []) 0)
-    → text ≡ replaced_at slashed 1 (backslash ∷ quote ∷ []) 0 (matches slashed (quote ∷ []) 0)
-    → text ≡ escaped name
-escaped-by_two name slashed text first second =
-    second ∙ replaced-bytes slashed quote (backslash ∷ quote ∷ [])
+    → quoted ≡ replaced_at slashed 1 (backslash ∷ double_quote ∷ []) 0 (matches slashed (double_quote ∷ []) 0)
+    → quoted ≡ escaped name
+escaped-by_two name slashed quoted first second =
+    second ∙ replaced-bytes slashed double_quote (backslash ∷ double_quote ∷ [])
     ∙ ap (flat_map with_quotes) (first ∙ replaced-bytes name backslash (backslash ∷ backslash ∷ []))
     ∙ bytes-by_two name

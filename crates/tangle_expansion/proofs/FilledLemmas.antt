@@ -11,10 +11,10 @@ use Rattle.tangle_names.specs.declared.Resolved.{Resolved}
 use Rattle.tangle_names.specs.declared.Resolved.TheVariants.{Name, NoFullName, Ambiguous}
 use Rattle.tangle_names.specs.NameTable.{TableRead}
 use Rattle.tangle_plans.specs.Shapes.{Title, IsUseOf, UsesInPiece, UsesInShape, Uses, Named}
-use Rattle.tangle_plans.specs.Flat.{depth, flat, Symbol, Byte, Opening, MarkOf, marks_behind, item_flat, items_flat, pieces_flat}
+use Rattle.tangle_plans.specs.Flat.{depth, flat, Symbol, Byte, Opening, MarkOf, marks_after_shape_item, item_flat, items_flat, pieces_flat}
 use Rattle.tangle_plans.specs.WebShapes.{shapes, pieces_of, resolved_at, use_of, shape_item, IsNameBelow, ResolvesInside}
 use Rattle.tangle_plans.specs.Slots.{Own, Used, filled_slot, filled}
-use Rattle.tangle_plans.specs.ItemSlots.{marks_behind_item, name_slots, item_slots, items_slots, pieces_slots}
+use Rattle.tangle_plans.specs.ItemSlots.{marks_after_item, name_slots, item_slots, items_slots, pieces_slots}
 use Rattle.tangle_expansion.proofs.UseLemmas.{bytes_filled}
 use Rattle.tangle_expansion.proofs.SameShapes.{flat_by_uses}
 
@@ -47,12 +47,12 @@ module _ (texts : List (List ℕ)) (table : TableRead) (has_piece : ℕ → Bool
   item_filled piece marks (item.UseOf occurrence) fit = name_filled piece marks (resolved_at table occurrence) (inside occurrence) fit
   item_filled piece marks item.Defs fit = refl
 
-  name_marks : (marks : ℕ) (r : Resolved) → marks_behind marks (use_of table r) ≡ marks
+  name_marks : (marks : ℕ) (r : Resolved) → marks_after_shape_item marks (use_of table r) ≡ marks
   name_marks marks (Name id) = refl
   name_marks marks NoFullName = refl
   name_marks marks Ambiguous = refl
 
-  item_marks : (marks : ℕ) (x : Item) → marks_behind_item marks x ≡ marks_behind marks (shape_item texts table x)
+  item_marks : (marks : ℕ) (x : Item) → marks_after_item marks x ≡ marks_after_shape_item marks (shape_item texts table x)
   item_marks marks (item.Word span) = refl
   item_marks marks (item.Sign span) = refl
   item_marks marks (item.Quoted span) = refl
@@ -69,9 +69,9 @@ module _ (texts : List (List ℕ)) (table : TableRead) (has_piece : ℕ → Bool
       → filled symbols (items_slots texts table has_piece node piece marks items) ≡ items_flat used node piece marks (map (shape_item texts table) items)
   items_filled piece marks [] fit = refl
   items_filled piece marks (x ∷ items) fit =
-      flat_map-append (filled_slot symbols) (item_slots texts table has_piece node piece marks x) (items_slots texts table has_piece node piece (marks_behind_item marks x) items)
-      ∙ ap (λ l. l ++ filled symbols (items_slots texts table has_piece node piece (marks_behind_item marks x) items)) (item_filled piece marks x (λ id low u. fit id low (inl u)))
-      ∙ ap (λ l. item_flat used node piece marks (shape_item texts table x) ++ l) (items_filled piece (marks_behind_item marks x) items (λ id low u. fit id low (inr u)))
+      flat_map-append (filled_slot symbols) (item_slots texts table has_piece node piece marks x) (items_slots texts table has_piece node piece (marks_after_item marks x) items)
+      ∙ ap (λ l. l ++ filled symbols (items_slots texts table has_piece node piece (marks_after_item marks x) items)) (item_filled piece marks x (λ id low u. fit id low (inl u)))
+      ∙ ap (λ l. item_flat used node piece marks (shape_item texts table x) ++ l) (items_filled piece (marks_after_item marks x) items (λ id low u. fit id low (inr u)))
       ∙ ap (λ m. item_flat used node piece marks (shape_item texts table x) ++ items_flat used node piece m (map (shape_item texts table) items)) (item_marks marks x)
 
   pub pieces_filled : (piece : ℕ) (pieces : List PieceRead)

@@ -1,15 +1,15 @@
 mod WorkedWebs
 mod Weights
-mod Forgetting
+mod WithoutClasses
 pub mod LineTruth
 pub mod NumberLemmas
-pub mod KeptLemmas
-pub mod GapLemmas
+pub mod LookupLemmas
+pub mod EndBlankLemmas
 mod EscapeLemmas
 pub mod FileLemmas
 pub mod BuildLemmas
-pub mod PutLemmas
-pub mod TextLemmas
+pub mod WriteLemmas
+pub mod WrittenLemmas
 pub mod ShortLemmas
 pub mod PlanLemmas
 pub mod UseLemmas

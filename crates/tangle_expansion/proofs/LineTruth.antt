@@ -1,9 +1,9 @@
--- Each byte of a text is at its own origin, over a whole output.
+-- Each byte of an item is at its own origin, over a whole output.
 use Rattle.std.proofs.Common.{◌≡◌, ◌∙◌, ℕ, ◌+◌, zero, suc, Bool, true, false, List, [], ◌∷◌, ◌++◌, map, drop, get_or, Option, None, Some, refl, ap, subst, arith}
 use Rattle.std.specs.Prelude.{filter, flat_map, if◌then◌else◌, slice_index_or}
 use Rattle.std.specs.List.{AllZip}
 use Rattle.tangle_faults.specs.declared.faults.Origin.{Origin}
-use Rattle.tangle_lines.specs.Reading.{Line, SourceRead, origin_at}
+use Rattle.tangle_lines.specs.Reading.{SourceLine, SourceRead, origin_at}
 use Rattle.tangle_scan.specs.declared.items.Item.{Item}
 use Rattle.tangle_scan.specs.declared.items.Item.TheVariants as item
 use Rattle.tangle_scan.specs.LineTruth.{with_line_end, counted_items, Location, IsOwn, IsAtItsLine, piece_locations, PiecesAreAtTheirLines}
@@ -12,11 +12,11 @@ use Rattle.tangle_names.specs.declared.Resolved.{Resolved}
 use Rattle.tangle_names.specs.declared.Resolved.TheVariants.{Name, NoFullName, Ambiguous}
 use Rattle.tangle_names.specs.NameTable.{TableRead}
 use Rattle.tangle_plans.specs.Shapes.{Title, Named}
-use Rattle.tangle_plans.specs.Flat.{Byte, marks_behind}
+use Rattle.tangle_plans.specs.Flat.{Byte, marks_after_shape_item}
 use Rattle.tangle_plans.specs.WebShapes.{is_piece_of, use_of, resolved_at, ResolvesInside}
 use Rattle.tangle_expansion.proofs.NumberLemmas.{node_numbers_of}
-use Rattle.tangle_expansion.specs.Numbers.{NumbersRead, PieceNumbersRead, no_origin, no_numbers, numbers_of, node_numbers, numbers_at, origin_of_mark, piece_numbers, item_origins}
-use Rattle.tangle_expansion.specs.Location.{Own, Other, LocatedItem, LocatedSymbol, origin_behind, AreAtTheirOrigins, located_items, located_pieces, located_shapes, located_item, items_located, pieces_located, located}
+use Rattle.tangle_expansion.specs.Numbers.{NumbersRead, PieceNumbersRead, no_origin, no_numbers, numbers_of, node_numbers, numbers_at, origin_of_mark, numbers_of_piece, item_origins}
+use Rattle.tangle_expansion.specs.Location.{OfItem, Other, LocatedItem, LocatedSymbol, origin_after, AreAtTheirOrigins, located_items, located_pieces, located_shapes, located_item, items_located, pieces_located, located}
 use Rattle.tangle_files.specs.declared.marks.MarkMode.TheVariants.{Full}
 
 -- where the first origin is known, the second is the same
@@ -35,19 +35,19 @@ module _ (numbers : NumbersRead) where
   pub located-append : (q : Option Origin) (xs ys : List LocatedSymbol) → AreAtTheirOrigins numbers q xs
       → ((r : Option Origin) → AreAtTheirOrigins numbers r ys) → AreAtTheirOrigins numbers q (xs ++ ys)
   located-append q [] ys h k = k q
-  located-append q (x ∷ xs) ys h k = (h.0, located-append (origin_behind numbers q x.symbol x.role) xs ys h.1 k)
+  located-append q (x ∷ xs) ys h k = (h.0, located-append (origin_after numbers q x.symbol x.class) xs ys h.1 k)
 
-  text_is_located : (q : Option Origin) (origin : Origin) (in_stretch : Bool) (bytes : List ℕ) (ys : List LocatedSymbol)
+  bytes_are_located : (q : Option Origin) (origin : Origin) (in_stretch : Bool) (bytes : List ℕ) (ys : List LocatedSymbol)
       → (in_stretch ≡ false → q ≡ Some origin) → AreAtTheirOrigins numbers q ys
-      → AreAtTheirOrigins numbers q (map (λ b. record { symbol = Byte b; role = Own origin in_stretch }) bytes ++ ys)
-  text_is_located q origin in_stretch [] ys own h = h
-  text_is_located q origin in_stretch (b ∷ bytes) ys own h = (own, text_is_located q origin in_stretch bytes ys own h)
+      → AreAtTheirOrigins numbers q (map (λ b. record { symbol = Byte b; class = OfItem origin in_stretch }) bytes ++ ys)
+  bytes_are_located q origin in_stretch [] ys own h = h
+  bytes_are_located q origin in_stretch (b ∷ bytes) ys own h = (own, bytes_are_located q origin in_stretch bytes ys own h)
 
   use_is_located : (table : TableRead) (used : List ℕ → List LocatedSymbol) (node : Title) (piece marks : ℕ) (items : List LocatedItem)
       → ((name : List ℕ) (q : Option Origin) → AreAtTheirOrigins numbers q (used name))
       → ((q : Option Origin) → AreAtTheirOrigins numbers q (items_located used node piece marks items))
       → (q : Option Origin) (r : Resolved)
-      → AreAtTheirOrigins numbers q (located_item used node piece marks Other (use_of table r) ++ items_located used node piece (marks_behind marks (use_of table r)) items)
+      → AreAtTheirOrigins numbers q (located_item used node piece marks Other (use_of table r) ++ items_located used node piece (marks_after_shape_item marks (use_of table r)) items)
   use_is_located table used node piece marks items all h q (Name id) =
       (tt, located-append q (used (slice_index_or table.names id [])) (items_located used node piece marks items) (all (slice_index_or table.names id []) q) h)
   use_is_located table used node piece marks items all h q NoFullName = (tt, h q)
@@ -72,32 +72,32 @@ next_numbers (n ∷ numbers) (suc k) first rest e =
     let more : suc k + 1 ≡ suc (k + 1) = omega arith in
     (next.0, ap (λ j. drop j (n ∷ numbers)) more ∙ next.1)
 
-module _ (numbers : NumbersRead) (full : numbers.marks ≡ Full) (texts : List (List ℕ)) (table : TableRead) (lines : List Line)
+module _ (numbers : NumbersRead) (full : numbers.marks ≡ Full) (texts : List (List ℕ)) (table : TableRead) (lines : List SourceLine)
     (used : List ℕ → List LocatedSymbol) (all : (name : List ℕ) (q : Option Origin) → AreAtTheirOrigins numbers q (used name)) where
   items_are_located : (node : Title) (piece marks : ℕ) (p q : Option Origin) → Agrees p q → (items : List Item) (ss : List Location)
-      → drop (marks + 1) (numbers_at numbers node piece).marks ≡ flat_map item_origins items
+      → drop (marks + 1) (numbers_at numbers node piece).origins ≡ flat_map item_origins items
       → AllZip (IsOwn lines) (counted_items p items) ss
       → AreAtTheirOrigins numbers q (items_located used node piece marks (located_items texts table lines ss items))
   items_are_located node piece marks p q agrees [] ss origins own = (tt, tt)
   items_are_located node piece marks p q agrees (item.Word span ∷ items) [] origins own = elim own [ ]
   items_are_located node piece marks p q agrees (item.Word span ∷ items) (s ∷ ss) origins own =
-      text_is_located numbers q (origin_at lines s.line) s.in_stretch _ _ (λ out. Agrees-at p q _ agrees (own.0.origin out))
+      bytes_are_located numbers q (origin_at lines s.line) s.in_stretch _ _ (λ out. Agrees-at p q _ agrees (own.0.origin out))
       (items_are_located node piece marks p q agrees items ss origins own.1)
   items_are_located node piece marks p q agrees (item.Sign span ∷ items) [] origins own = elim own [ ]
   items_are_located node piece marks p q agrees (item.Sign span ∷ items) (s ∷ ss) origins own =
-      text_is_located numbers q (origin_at lines s.line) s.in_stretch _ _ (λ out. Agrees-at p q _ agrees (own.0.origin out))
+      bytes_are_located numbers q (origin_at lines s.line) s.in_stretch _ _ (λ out. Agrees-at p q _ agrees (own.0.origin out))
       (items_are_located node piece marks p q agrees items ss origins own.1)
   items_are_located node piece marks p q agrees (item.Quoted span ∷ items) [] origins own = elim own [ ]
   items_are_located node piece marks p q agrees (item.Quoted span ∷ items) (s ∷ ss) origins own =
-      text_is_located numbers q (origin_at lines s.line) s.in_stretch _ _ (λ out. Agrees-at p q _ agrees (own.0.origin out))
+      bytes_are_located numbers q (origin_at lines s.line) s.in_stretch _ _ (λ out. Agrees-at p q _ agrees (own.0.origin out))
       (items_are_located node piece marks p q agrees items ss origins own.1)
   items_are_located node piece marks p q agrees (item.Verbatim span ∷ items) [] origins own = elim own [ ]
   items_are_located node piece marks p q agrees (item.Verbatim span ∷ items) (s ∷ ss) origins own =
-      text_is_located numbers q (origin_at lines s.line) s.in_stretch _ _ (λ out. Agrees-at p q _ agrees (own.0.origin out))
+      bytes_are_located numbers q (origin_at lines s.line) s.in_stretch _ _ (λ out. Agrees-at p q _ agrees (own.0.origin out))
       (items_are_located node piece marks p q agrees items ss origins own.1)
   items_are_located node piece marks p q agrees (item.Code value ∷ items) [] origins own = elim own [ ]
   items_are_located node piece marks p q agrees (item.Code value ∷ items) (s ∷ ss) origins own =
-      text_is_located numbers q (origin_at lines s.line) s.in_stretch _ _ (λ out. Agrees-at p q _ agrees (own.0.origin out))
+      bytes_are_located numbers q (origin_at lines s.line) s.in_stretch _ _ (λ out. Agrees-at p q _ agrees (own.0.origin out))
       (items_are_located node piece marks p q agrees items ss origins own.1)
   items_are_located node piece marks p q agrees (item.QuoteBreak ∷ items) ss origins own =
       (tt, items_are_located node piece marks (with_line_end p) (with_line_end q) (Agrees-line_end p q agrees) items ss origins own)
@@ -106,7 +106,7 @@ module _ (numbers : NumbersRead) (full : numbers.marks ≡ Full) (texts : List (
   items_are_located node piece marks p q agrees (item.Blank ∷ items) ss origins own =
       (tt, items_are_located node piece marks p q agrees items ss origins own)
   items_are_located node piece marks p q agrees (item.LineMark origin ∷ items) ss origins own =
-      let next = next_mark (numbers_at numbers node piece).marks (marks + 1) origin (flat_map item_origins items) origins in
+      let next = next_mark (numbers_at numbers node piece).origins (marks + 1) origin (flat_map item_origins items) origins in
       rw full (tt, items_are_located node piece (marks + 1) (Some origin) (Some (origin_of_mark numbers node piece (marks + 1))) (ap Some next.0) items ss next.1 own)
   items_are_located node piece marks p q agrees (item.UseOf occurrence ∷ items) ss origins own =
       use_is_located numbers table used node piece marks (located_items texts table lines ss items) all
@@ -115,24 +115,24 @@ module _ (numbers : NumbersRead) (full : numbers.marks ≡ Full) (texts : List (
       (tt, items_are_located node piece marks None None tt items ss origins own)
 
   -- the pieces of a node, from the one on that has this number among them
-  pieces_are_located : (node : Title) (piece : ℕ) (pieces : List PieceRead) (text_lines : List (List Location))
-      → drop piece (node_numbers numbers node) ≡ map piece_numbers (filter (is_piece_of table node) pieces)
-      → AllZip (λ p e. IsAtItsLine lines p.origin p.items e) pieces text_lines
-      → (q : Option Origin) → AreAtTheirOrigins numbers q (pieces_located used node piece (located_pieces texts table lines node pieces text_lines))
-  pieces_are_located node piece [] text_lines origins own q = tt
+  pieces_are_located : (node : Title) (piece : ℕ) (pieces : List PieceRead) (locations : List (List Location))
+      → drop piece (node_numbers numbers node) ≡ map numbers_of_piece (filter (is_piece_of table node) pieces)
+      → AllZip (λ p e. IsAtItsLine lines p.origin p.items e) pieces locations
+      → (q : Option Origin) → AreAtTheirOrigins numbers q (pieces_located used node piece (located_pieces texts table lines node pieces locations))
+  pieces_are_located node piece [] locations origins own q = tt
   pieces_are_located node piece (p ∷ pieces) [] origins own q = elim own [ ]
-  pieces_are_located node piece (p ∷ pieces) (e ∷ text_lines) origins own q =
-      by (is_piece_of table node p) origins (λ n h r. pieces_are_located node n pieces text_lines h own.1 r)
+  pieces_are_located node piece (p ∷ pieces) (e ∷ locations) origins own q =
+      by (is_piece_of table node p) origins (λ n h r. pieces_are_located node n pieces locations h own.1 r)
     where
-      by : (t : Bool) → drop piece (node_numbers numbers node) ≡ map piece_numbers (if t then p ∷ filter (is_piece_of table node) pieces else filter (is_piece_of table node) pieces)
-          → ((n : ℕ) → drop n (node_numbers numbers node) ≡ map piece_numbers (filter (is_piece_of table node) pieces)
-          → (r : Option Origin) → AreAtTheirOrigins numbers r (pieces_located used node n (located_pieces texts table lines node pieces text_lines)))
+      by : (t : Bool) → drop piece (node_numbers numbers node) ≡ map numbers_of_piece (if t then p ∷ filter (is_piece_of table node) pieces else filter (is_piece_of table node) pieces)
+          → ((n : ℕ) → drop n (node_numbers numbers node) ≡ map numbers_of_piece (filter (is_piece_of table node) pieces)
+          → (r : Option Origin) → AreAtTheirOrigins numbers r (pieces_located used node n (located_pieces texts table lines node pieces locations)))
           → AreAtTheirOrigins numbers q (pieces_located used node piece
-          (if t then located_items texts table lines e p.items ∷ located_pieces texts table lines node pieces text_lines else located_pieces texts table lines node pieces text_lines))
+          (if t then located_items texts table lines e p.items ∷ located_pieces texts table lines node pieces locations else located_pieces texts table lines node pieces locations))
       by true is more =
-          let next = next_numbers (node_numbers numbers node) piece (piece_numbers p) (map piece_numbers (filter (is_piece_of table node) pieces)) is in
-          let mark : origin_of_mark numbers node piece 0 ≡ p.origin = ap (λ n. get_or n.marks 0 no_origin) next.0 in
-          let marks : drop (0 + 1) (numbers_at numbers node piece).marks ≡ flat_map item_origins p.items = ap (λ n. drop 1 n.marks) next.0 in rw full (
+          let next = next_numbers (node_numbers numbers node) piece (numbers_of_piece p) (map numbers_of_piece (filter (is_piece_of table node) pieces)) is in
+          let mark : origin_of_mark numbers node piece 0 ≡ p.origin = ap (λ n. get_or n.origins 0 no_origin) next.0 in
+          let marks : drop (0 + 1) (numbers_at numbers node piece).origins ≡ flat_map item_origins p.items = ap (λ n. drop 1 n.origins) next.0 in rw full (
             tt,
             (
               tt,

@@ -11,8 +11,8 @@ use Rattle.tangle_names.specs.declared.Resolved.{Resolved}
 use Rattle.tangle_names.specs.declared.Resolved.TheVariants.{Name, NoFullName, Ambiguous}
 use Rattle.tangle_names.specs.NameTable.{TableRead}
 use Rattle.tangle_plans.specs.Shapes.{Title, Program, Named}
-use Rattle.tangle_plans.specs.WebShapes.{is_node, node_of, node_of_name, is_piece_of, pieces_of, resolved_at, IsNameBelow, ResolvesInside}
-use Rattle.tangle_expansion.specs.Numbers.{piece_numbers, numbers_of, node_numbers}
+use Rattle.tangle_plans.specs.WebShapes.{is_node, node_of, node_of_occurrence, is_piece_of, pieces_of, resolved_at, IsNameBelow, ResolvesInside}
+use Rattle.tangle_expansion.specs.Numbers.{numbers_of_piece, numbers_of, node_numbers}
 use Rattle.tangle_files.specs.declared.marks.MarkMode.{MarkMode}
 
 module _ {A : Type 0} (f : List ℕ → A) (name : List ℕ) where
@@ -46,7 +46,7 @@ module _ (table : TableRead) (name : List ℕ) (none : list_any (bytes_eq name) 
   no_node NoFullName h = refl
   no_node Ambiguous h = refl
 
-  no_piece : ResolvesInside table → (o : Option ℕ) → is_node table (Named name) (node_of_name table o) ≡ false
+  no_piece : ResolvesInside table → (o : Option ℕ) → is_node table (Named name) (node_of_occurrence table o) ≡ false
   no_piece inside None = refl
   no_piece inside (Some occurrence) = no_node (resolved_at table occurrence) (inside occurrence)
 
@@ -57,14 +57,14 @@ module _ (table : TableRead) (name : List ℕ) (none : list_any (bytes_eq name) 
       ∙ no_pieces inside pieces
 
 pub node_numbers_of : (web : WebRead) (table : TableRead) (marks : MarkMode) → ResolvesInside table → (node : Title)
-    → node_numbers (numbers_of web table marks) node ≡ map piece_numbers (pieces_of web table node)
+    → node_numbers (numbers_of web table marks) node ≡ map numbers_of_piece (pieces_of web table node)
 node_numbers_of web table marks inside Program = refl
 node_numbers_of web table marks inside (Named name) = by (list_any (bytes_eq name) table.names) refl
   where
     by : (t : Bool) → list_any (bytes_eq name) table.names ≡ t
-        → unwrap_or (lookup (bytes_eq name) (map (λ name. (name, map piece_numbers (pieces_of web table (Named name)))) table.names)) []
-        ≡ map piece_numbers (pieces_of web table (Named name))
-    by true e = ap (λ o. unwrap_or o []) (lookup_found (λ name. map piece_numbers (pieces_of web table (Named name))) name table.names e)
+        → unwrap_or (lookup (bytes_eq name) (map (λ name. (name, map numbers_of_piece (pieces_of web table (Named name)))) table.names)) []
+        ≡ map numbers_of_piece (pieces_of web table (Named name))
+    by true e = ap (λ o. unwrap_or o []) (lookup_found (λ name. map numbers_of_piece (pieces_of web table (Named name))) name table.names e)
     by false e =
-        ap (λ o. unwrap_or o []) (lookup_none (λ name. map piece_numbers (pieces_of web table (Named name))) name table.names e)
-        ∙ ap (map piece_numbers) (sym (no_pieces table name e inside web.pieces))
+        ap (λ o. unwrap_or o []) (lookup_none (λ name. map numbers_of_piece (pieces_of web table (Named name))) name table.names e)
+        ∙ ap (map numbers_of_piece) (sym (no_pieces table name e inside web.pieces))

@@ -4,39 +4,39 @@ use Rattle.std.specs.Prelude.{if◌then◌else◌}
 use Rattle.tangle_plans.specs.Shapes.{Title}
 use Rattle.tangle_files.specs.Bytes.{space}
 use Rattle.tangle_plans.specs.Flat.{Symbol, Byte, Opening, MarkOf, Closing, AllMacros}
-use Rattle.tangle_expansion.specs.Numbers.{NumbersRead, text}
-use Rattle.tangle_plans.specs.Meaning.{bytes_between, plan_flat, is_use, pieces_passed, marks_passed, bytes_passed, own_symbols, before_use, Rest, behind_use}
+use Rattle.tangle_expansion.specs.Numbers.{NumbersRead, expansion_bytes}
+use Rattle.tangle_plans.specs.Meaning.{bytes_between, plan_flat, is_use_step, pieces_after_step, marks_after_step, bytes_after_step, own_symbols, before_use, PlanCursor, after_use}
 use Rattle.tangle_plans.specs.declared.steps.Step.{Step}
 use Rattle.tangle_plans.specs.declared.steps.Step.TheVariants as step
-use Rattle.tangle_expansion.proofs.TextLemmas.{text-append}
+use Rattle.tangle_expansion.proofs.WrittenLemmas.{written-append}
 use Rattle.tangle_plans.proofs.DropLemmas.{drop_at, drop_all}
 
 -- a step that is no use
 pub record GoesOn (numbers : NumbersRead) (node : Title) (bytes : List ℕ) (plan : List Step) (piece marks start i : ℕ) (s : Step) (piece' marks' start' i' : ℕ) : Type 0 where
-  pub left : text numbers (before_use node bytes piece marks start (drop i plan))
-      ≡ text numbers (own_symbols node bytes piece marks start s) ++ text numbers (before_use node bytes piece' marks' start' (drop i' plan))
-  pub rest : behind_use piece marks start (drop i plan) ≡ behind_use piece' marks' start' (drop i' plan)
+  pub left : expansion_bytes numbers (before_use node bytes piece marks start (drop i plan))
+      ≡ expansion_bytes numbers (own_symbols node bytes piece marks start s) ++ expansion_bytes numbers (before_use node bytes piece' marks' start' (drop i' plan))
+  pub rest : after_use piece marks start (drop i plan) ≡ after_use piece' marks' start' (drop i' plan)
 
 pub goes_on : (numbers : NumbersRead) (node : Title) (bytes : List ℕ) (plan : List Step) (piece marks start i : ℕ) (s : Step) (piece' marks' start' i' : ℕ)
-    → i < length plan → s ≡ get_or plan i s → is_use s ≡ false
-    → i' ≡ i + 1 → piece' ≡ pieces_passed piece s → marks' ≡ marks_passed marks s → start' ≡ bytes_passed start s
+    → i < length plan → s ≡ get_or plan i s → is_use_step s ≡ false
+    → i' ≡ i + 1 → piece' ≡ pieces_after_step piece s → marks' ≡ marks_after_step marks s → start' ≡ bytes_after_step start s
     → GoesOn numbers node bytes plan piece marks start i s piece' marks' start' i'
 goes_on numbers node bytes plan piece marks start i s piece' marks' start' i' h is own ei ep em es =
     let at : drop i plan ≡ s ∷ drop (i + 1) plan = drop_at plan i s h is in
     let symbols : before_use node bytes piece marks start (drop i plan)
-    ≡ own_symbols node bytes piece marks start s ++ before_use node bytes (pieces_passed piece s) (marks_passed marks s) (bytes_passed start s) (drop (i + 1) plan)
+    ≡ own_symbols node bytes piece marks start s ++ before_use node bytes (pieces_after_step piece s) (marks_after_step marks s) (bytes_after_step start s) (drop (i + 1) plan)
     = ap (before_use node bytes piece marks start) at
-    ∙ ap (λ t. if t then [] else own_symbols node bytes piece marks start s ++ before_use node bytes (pieces_passed piece s) (marks_passed marks s) (bytes_passed start s) (drop (i + 1) plan)) own in
-    let behind : behind_use piece marks start (drop i plan) ≡ behind_use (pieces_passed piece s) (marks_passed marks s) (bytes_passed start s) (drop (i + 1) plan)
-    = ap (behind_use piece marks start) at
-    ∙ ap (λ t. if t then record { piece = piece; marks = marks; start = start; plan = drop (i + 1) plan } else behind_use (pieces_passed piece s) (marks_passed marks s) (bytes_passed start s) (drop (i + 1) plan)) own in
+    ∙ ap (λ t. if t then [] else own_symbols node bytes piece marks start s ++ before_use node bytes (pieces_after_step piece s) (marks_after_step marks s) (bytes_after_step start s) (drop (i + 1) plan)) own in
+    let after : after_use piece marks start (drop i plan) ≡ after_use (pieces_after_step piece s) (marks_after_step marks s) (bytes_after_step start s) (drop (i + 1) plan)
+    = ap (after_use piece marks start) at
+    ∙ ap (λ t. if t then record { piece = piece; marks = marks; start = start; plan = drop (i + 1) plan } else after_use (pieces_after_step piece s) (marks_after_step marks s) (bytes_after_step start s) (drop (i + 1) plan)) own in
     rw (ei, ep, em, es) (record {
-      left = ap (text numbers) symbols ∙ text-append numbers (own_symbols node bytes piece marks start s) (before_use node bytes (pieces_passed piece s) (marks_passed marks s) (bytes_passed start s) (drop (i + 1) plan));
-      rest = behind;
+      left = ap (expansion_bytes numbers) symbols ∙ written-append numbers (own_symbols node bytes piece marks start s) (before_use node bytes (pieces_after_step piece s) (marks_after_step marks s) (bytes_after_step start s) (drop (i + 1) plan));
+      rest = after;
     })
 
 -- a use
-stays : (piece marks start : ℕ) (s : Step) → is_use s ≡ true → (pieces_passed piece s ≡ piece) × (marks_passed marks s ≡ marks) × (bytes_passed start s ≡ start)
+stays : (piece marks start : ℕ) (s : Step) → is_use_step s ≡ true → (pieces_after_step piece s ≡ piece) × (marks_after_step marks s ≡ marks) × (bytes_after_step start s ≡ start)
 stays piece marks start (step.Use id) e = (refl, refl, refl)
 stays piece marks start step.Open e = absurd (cc)
 stays piece marks start (step.Run end) e = absurd (cc)
@@ -46,21 +46,21 @@ stays piece marks start step.Space e = absurd (cc)
 stays piece marks start step.Close e = absurd (cc)
 
 pub record StopsAtUse (numbers : NumbersRead) (node : Title) (bytes : List ℕ) (plan : List Step) (piece marks start i piece' marks' start' i' : ℕ) : Type 0 where
-  pub left : text numbers (before_use node bytes piece marks start (drop i plan)) ≡ []
-  pub rest : behind_use piece marks start (drop i plan) ≡ record { piece = piece'; marks = marks'; start = start'; plan = drop i' plan }
+  pub left : expansion_bytes numbers (before_use node bytes piece marks start (drop i plan)) ≡ []
+  pub rest : after_use piece marks start (drop i plan) ≡ record { piece = piece'; marks = marks'; start = start'; plan = drop i' plan }
 
 pub stops_at_use : (numbers : NumbersRead) (node : Title) (bytes : List ℕ) (plan : List Step) (piece marks start i : ℕ) (s : Step) (piece' marks' start' i' : ℕ)
-    → i < length plan → s ≡ get_or plan i s → is_use s ≡ true
-    → i' ≡ i + 1 → piece' ≡ pieces_passed piece s → marks' ≡ marks_passed marks s → start' ≡ bytes_passed start s
+    → i < length plan → s ≡ get_or plan i s → is_use_step s ≡ true
+    → i' ≡ i + 1 → piece' ≡ pieces_after_step piece s → marks' ≡ marks_after_step marks s → start' ≡ bytes_after_step start s
     → StopsAtUse numbers node bytes plan piece marks start i piece' marks' start' i'
 stops_at_use numbers node bytes plan piece marks start i s piece' marks' start' i' h is used ei ep em es =
     let at : drop i plan ≡ s ∷ drop (i + 1) plan = drop_at plan i s h is in
     let same = stays piece marks start s used in
     rw (ei, ep ∙ same.0, em ∙ same.1, es ∙ same.2) (record {
-      left = ap (λ l. text numbers (before_use node bytes piece marks start l)) at
-          ∙ ap (λ t. text numbers (if t then [] else own_symbols node bytes piece marks start s ++ before_use node bytes (pieces_passed piece s) (marks_passed marks s) (bytes_passed start s) (drop (i + 1) plan))) used;
-      rest = ap (behind_use piece marks start) at
-          ∙ ap (λ t. if t then record { piece = piece; marks = marks; start = start; plan = drop (i + 1) plan } else behind_use (pieces_passed piece s) (marks_passed marks s) (bytes_passed start s) (drop (i + 1) plan)) used;
+      left = ap (λ l. expansion_bytes numbers (before_use node bytes piece marks start l)) at
+          ∙ ap (λ t. expansion_bytes numbers (if t then [] else own_symbols node bytes piece marks start s ++ before_use node bytes (pieces_after_step piece s) (marks_after_step marks s) (bytes_after_step start s) (drop (i + 1) plan))) used;
+      rest = ap (after_use piece marks start) at
+          ∙ ap (λ t. if t then record { piece = piece; marks = marks; start = start; plan = drop (i + 1) plan } else after_use (pieces_after_step piece s) (marks_after_step marks s) (bytes_after_step start s) (drop (i + 1) plan)) used;
     })
 
 pub stops_at_end : (numbers : NumbersRead) (node : Title) (bytes : List ℕ) (plan : List Step) (piece marks start i : ℕ) → length plan ≤ i
@@ -68,8 +68,8 @@ pub stops_at_end : (numbers : NumbersRead) (node : Title) (bytes : List ℕ) (pl
 stops_at_end numbers node bytes plan piece marks start i h =
     let none = drop_all plan i h in
     record {
-      left = ap (λ l. text numbers (before_use node bytes piece marks start l)) none;
-      rest = ap (behind_use piece marks start) none ∙ ap (λ l. record { piece = piece; marks = marks; start = start; plan = l }) (sym none);
+      left = ap (λ l. expansion_bytes numbers (before_use node bytes piece marks start l)) none;
+      rest = ap (after_use piece marks start) none ∙ ap (λ l. record { piece = piece; marks = marks; start = start; plan = l }) (sym none);
     }
 
 -- what a plan means without shared expansions
@@ -84,38 +84,38 @@ plan_none node bytes piece marks start (step.Use id ∷ plan) = refl
 plan_none node bytes piece marks start (step.Close ∷ plan) = ap (λ l. Closing node piece ∷ l) (plan_none node bytes (piece + 1) 0 start plan)
 
 -- what it means with one more
-abbrev pub rest_flat : Title → List ℕ → Rest → List (List Symbol) → List Symbol
+abbrev pub rest_flat : Title → List ℕ → PlanCursor → List (List Symbol) → List Symbol
 rest_flat node bytes r used = plan_flat node bytes r.piece r.marks r.start r.plan used
 
 pub plan_some : (node : Title) (bytes : List ℕ) (piece marks start : ℕ) (plan : List Step) (symbols : List Symbol) (used : List (List Symbol))
     → plan_flat node bytes piece marks start plan (symbols ∷ used)
-    ≡ before_use node bytes piece marks start plan ++ (Byte space ∷ symbols ++ rest_flat node bytes (behind_use piece marks start plan) used)
+    ≡ before_use node bytes piece marks start plan ++ (Byte space ∷ symbols ++ rest_flat node bytes (after_use piece marks start plan) used)
 plan_some node bytes piece marks start [] symbols used = refl
 plan_some node bytes piece marks start (step.Open ∷ plan) symbols used = ap (λ l. Opening node piece ∷ MarkOf node piece 0 ∷ l) (plan_some node bytes piece 0 start plan symbols used)
 plan_some node bytes piece marks start (step.Run end ∷ plan) symbols used =
     ap (λ l. map Byte (bytes_between bytes start end) ++ l) (plan_some node bytes piece marks end plan symbols used)
-    ∙ sym (append_assoc (map Byte (bytes_between bytes start end)) (before_use node bytes piece marks end plan) (Byte space ∷ symbols ++ rest_flat node bytes (behind_use piece marks end plan) used))
+    ∙ sym (append_assoc (map Byte (bytes_between bytes start end)) (before_use node bytes piece marks end plan) (Byte space ∷ symbols ++ rest_flat node bytes (after_use piece marks end plan) used))
 plan_some node bytes piece marks start (step.Mark ∷ plan) symbols used = ap (λ l. MarkOf node piece (marks + 1) ∷ l) (plan_some node bytes piece (marks + 1) start plan symbols used)
 plan_some node bytes piece marks start (step.AllMacros ∷ plan) symbols used = ap (λ l. AllMacros ∷ l) (plan_some node bytes piece marks start plan symbols used)
 plan_some node bytes piece marks start (step.Space ∷ plan) symbols used = ap (λ l. Byte space ∷ l) (plan_some node bytes piece marks start plan symbols used)
 plan_some node bytes piece marks start (step.Use id ∷ plan) symbols used = refl
 plan_some node bytes piece marks start (step.Close ∷ plan) symbols used = ap (λ l. Closing node piece ∷ l) (plan_some node bytes (piece + 1) 0 start plan symbols used)
 
--- its text, where one of the shared expansions comes next
-pub text_some : (numbers : NumbersRead) (node : Title) (bytes : List ℕ) (piece marks start : ℕ) (plan : List Step) (used seen : List (List Symbol)) (i : ℕ) (symbols : List Symbol) (r : Rest)
-    → seen ≡ used → i < length seen → symbols ≡ get_or seen i symbols → behind_use piece marks start plan ≡ r
-    → text numbers (plan_flat node bytes piece marks start plan (drop i used))
-    ≡ text numbers (before_use node bytes piece marks start plan) ++ ((space ∷ []) ++ (text numbers symbols ++ text numbers (rest_flat node bytes r (drop (i + 1) used))))
-text_some numbers node bytes piece marks start plan used seen i symbols r same h is rest =
+-- what is written for it, where one of the shared expansions comes next
+pub written_with : (numbers : NumbersRead) (node : Title) (bytes : List ℕ) (piece marks start : ℕ) (plan : List Step) (used seen : List (List Symbol)) (i : ℕ) (symbols : List Symbol) (r : PlanCursor)
+    → seen ≡ used → i < length seen → symbols ≡ get_or seen i symbols → after_use piece marks start plan ≡ r
+    → expansion_bytes numbers (plan_flat node bytes piece marks start plan (drop i used))
+    ≡ expansion_bytes numbers (before_use node bytes piece marks start plan) ++ ((space ∷ []) ++ (expansion_bytes numbers symbols ++ expansion_bytes numbers (rest_flat node bytes r (drop (i + 1) used))))
+written_with numbers node bytes piece marks start plan used seen i symbols r same h is rest =
     let next : drop i used ≡ symbols ∷ drop (i + 1) used = ap (drop i) (sym same) ∙ drop_at seen i symbols h is ∙ ap (λ l. symbols ∷ drop (i + 1) l) same in
-    ap (λ l. text numbers (plan_flat node bytes piece marks start plan l)) next
-    ∙ ap (text numbers) (plan_some node bytes piece marks start plan symbols (drop (i + 1) used))
-    ∙ text-append numbers (before_use node bytes piece marks start plan) (Byte space ∷ symbols ++ rest_flat node bytes (behind_use piece marks start plan) (drop (i + 1) used))
-    ∙ ap (λ l. text numbers (before_use node bytes piece marks start plan) ++ (space ∷ l)) (text-append numbers symbols (rest_flat node bytes (behind_use piece marks start plan) (drop (i + 1) used)))
-    ∙ ap (λ q. text numbers (before_use node bytes piece marks start plan) ++ (space ∷ (text numbers symbols ++ text numbers (rest_flat node bytes q (drop (i + 1) used))))) rest
+    ap (λ l. expansion_bytes numbers (plan_flat node bytes piece marks start plan l)) next
+    ∙ ap (expansion_bytes numbers) (plan_some node bytes piece marks start plan symbols (drop (i + 1) used))
+    ∙ written-append numbers (before_use node bytes piece marks start plan) (Byte space ∷ symbols ++ rest_flat node bytes (after_use piece marks start plan) (drop (i + 1) used))
+    ∙ ap (λ l. expansion_bytes numbers (before_use node bytes piece marks start plan) ++ (space ∷ l)) (written-append numbers symbols (rest_flat node bytes (after_use piece marks start plan) (drop (i + 1) used)))
+    ∙ ap (λ q. expansion_bytes numbers (before_use node bytes piece marks start plan) ++ (space ∷ (expansion_bytes numbers symbols ++ expansion_bytes numbers (rest_flat node bytes q (drop (i + 1) used))))) rest
 
-pub text_none : (numbers : NumbersRead) (node : Title) (bytes : List ℕ) (piece marks start : ℕ) (plan : List Step) (used seen : List (List Symbol)) (i : ℕ) → seen ≡ used → length seen ≤ i
-    → text numbers (plan_flat node bytes piece marks start plan (drop i used)) ≡ text numbers (before_use node bytes piece marks start plan)
-text_none numbers node bytes piece marks start plan used seen i same h =
-    ap (λ l. text numbers (plan_flat node bytes piece marks start plan l)) (drop_all used i (omega (arith, h, ap length same)))
-    ∙ ap (text numbers) (plan_none node bytes piece marks start plan)
+pub written_without : (numbers : NumbersRead) (node : Title) (bytes : List ℕ) (piece marks start : ℕ) (plan : List Step) (used seen : List (List Symbol)) (i : ℕ) → seen ≡ used → length seen ≤ i
+    → expansion_bytes numbers (plan_flat node bytes piece marks start plan (drop i used)) ≡ expansion_bytes numbers (before_use node bytes piece marks start plan)
+written_without numbers node bytes piece marks start plan used seen i same h =
+    ap (λ l. expansion_bytes numbers (plan_flat node bytes piece marks start plan l)) (drop_all used i (omega (arith, h, ap length same)))
+    ∙ ap (expansion_bytes numbers) (plan_none node bytes piece marks start plan)

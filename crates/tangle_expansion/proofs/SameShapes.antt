@@ -2,7 +2,7 @@
 use Rattle.std.proofs.Common.{◌≡◌, ◌∙◌, ℕ, ◌+◌, ◌<◌, ◌≤◌, zero, suc, min, List, [], ◌∷◌, ◌++◌, refl, ap, sym, inl, inr, arith}
 use Rattle.tangle_files.specs.Bytes.{space}
 use Rattle.tangle_plans.specs.Shapes.{Title, Named, ShapeItem, Written, Mark, AllMacros, Use, NoUse, Shape, Shapes, IsUseOf, UsesInPiece, UsesInShape, Uses, Reaches, here, on, ContainsItself}
-use Rattle.tangle_plans.specs.Flat.{Symbol, Byte, Opening, MarkOf, marks_behind, item_flat, items_flat, pieces_flat, flat, item_weight, items_weight, pieces_weight, weight, item_depth, items_depth, pieces_depth, depth}
+use Rattle.tangle_plans.specs.Flat.{Symbol, Byte, Opening, MarkOf, marks_after_shape_item, item_flat, items_flat, pieces_flat, flat, item_weight, items_weight, pieces_weight, weight, item_depth, items_depth, pieces_depth, depth}
 
 -- what is said of an item, of a piece and of a shape by what is said of the names that it uses
 
@@ -18,8 +18,8 @@ items_flat-same : (f g : List ℕ → List Symbol) (node : Title) (piece marks :
     → items_flat f node piece marks items ≡ items_flat g node piece marks items
 items_flat-same f g node piece marks [] same = refl
 items_flat-same f g node piece marks (item ∷ items) same =
-    ap (λ l. l ++ items_flat f node piece (marks_behind marks item) items) (item_flat-same f g node piece marks item (λ name u. same name (inl u)))
-    ∙ ap (λ l. item_flat g node piece marks item ++ l) (items_flat-same f g node piece (marks_behind marks item) items (λ name u. same name (inr u)))
+    ap (λ l. l ++ items_flat f node piece (marks_after_shape_item marks item) items) (item_flat-same f g node piece marks item (λ name u. same name (inl u)))
+    ∙ ap (λ l. item_flat g node piece marks item ++ l) (items_flat-same f g node piece (marks_after_shape_item marks item) items (λ name u. same name (inr u)))
 
 pub pieces_flat-same : (f g : List ℕ → List Symbol) (node : Title) (piece : ℕ) (pieces : Shape) → ((name : List ℕ) → UsesInShape pieces name → f name ≡ g name)
     → pieces_flat f node piece pieces ≡ pieces_flat g node piece pieces

@@ -12,63 +12,63 @@ use Rattle.tangle_expansion.proofs.Weights.{weight-length}
 
 -- shapes can be distinguished
 
-kind_tag : Kind → ℕ
-kind_tag Word = 0
-kind_tag Sign = 1
-kind_tag Quoted = 2
-kind_tag QuoteBreak = 3
-kind_tag Verbatim = 4
-kind_tag AsciiConstant = 5
-kind_tag Blank = 6
-kind_tag LineEnd = 7
+kind_number : Kind → ℕ
+kind_number Word = 0
+kind_number Sign = 1
+kind_number Quoted = 2
+kind_number QuoteBreak = 3
+kind_number Verbatim = 4
+kind_number AsciiConstant = 5
+kind_number Blank = 6
+kind_number LineEnd = 7
 
-tagged_kind : ℕ → Kind
-tagged_kind zero = Word
-tagged_kind (suc zero) = Sign
-tagged_kind (suc (suc zero)) = Quoted
-tagged_kind (suc (suc (suc zero))) = QuoteBreak
-tagged_kind (suc (suc (suc (suc zero)))) = Verbatim
-tagged_kind (suc (suc (suc (suc (suc zero))))) = AsciiConstant
-tagged_kind (suc (suc (suc (suc (suc (suc zero)))))) = Blank
-tagged_kind (suc (suc (suc (suc (suc (suc (suc n))))))) = LineEnd
+numbered_kind : ℕ → Kind
+numbered_kind zero = Word
+numbered_kind (suc zero) = Sign
+numbered_kind (suc (suc zero)) = Quoted
+numbered_kind (suc (suc (suc zero))) = QuoteBreak
+numbered_kind (suc (suc (suc (suc zero)))) = Verbatim
+numbered_kind (suc (suc (suc (suc (suc zero))))) = AsciiConstant
+numbered_kind (suc (suc (suc (suc (suc (suc zero)))))) = Blank
+numbered_kind (suc (suc (suc (suc (suc (suc (suc n))))))) = LineEnd
 
-tagged_kind-tag : (k : Kind) → tagged_kind (kind_tag k) ≡ k
-unfolding tagged_kind kind_tag
-tagged_kind-tag Word = refl
-tagged_kind-tag Sign = refl
-tagged_kind-tag Quoted = refl
-tagged_kind-tag QuoteBreak = refl
-tagged_kind-tag Verbatim = refl
-tagged_kind-tag AsciiConstant = refl
-tagged_kind-tag Blank = refl
-tagged_kind-tag LineEnd = refl
+numbered_kind-number : (k : Kind) → numbered_kind (kind_number k) ≡ k
+unfolding numbered_kind kind_number
+numbered_kind-number Word = refl
+numbered_kind-number Sign = refl
+numbered_kind-number Quoted = refl
+numbered_kind-number QuoteBreak = refl
+numbered_kind-number Verbatim = refl
+numbered_kind-number AsciiConstant = refl
+numbered_kind-number Blank = refl
+numbered_kind-number LineEnd = refl
 
-item_tag : ShapeItem → ℕ × (ℕ × List ℕ)
-item_tag (Written kind bytes) = (0, (kind_tag kind, bytes))
-item_tag Mark = (1, (0, []))
-item_tag AllMacros = (2, (0, []))
-item_tag (Use name) = (3, (0, name))
-item_tag NoUse = (4, (0, []))
+item_numbers : ShapeItem → ℕ × (ℕ × List ℕ)
+item_numbers (Written kind bytes) = (0, (kind_number kind, bytes))
+item_numbers Mark = (1, (0, []))
+item_numbers AllMacros = (2, (0, []))
+item_numbers (Use name) = (3, (0, name))
+item_numbers NoUse = (4, (0, []))
 
-tagged_item : ℕ × (ℕ × List ℕ) → ShapeItem
-tagged_item (zero, (k, bytes)) = Written (tagged_kind k) bytes
-tagged_item (suc zero, rest) = Mark
-tagged_item (suc (suc zero), rest) = AllMacros
-tagged_item (suc (suc (suc zero)), (k, name)) = Use name
-tagged_item (suc (suc (suc (suc n))), rest) = NoUse
+numbered_item : ℕ × (ℕ × List ℕ) → ShapeItem
+numbered_item (zero, (k, bytes)) = Written (numbered_kind k) bytes
+numbered_item (suc zero, rest) = Mark
+numbered_item (suc (suc zero), rest) = AllMacros
+numbered_item (suc (suc (suc zero)), (k, name)) = Use name
+numbered_item (suc (suc (suc (suc n))), rest) = NoUse
 
-tagged_item-tag : (x : ShapeItem) → tagged_item (item_tag x) ≡ x
-unfolding tagged_item item_tag
-tagged_item-tag (Written kind bytes) = ap (λ k. Written k bytes) (tagged_kind-tag kind)
-tagged_item-tag Mark = refl
-tagged_item-tag AllMacros = refl
-tagged_item-tag (Use name) = refl
-tagged_item-tag NoUse = refl
+numbered_item-numbers : (x : ShapeItem) → numbered_item (item_numbers x) ≡ x
+unfolding numbered_item item_numbers
+numbered_item-numbers (Written kind bytes) = ap (λ k. Written k bytes) (numbered_kind-number kind)
+numbered_item-numbers Mark = refl
+numbered_item-numbers AllMacros = refl
+numbered_item-numbers (Use name) = refl
+numbered_item-numbers NoUse = refl
 
 item_discrete : Discrete ShapeItem
 item_discrete x y =
-    map_dec (λ e. sym (tagged_item-tag x) ∙ ap tagged_item e ∙ tagged_item-tag y) (ap item_tag)
-    (×_discrete ℕ_discrete (×_discrete ℕ_discrete (List-discrete ℕ_discrete)) (item_tag x) (item_tag y))
+    map_dec (λ e. sym (numbered_item-numbers x) ∙ ap numbered_item e ∙ numbered_item-numbers y) (ap item_numbers)
+    (×_discrete ℕ_discrete (×_discrete ℕ_discrete (List-discrete ℕ_discrete)) (item_numbers x) (item_numbers y))
 
 pub shape_discrete : Discrete Shape
 shape_discrete = List-discrete (List-discrete item_discrete)

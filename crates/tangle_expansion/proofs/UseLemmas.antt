@@ -43,16 +43,16 @@ bytes_filled symbols [] = refl
 bytes_filled symbols (b ∷ bytes) = ap (λ l. Byte b ∷ l) (bytes_filled symbols bytes)
 
 -- where each use has a share, in order, the plan means its slots filled
-pub plan_filled : (symbols : ℕ → List Symbol) (node : Title) (text : List ℕ) (piece marks start : ℕ) (plan : List Step)
-    → plan_flat node text piece marks start plan (map symbols (uses_of plan)) ≡ filled symbols (slots node text piece marks start plan)
-plan_filled symbols node text piece marks start [] = refl
-plan_filled symbols node text piece marks start (step.Open ∷ plan) = ap (λ l. Opening node piece ∷ MarkOf node piece 0 ∷ l) (plan_filled symbols node text piece 0 start plan)
-plan_filled symbols node text piece marks start (step.Run end ∷ plan) =
-    ap (λ l. map Byte (bytes_between text start end) ++ l) (plan_filled symbols node text piece marks end plan)
-    ∙ ap (λ l. l ++ filled symbols (slots node text piece marks end plan)) (sym (bytes_filled symbols (bytes_between text start end)))
-    ∙ sym (flat_map-append (filled_slot symbols) (map (λ b. Own (Byte b)) (bytes_between text start end)) (slots node text piece marks end plan))
-plan_filled symbols node text piece marks start (step.Mark ∷ plan) = ap (λ l. MarkOf node piece (marks + 1) ∷ l) (plan_filled symbols node text piece (marks + 1) start plan)
-plan_filled symbols node text piece marks start (step.AllMacros ∷ plan) = ap (λ l. AllMacros ∷ l) (plan_filled symbols node text piece marks start plan)
-plan_filled symbols node text piece marks start (step.Space ∷ plan) = ap (λ l. Byte space ∷ l) (plan_filled symbols node text piece marks start plan)
-plan_filled symbols node text piece marks start (step.Use id ∷ plan) = ap (λ l. Byte space ∷ symbols id ++ l) (plan_filled symbols node text piece marks start plan)
-plan_filled symbols node text piece marks start (step.Close ∷ plan) = ap (λ l. Closing node piece ∷ l) (plan_filled symbols node text (piece + 1) 0 start plan)
+pub plan_filled : (symbols : ℕ → List Symbol) (node : Title) (bytes : List ℕ) (piece marks start : ℕ) (plan : List Step)
+    → plan_flat node bytes piece marks start plan (map symbols (uses_of plan)) ≡ filled symbols (slots node bytes piece marks start plan)
+plan_filled symbols node bytes piece marks start [] = refl
+plan_filled symbols node bytes piece marks start (step.Open ∷ plan) = ap (λ l. Opening node piece ∷ MarkOf node piece 0 ∷ l) (plan_filled symbols node bytes piece 0 start plan)
+plan_filled symbols node bytes piece marks start (step.Run end ∷ plan) =
+    ap (λ l. map Byte (bytes_between bytes start end) ++ l) (plan_filled symbols node bytes piece marks end plan)
+    ∙ ap (λ l. l ++ filled symbols (slots node bytes piece marks end plan)) (sym (bytes_filled symbols (bytes_between bytes start end)))
+    ∙ sym (flat_map-append (filled_slot symbols) (map (λ b. Own (Byte b)) (bytes_between bytes start end)) (slots node bytes piece marks end plan))
+plan_filled symbols node bytes piece marks start (step.Mark ∷ plan) = ap (λ l. MarkOf node piece (marks + 1) ∷ l) (plan_filled symbols node bytes piece (marks + 1) start plan)
+plan_filled symbols node bytes piece marks start (step.AllMacros ∷ plan) = ap (λ l. AllMacros ∷ l) (plan_filled symbols node bytes piece marks start plan)
+plan_filled symbols node bytes piece marks start (step.Space ∷ plan) = ap (λ l. Byte space ∷ l) (plan_filled symbols node bytes piece marks start plan)
+plan_filled symbols node bytes piece marks start (step.Use id ∷ plan) = ap (λ l. Byte space ∷ symbols id ++ l) (plan_filled symbols node bytes piece marks start plan)
+plan_filled symbols node bytes piece marks start (step.Close ∷ plan) = ap (λ l. Closing node piece ∷ l) (plan_filled symbols node bytes (piece + 1) 0 start plan)

@@ -1,7 +1,7 @@
 -- What a used name expands to is shorter and less deep than what its user does.
 use Rattle.std.proofs.Common.{◌+◌, ◌<◌, ◌≤◌, ℕ, List, [], ◌∷◌, length, ap, inl, inr, arith, length-append}
 use Rattle.tangle_plans.specs.Shapes.{Title, ShapeItem, Written, Mark, AllMacros, Use, NoUse, Shape, IsUseOf, UsesInPiece, UsesInShape}
-use Rattle.tangle_plans.specs.Flat.{Symbol, marks_behind, item_flat, items_flat, pieces_flat, item_depth, items_depth, pieces_depth}
+use Rattle.tangle_plans.specs.Flat.{Symbol, marks_after_shape_item, item_flat, items_flat, pieces_flat, item_depth, items_depth, pieces_depth}
 
 item_shorter : (used : List ℕ → List Symbol) (node : Title) (piece marks : ℕ) (item : ShapeItem) (name : List ℕ) → IsUseOf item name
     → length (used name) ≤ length (item_flat used node piece marks item)
@@ -15,12 +15,12 @@ items_shorter : (used : List ℕ → List Symbol) (node : Title) (piece marks : 
     → length (used name) ≤ length (items_flat used node piece marks items)
 items_shorter used node piece marks [] name u = absurd u
 items_shorter used node piece marks (item ∷ items) name (inl u) =
-    omega (arith, item_shorter used node piece marks item name u, length-append (item_flat used node piece marks item) (items_flat used node piece (marks_behind marks item) items))
+    omega (arith, item_shorter used node piece marks item name u, length-append (item_flat used node piece marks item) (items_flat used node piece (marks_after_shape_item marks item) items))
 items_shorter used node piece marks (item ∷ items) name (inr u) =
     omega (
       arith,
-      items_shorter used node piece (marks_behind marks item) items name u,
-      length-append (item_flat used node piece marks item) (items_flat used node piece (marks_behind marks item) items),
+      items_shorter used node piece (marks_after_shape_item marks item) items name u,
+      length-append (item_flat used node piece marks item) (items_flat used node piece (marks_after_shape_item marks item) items),
     )
 
 pub pieces_shorter : (used : List ℕ → List Symbol) (node : Title) (piece : ℕ) (pieces : Shape) (name : List ℕ) → UsesInShape pieces name

@@ -2,7 +2,7 @@
 use Rattle.std.proofs.Common.{◌≡◌, ◌∙◌, ℕ, ◌+◌, zero, suc, List, [], ◌∷◌, length, refl, ap, sym, arith, length-append}
 use Rattle.std.proofs.lemmas.List.{length-map}
 use Rattle.tangle_plans.specs.Shapes.{Title, Named, ShapeItem, Written, Mark, AllMacros, Use, NoUse, Shape, Shapes}
-use Rattle.tangle_plans.specs.Flat.{Symbol, Byte, marks_behind, item_flat, items_flat, pieces_flat, flat, item_weight, items_weight, pieces_weight, weight}
+use Rattle.tangle_plans.specs.Flat.{Symbol, Byte, marks_after_shape_item, item_flat, items_flat, pieces_flat, flat, item_weight, items_weight, pieces_weight, weight}
 
 item_weight-length : (used : List ℕ → List Symbol) (node : Title) (piece marks : ℕ) (item : ShapeItem)
     → item_weight (λ name. length (used name)) item ≡ length (item_flat used node piece marks item)
@@ -19,8 +19,8 @@ items_weight-length used node piece marks (item ∷ items) =
     omega (
       arith,
       item_weight-length used node piece marks item,
-      items_weight-length used node piece (marks_behind marks item) items,
-      length-append (item_flat used node piece marks item) (items_flat used node piece (marks_behind marks item) items),
+      items_weight-length used node piece (marks_after_shape_item marks item) items,
+      length-append (item_flat used node piece marks item) (items_flat used node piece (marks_after_shape_item marks item) items),
     )
 
 pub pieces_weight-length : (used : List ℕ → List Symbol) (node : Title) (piece : ℕ) (pieces : Shape)

@@ -1,20 +1,20 @@
--- Worked webs: the text, weight and depth of their nodes.
+-- Worked webs: the output, weight and depth of their nodes.
 use Rattle.std.proofs.Common.{◌≡◌, ℕ, false, List, [], ◌∷◌, ◌+◌, ◌-◌, ◌*◌, ◌^◌, ◌++◌, refl, inl, inr}
 use Rattle.std.specs.Fmt.{digits}
 use Rattle.std.specs.Prelude.{codes, map, flat_map, true}
-use Rattle.tangle_lines.specs.Reading.{Line, SourceRead}
+use Rattle.tangle_lines.specs.Reading.{SourceLine, SourceRead}
 use Rattle.tangle_lexer.specs.Steps.{lexeme, occurrences_from, tokens_from}
 use Rattle.tangle_scan.specs.Web.{WebRead, web_of}
 use Rattle.tangle_names.specs.NameTable.{table_of}
 use Rattle.tangle_plans.specs.Shapes.{Title, Program, Named, ContainsItself, here, on}
 use Rattle.tangle_plans.specs.Flat.{flat, weight, depth}
 use Rattle.tangle_plans.specs.WebShapes.{shapes}
-use Rattle.tangle_expansion.specs.Numbers.{numbers_of, text}
-use Rattle.tangle_expansion.specs.Location.{Role, Own, Feed, Other, located, located_shapes}
+use Rattle.tangle_expansion.specs.Numbers.{numbers_of, expansion_bytes}
+use Rattle.tangle_expansion.specs.Location.{ByteClass, OfItem, LineFeed, Other, located, located_shapes}
 use Rattle.tangle_files.specs.declared.marks.MarkMode.TheVariants.{Full}
 
 -- the source lines of the file a.w from a line number on
-abbrev numbered_lines : ℕ → List (List ℕ) → List Line
+abbrev numbered_lines : ℕ → List (List ℕ) → List SourceLine
 numbered_lines n [] = []
 numbered_lines n (line ∷ lines) = record { bytes = line; origin = record { file = 0; line = n }; changed = false } ∷ numbered_lines (n + 1) lines
 
@@ -26,12 +26,12 @@ abbrev web : List (List ℕ) → WebRead
 web lines = web_of (source lines)
 
 abbrev output : List (List ℕ) → List ℕ
-output lines = text (numbers_of (web lines) (table_of (web lines)) Full) (flat 1001 (shapes (web lines) (table_of (web lines))) Program) ++ codes "\n"
+output lines = expansion_bytes (numbers_of (web lines) (table_of (web lines)) Full) (flat 1001 (shapes (web lines) (table_of (web lines))) Program) ++ codes "\n"
 
--- the text of a named node, and a line feed
+-- the output of a named node, and a line feed
 abbrev output_of : List (List ℕ) → List ℕ → List ℕ
 output_of lines name =
-    text (numbers_of (web lines) (table_of (web lines)) Full) (flat 1001 (shapes (web lines) (table_of (web lines))) (Named name)) ++ codes "\n"
+    expansion_bytes (numbers_of (web lines) (table_of (web lines)) Full) (flat 1001 (shapes (web lines) (table_of (web lines))) (Named name)) ++ codes "\n"
 
 abbrev weight_in : List (List ℕ) → Title → ℕ
 weight_in lines node = weight 16777217 (shapes (web lines) (table_of (web lines))) node
@@ -39,13 +39,13 @@ weight_in lines node = weight 16777217 (shapes (web lines) (table_of (web lines)
 abbrev depth_in : List (List ℕ) → Title → ℕ
 depth_in lines node = depth 1001 (shapes (web lines) (table_of (web lines))) node
 
-abbrev lines_text : List (List ℕ) → List ℕ
-lines_text lines = flat_map (λ line. line ++ 10 ∷ []) lines
+abbrev written_lines : List (List ℕ) → List ℕ
+written_lines lines = flat_map (λ line. line ++ 10 ∷ []) lines
 
 abbrev one_part : List (List ℕ)
 one_part = codes "@ A." ∷ codes "@c" ∷ codes "int x;" ∷ []
 
-one_part_output : output one_part ≡ lines_text (codes "/*1:*/" ∷ codes "#line 2 \"a.w\"" ∷ [] ∷ codes "int x;" ∷ codes "/*:1*/" ∷ [])
+one_part_output : output one_part ≡ written_lines (codes "/*1:*/" ∷ codes "#line 2 \"a.w\"" ∷ [] ∷ codes "int x;" ∷ codes "/*:1*/" ∷ [])
 unfolding lexeme tokens_from occurrences_from digits
 one_part_output = refl
 
@@ -61,7 +61,7 @@ one_part_depth = refl
 abbrev one_use : List (List ℕ)
 one_use = codes "@ A." ∷ codes "@c" ∷ codes "int x=@<v@>;" ∷ codes "@ @<v@>=" ∷ codes "1" ∷ []
 
-one_use_output : output one_use ≡ lines_text (
+one_use_output : output one_use ≡ written_lines (
     codes "/*1:*/" ∷ codes "#line 2 \"a.w\"" ∷ [] ∷ codes "int x= /*2:*/" ∷ codes "#line 4 \"a.w\"" ∷ [] ∷ codes "1" ∷ codes "/*:2*/"
     ∷ codes "#line 3 \"a.w\"" ∷ codes ";" ∷ codes "/*:1*/" ∷ [])
 unfolding lexeme tokens_from occurrences_from digits
@@ -84,35 +84,35 @@ unfolding lexeme tokens_from occurrences_from
 one_use_name_depth = refl
 
 -- with a line in front, all origins go on by one line
-shifted_output : output (codes "% top" ∷ one_use) ≡ lines_text (
+shifted_output : output (codes "% top" ∷ one_use) ≡ written_lines (
     codes "/*1:*/" ∷ codes "#line 3 \"a.w\"" ∷ [] ∷ codes "int x= /*2:*/" ∷ codes "#line 5 \"a.w\"" ∷ [] ∷ codes "1" ∷ codes "/*:2*/"
     ∷ codes "#line 4 \"a.w\"" ∷ codes ";" ∷ codes "/*:1*/" ∷ [])
 unfolding lexeme tokens_from occurrences_from digits
 shifted_output = refl
 
 -- the macros inside the program
-abbrev macros_in_text : List (List ℕ)
-macros_in_text = codes "@ A." ∷ codes "@d N 10" ∷ codes "@c" ∷ codes "@h" ∷ codes "int x=N;" ∷ []
+abbrev macros_in_program : List (List ℕ)
+macros_in_program = codes "@ A." ∷ codes "@d N 10" ∷ codes "@c" ∷ codes "@h" ∷ codes "int x=N;" ∷ []
 
-macros_in_text_output : output macros_in_text ≡ lines_text (
+macros_in_program_output : output macros_in_program ≡ written_lines (
     codes "/*1:*/" ∷ codes "#line 3 \"a.w\"" ∷ [] ∷ [] ∷ codes "#define N 10" ∷ [] ∷ codes "#line 4 \"a.w\"" ∷ [] ∷ codes "int x=N;" ∷ codes "/*:1*/" ∷ [])
 unfolding lexeme tokens_from occurrences_from digits
-macros_in_text_output = refl
+macros_in_program_output = refl
 
 -- a join over a line end
 abbrev joined : List (List ℕ)
 joined = codes "@ A." ∷ codes "@c" ∷ codes "a@&" ∷ codes "b;" ∷ codes "c;" ∷ []
 
-joined_output : output joined ≡ lines_text (
+joined_output : output joined ≡ written_lines (
     codes "/*1:*/" ∷ codes "#line 2 \"a.w\"" ∷ [] ∷ codes "ab;" ∷ codes "#line 5 \"a.w\"" ∷ codes "c;" ∷ codes "/*:1*/" ∷ [])
 unfolding lexeme tokens_from occurrences_from digits
 joined_output = refl
 
--- An abbreviation that resolves to two names: the uses have no text, and both definitions are pieces of names that nothing uses.
+-- An abbreviation that resolves to two names: the uses have no symbols of a name, and both definitions are pieces of names that nothing uses.
 abbrev ambiguous : List (List ℕ)
 ambiguous = codes "@ A." ∷ codes "@c" ∷ codes "@<Ini...@>" ∷ codes "@ @<Initialize@>=" ∷ codes "x=0;" ∷ codes "@ @<Init table@>=" ∷ []
 
-ambiguous_output : output ambiguous ≡ lines_text (
+ambiguous_output : output ambiguous ≡ written_lines (
     codes "/*1:*/" ∷ codes "#line 2 \"a.w\"" ∷ [] ∷ codes " " ∷ codes "#line 3 \"a.w\"" ∷ [] ∷ codes "/*:1*/" ∷ [])
 unfolding lexeme tokens_from occurrences_from digits
 ambiguous_output = refl
@@ -121,14 +121,14 @@ ambiguous_output = refl
 abbrev early : List (List ℕ)
 early = codes "@ A." ∷ codes "@c" ∷ codes "@<Ini...@>" ∷ codes "@ @<Initialize@>=" ∷ codes "x=0;" ∷ []
 
-early_output : output early ≡ lines_text (
+early_output : output early ≡ written_lines (
     codes "/*1:*/" ∷ codes "#line 2 \"a.w\"" ∷ [] ∷ codes " /*2:*/" ∷ codes "#line 4 \"a.w\"" ∷ [] ∷ codes "x=0;" ∷ codes "/*:2*/" ∷ codes "#line 3 \"a.w\""
     ∷ [] ∷ codes "/*:1*/" ∷ [])
 unfolding lexeme tokens_from occurrences_from digits
 early_output = refl
 
 -- with a section in front, section numbers and origins go on
-renumbered_output : output (codes "@ Z." ∷ one_use) ≡ lines_text (
+renumbered_output : output (codes "@ Z." ∷ one_use) ≡ written_lines (
     codes "/*2:*/" ∷ codes "#line 3 \"a.w\"" ∷ [] ∷ codes "int x= /*3:*/" ∷ codes "#line 5 \"a.w\"" ∷ [] ∷ codes "1" ∷ codes "/*:3*/"
     ∷ codes "#line 4 \"a.w\"" ∷ codes ";" ∷ codes "/*:2*/" ∷ [])
 unfolding lexeme tokens_from occurrences_from digits
@@ -139,7 +139,7 @@ abbrev cyclic : List (List ℕ)
 cyclic =
     codes "@ P." ∷ codes "@c" ∷ codes "@<A@>" ∷ codes "@ @<A@>=" ∷ codes "@<B@>" ∷ codes "@ @<B@>=" ∷ codes "@<A@>" ∷ codes "@ @(h.h@>=" ∷ codes "int h;" ∷ []
 
-cyclic_file : output_of cyclic (codes "h.h") ≡ lines_text (codes "/*4:*/" ∷ codes "#line 8 \"a.w\"" ∷ [] ∷ codes "int h;" ∷ codes "/*:4*/" ∷ [])
+cyclic_file : output_of cyclic (codes "h.h") ≡ written_lines (codes "/*4:*/" ∷ codes "#line 8 \"a.w\"" ∷ [] ∷ codes "int h;" ∷ codes "/*:4*/" ∷ [])
 unfolding lexeme tokens_from occurrences_from digits
 cyclic_file = refl
 
@@ -155,7 +155,7 @@ cyclic_other = (codes "A", inl (inr (inl refl)), on (inl (inr (inl refl))) here)
 abbrev acyclic : List (List ℕ)
 acyclic = codes "@ P." ∷ codes "@c" ∷ codes "@<A@>" ∷ codes "@ @<A@>=" ∷ codes "@<B@>" ∷ codes "@ @<B@>=" ∷ codes "b;" ∷ codes "@ @(h.h@>=" ∷ codes "int h;" ∷ []
 
-acyclic_output : output acyclic ≡ lines_text (
+acyclic_output : output acyclic ≡ written_lines (
     codes "/*1:*/" ∷ codes "#line 2 \"a.w\"" ∷ [] ∷ codes " /*2:*/" ∷ codes "#line 4 \"a.w\"" ∷ [] ∷ codes " /*3:*/" ∷ codes "#line 6 \"a.w\"" ∷ [] ∷ codes "b;"
     ∷ codes "/*:3*/" ∷ codes "#line 5 \"a.w\"" ∷ [] ∷ codes "/*:2*/" ∷ codes "#line 3 \"a.w\"" ∷ [] ∷ codes "/*:1*/" ∷ [])
 unfolding lexeme tokens_from occurrences_from digits
@@ -190,18 +190,18 @@ doubling_depth = refl
 abbrev long_macro : List (List ℕ)
 long_macro = codes "@ A." ∷ codes "@d F(x) x" ∷ codes "  +1" ∷ [] ∷ codes "@d 3" ∷ codes "@c" ∷ codes "y" ∷ []
 
-long_macro_text : (numbers_of (web long_macro) (table_of (web long_macro)) Full).macros ≡ codes "#define F(x) x\\\n+1\n"
+long_macro_bytes : (numbers_of (web long_macro) (table_of (web long_macro)) Full).macros ≡ codes "#define F(x) x\\\n+1\n"
 unfolding lexeme tokens_from occurrences_from digits
-long_macro_text = refl
+long_macro_bytes = refl
 
--- where the texts of the joined lines are: the b and the sign behind it are in a stretch, and behind the mark it is over
-abbrev role_byte : Role → ℕ
-role_byte (Own origin false) = 48 + origin.line
-role_byte (Own origin true) = 97 + origin.line
-role_byte Feed = 10
-role_byte Other = 32
+-- where the joined lines are: the b and the sign after it are in a stretch, and after the mark it is over
+abbrev class_byte : ByteClass → ℕ
+class_byte (OfItem origin false) = 48 + origin.line
+class_byte (OfItem origin true) = 97 + origin.line
+class_byte LineFeed = 10
+class_byte Other = 32
 
-joined_roles : map (λ p. role_byte p.role) (located 1001 (located_shapes (source joined) (web joined) (table_of (web joined))) Program)
+joined_classes : map (λ p. class_byte p.class) (located 1001 (located_shapes (source joined) (web joined) (table_of (web joined))) Program)
     ≡ 32 ∷ 32 ∷ 10 ∷ (48 + 3) ∷ (97 + 4) ∷ (97 + 4) ∷ 32 ∷ (48 + 5) ∷ (48 + 5) ∷ 10 ∷ 32 ∷ []
 unfolding lexeme tokens_from occurrences_from digits
-joined_roles = refl
+joined_classes = refl

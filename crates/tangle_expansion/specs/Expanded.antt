@@ -1,4 +1,4 @@
--- The meaning of an expansion as it lies in memory, and that it is longer than that of each expansion which it shares.
+-- The symbols of an expansion as it is held in memory, and that they are more than those of each expansion that it shares.
 use Rattle.std.specs.Prelude.{ℕ, ◌+◌, ◌≤◌, List, [], ◌∷◌, length, map}
 use Rattle.std.proofs.Common.{arith, length-append}
 use denote.Param.Weighed.{most}
@@ -9,27 +9,27 @@ use Rattle.tangle_plans.specs.declared.steps.Step.{Step}
 use Rattle.tangle_plans.specs.declared.steps.Step.TheVariants as step
 use Rattle.tangle_expansion.specs.declared.expansion.Expansion.TheInside.{Inside}
 
-abbrev pub meaning : Inside → List Symbol
-meaning e = plan_flat (title_of e.shared.value.node.value.name) e.shared.value.node.value.text.items 0 0 0 e.shared.value.node.value.plan.items e.shared.value.used.items
+abbrev pub expansion_symbols : Inside → List Symbol
+expansion_symbols e = plan_flat (title_of e.shared.value.body.value.name) e.shared.value.body.value.bytes.items 0 0 0 e.shared.value.body.value.plan.items e.shared.value.used.items
 
-left_over_falls : (used : List (List Symbol)) → most (λ symbols. length symbols + 1) used ≤ length (left_over used)
-left_over_falls [] = omega arith
-left_over_falls (symbols ∷ rest) = omega (arith, left_over_falls rest, length-append symbols (left_over rest))
+left_over_is_longer : (used : List (List Symbol)) → most (λ symbols. length symbols + 1) used ≤ length (left_over used)
+left_over_is_longer [] = omega arith
+left_over_is_longer (symbols ∷ rest) = omega (arith, left_over_is_longer rest, length-append symbols (left_over rest))
 
-pub plan_falls : (node : Title) (text : List ℕ) (piece marks start : ℕ) (plan : List Step) (used : List (List Symbol))
-    → most (λ symbols. length symbols + 1) used ≤ length (plan_flat node text piece marks start plan used)
-plan_falls node text piece marks start [] used = left_over_falls used
-plan_falls node text piece marks start (step.Open ∷ plan) used = omega (arith, plan_falls node text piece 0 start plan used)
-plan_falls node text piece marks start (step.Run end ∷ plan) used =
+pub plan_is_longer : (node : Title) (bytes : List ℕ) (piece marks start : ℕ) (plan : List Step) (used : List (List Symbol))
+    → most (λ symbols. length symbols + 1) used ≤ length (plan_flat node bytes piece marks start plan used)
+plan_is_longer node bytes piece marks start [] used = left_over_is_longer used
+plan_is_longer node bytes piece marks start (step.Open ∷ plan) used = omega (arith, plan_is_longer node bytes piece 0 start plan used)
+plan_is_longer node bytes piece marks start (step.Run end ∷ plan) used =
     omega (
       arith,
-      plan_falls node text piece marks end plan used,
-      length-append (map Byte (bytes_between text start end)) (plan_flat node text piece marks end plan used),
+      plan_is_longer node bytes piece marks end plan used,
+      length-append (map Byte (bytes_between bytes start end)) (plan_flat node bytes piece marks end plan used),
     )
-plan_falls node text piece marks start (step.Mark ∷ plan) used = omega (arith, plan_falls node text piece (marks + 1) start plan used)
-plan_falls node text piece marks start (step.AllMacros ∷ plan) used = omega (arith, plan_falls node text piece marks start plan used)
-plan_falls node text piece marks start (step.Space ∷ plan) used = omega (arith, plan_falls node text piece marks start plan used)
-plan_falls node text piece marks start (step.Use id ∷ plan) [] = omega arith
-plan_falls node text piece marks start (step.Use id ∷ plan) (symbols ∷ rest) =
-    omega (arith, plan_falls node text piece marks start plan rest, length-append symbols (plan_flat node text piece marks start plan rest))
-plan_falls node text piece marks start (step.Close ∷ plan) used = omega (arith, plan_falls node text (piece + 1) 0 start plan used)
+plan_is_longer node bytes piece marks start (step.Mark ∷ plan) used = omega (arith, plan_is_longer node bytes piece (marks + 1) start plan used)
+plan_is_longer node bytes piece marks start (step.AllMacros ∷ plan) used = omega (arith, plan_is_longer node bytes piece marks start plan used)
+plan_is_longer node bytes piece marks start (step.Space ∷ plan) used = omega (arith, plan_is_longer node bytes piece marks start plan used)
+plan_is_longer node bytes piece marks start (step.Use id ∷ plan) [] = omega arith
+plan_is_longer node bytes piece marks start (step.Use id ∷ plan) (symbols ∷ rest) =
+    omega (arith, plan_is_longer node bytes piece marks start plan rest, length-append symbols (plan_flat node bytes piece marks start plan rest))
+plan_is_longer node bytes piece marks start (step.Close ∷ plan) used = omega (arith, plan_is_longer node bytes (piece + 1) 0 start plan used)

@@ -3,10 +3,10 @@ pub mod Limits
 pub mod Numbers
 pub mod Location
 pub mod Expanded
-pub mod Falls
+pub mod Longer
 pub mod NumbersKept
-pub mod TextLimits
+pub mod SymbolLimits
 pub mod Kept
 pub mod Outputs
-pub mod MacroTexts
-pub mod PieceRows
+pub mod MacroBytes
+pub mod NumberRows

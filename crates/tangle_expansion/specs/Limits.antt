@@ -1,4 +1,4 @@
--- The limits, and what is said at them.
+-- The limits of weight and depth, and what a node expands to within them.
 use Rattle.std.specs.Prelude.{ℕ, List, min}
 use Rattle.tangle_plans.specs.Shapes.{Title, Shapes}
 use Rattle.tangle_plans.specs.Flat.{Symbol, flat, weight, depth}

@@ -1,8 +1,10 @@
--- The section numbers, origins and macro texts of a web, and the text that they make of an expansion.
+-- The section numbers and origins of a web and the bytes of its macros, and the bytes that are written for an expansion by them.
 use Rattle.std.specs.Prelude.{ℕ, ◌==◌, ◌||◌, List, [], ◌∷◌, ◌++◌, map, flat_map, get_or, codes, decimal, unwrap_or, if◌then◌else◌}
 use Rattle.std.specs.Map.{lookup}
 use Rattle.std.specs.Str.{bytes_eq}
 use Rattle.tangle_files.specs.Bytes.{line_feed}
+use Rattle.tangle_lines.specs.Bytes.{double_quote}
+use Rattle.tangle_text.specs.Bytes.{backslash}
 use Rattle.tangle_faults.specs.declared.faults.Origin.{Origin}
 use Rattle.tangle_scan.specs.declared.items.Item.{Item}
 use Rattle.tangle_scan.specs.declared.items.Item.TheVariants as item
@@ -13,14 +15,14 @@ use Rattle.tangle_plans.specs.Flat.{Symbol, Byte, Opening, MarkOf, Closing, AllM
 use Rattle.tangle_plans.specs.WebShapes.{pieces_of}
 use Rattle.tangle_files.specs.declared.marks.MarkMode.{MarkMode}
 use Rattle.tangle_files.specs.declared.marks.MarkMode.TheVariants.{Full, Bare}
-use Rattle.tangle_expansion.specs.MacroTexts.{macro_text}
+use Rattle.tangle_expansion.specs.MacroBytes.{macro_bytes}
 
 -- of a piece the number of its section and the origins of its marks, the opening mark's first
 pub record PieceNumbersRead : Type 0 where
   pub section : ℕ
-  pub marks : List Origin
+  pub origins : List Origin
 
--- what the text of an expansion takes from the web
+-- what is written of a web's expansions beside their symbols
 pub record NumbersRead : Type 0 where
   -- as line marks have them
   pub file_names : List (List ℕ)
@@ -30,14 +32,8 @@ pub record NumbersRead : Type 0 where
   -- how line marks are written
   pub marks : MarkMode
 
-abbrev pub backslash : ℕ
-backslash = 92
-
-abbrev pub quote : ℕ
-quote = 34
-
 abbrev pub escaped_byte : ℕ → List ℕ
-escaped_byte b = if b == backslash || b == quote then backslash ∷ b ∷ [] else b ∷ []
+escaped_byte b = if b == backslash || b == double_quote then backslash ∷ b ∷ [] else b ∷ []
 
 -- a file's name as a line mark has it
 abbrev pub escaped : List ℕ → List ℕ
@@ -47,40 +43,41 @@ abbrev pub item_origins : Item → List Origin
 item_origins (item.LineMark origin) = origin ∷ []
 item_origins _ = []
 
-abbrev pub piece_numbers : PieceRead → PieceNumbersRead
-piece_numbers piece = record { section = piece.section; marks = piece.origin ∷ flat_map item_origins piece.items }
+abbrev pub numbers_of_piece : PieceRead → PieceNumbersRead
+numbers_of_piece piece = record { section = piece.section; origins = piece.origin ∷ flat_map item_origins piece.items }
 
 module _ (web : WebRead) (table : TableRead) where
   abbrev pub name_numbers : List (List ℕ × List PieceNumbersRead)
-  name_numbers = map (λ name. (name, map piece_numbers (pieces_of web table (Named name)))) table.names
+  name_numbers = map (λ name. (name, map numbers_of_piece (pieces_of web table (Named name)))) table.names
 
   abbrev pub numbers_of : MarkMode → NumbersRead
   numbers_of marks = record {
     file_names = map escaped web.file_names;
-    program = map piece_numbers (pieces_of web table Program);
+    program = map numbers_of_piece (pieces_of web table Program);
     names = name_numbers;
-    macros = flat_map (macro_text web.texts) web.macros;
+    macros = flat_map (macro_bytes web.texts) web.macros;
     marks = marks;
   }
 
--- the text of an expansion
+-- the bytes that are written for an expansion
 
-abbrev pub opening_text : ℕ → List ℕ
-opening_text section = codes "/*" ++ decimal section ++ codes ":*/"
+abbrev pub opening_bytes : ℕ → List ℕ
+opening_bytes section = codes "/*" ++ decimal section ++ codes ":*/"
 
-abbrev pub closing_text : ℕ → List ℕ
-closing_text section = codes "/*:" ++ decimal section ++ codes "*/"
+abbrev pub closing_bytes : ℕ → List ℕ
+closing_bytes section = codes "/*:" ++ decimal section ++ codes "*/"
 
-abbrev pub mark_text : List ℕ → ℕ → List ℕ
-mark_text file line = codes "\n#line " ++ decimal line ++ codes " \"" ++ file ++ codes "\"\n"
+-- a line mark that is written in full
+abbrev pub full_mark_bytes : List ℕ → ℕ → List ℕ
+full_mark_bytes file line = codes "\n#line " ++ decimal line ++ codes " \"" ++ file ++ codes "\"\n"
 
--- the text of a line mark: bare it is a line feed
-abbrev pub marked_text : MarkMode → List ℕ → ℕ → List ℕ
-marked_text Full file line = mark_text file line
-marked_text Bare file line = line_feed ∷ []
+-- the bytes of a line mark: bare it is a line feed
+abbrev pub mark_bytes : MarkMode → List ℕ → ℕ → List ℕ
+mark_bytes Full file line = full_mark_bytes file line
+mark_bytes Bare file line = line_feed ∷ []
 
 abbrev pub no_numbers : PieceNumbersRead
-no_numbers = record { section = 0; marks = [] }
+no_numbers = record { section = 0; origins = [] }
 
 abbrev pub no_origin : Origin
 no_origin = record { file = 0; line = 0 }
@@ -95,17 +92,18 @@ module _ (numbers : NumbersRead) where
   numbers_at node piece = get_or (node_numbers node) piece no_numbers
 
   abbrev pub origin_of_mark : Title → ℕ → ℕ → Origin
-  origin_of_mark node piece mark = get_or (numbers_at node piece).marks mark no_origin
+  origin_of_mark node piece mark = get_or (numbers_at node piece).origins mark no_origin
 
-  abbrev pub origin_text : Origin → List ℕ
-  origin_text origin = marked_text numbers.marks (get_or numbers.file_names origin.file []) origin.line
+  -- the bytes of a line mark of this origin
+  abbrev pub mark_bytes_at : Origin → List ℕ
+  mark_bytes_at origin = mark_bytes numbers.marks (get_or numbers.file_names origin.file []) origin.line
 
-  abbrev pub symbol_text : Symbol → List ℕ
-  symbol_text (Byte b) = b ∷ []
-  symbol_text (Opening node piece) = opening_text (numbers_at node piece).section
-  symbol_text (MarkOf node piece mark) = origin_text (origin_of_mark node piece mark)
-  symbol_text (Closing node piece) = closing_text (numbers_at node piece).section
-  symbol_text AllMacros = line_feed ∷ numbers.macros
+  abbrev pub symbol_bytes : Symbol → List ℕ
+  symbol_bytes (Byte b) = b ∷ []
+  symbol_bytes (Opening node piece) = opening_bytes (numbers_at node piece).section
+  symbol_bytes (MarkOf node piece mark) = mark_bytes_at (origin_of_mark node piece mark)
+  symbol_bytes (Closing node piece) = closing_bytes (numbers_at node piece).section
+  symbol_bytes AllMacros = line_feed ∷ numbers.macros
 
-  abbrev pub text : List Symbol → List ℕ
-  text symbols = flat_map symbol_text symbols
+  abbrev pub expansion_bytes : List Symbol → List ℕ
+  expansion_bytes symbols = flat_map symbol_bytes symbols

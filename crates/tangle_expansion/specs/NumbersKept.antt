@@ -1,8 +1,8 @@
--- The numbers as they lie in memory.
+-- The numbers as they are held in memory.
 use Rattle.std.specs.Prelude.{◌≡◌, ℕ, List, [], Option, None, Some, length, map, slice_index_or}
 use Rattle.std.specs.List.{zip}
 use Rattle.tangle_expansion.specs.Numbers.{PieceNumbersRead, NumbersRead}
-use Rattle.tangle_expansion.specs.TextLimits.{SymbolsAreShort}
+use Rattle.tangle_expansion.specs.SymbolLimits.{SymbolsAreShort}
 use Rattle.tangle_expansion.specs.declared.numbers.Numbers.TheInside.{Inside}
 
 abbrev pub numbers_read : Inside → NumbersRead
@@ -14,8 +14,8 @@ numbers_read n = record {
   marks = n.marks;
 }
 
--- each name has its row, and the text of each symbol is short
-pub record IsWellKept (n : Inside) : Type 0 where
+-- each name has its row, and few bytes are written for each symbol
+pub record NumbersInvariant (n : Inside) : Type 0 where
   pub rows : length n.of_names.items ≡ length n.names
   pub short : SymbolsAreShort (numbers_read n)
 

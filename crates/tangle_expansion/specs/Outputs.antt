@@ -1,4 +1,4 @@
--- The text of an output file, and that it is true to the lines of the source.
+-- The bytes of an output file, and that they are true to the lines of the source.
 use Rattle.std.specs.Prelude.{◌≡◌, ◌≤◌, length, true, unwrap_or, IsSome, ℕ, Bool, List, [], ◌∷◌, ◌++◌, map, if◌then◌else◌, None}
 use Rattle.tangle_files.specs.Bytes.{line_feed}
 use Rattle.tangle_lines.specs.Reading.{SourceRead}
@@ -7,22 +7,22 @@ use Rattle.tangle_names.specs.NameTable.{table_of}
 use Rattle.tangle_plans.specs.Shapes.{Title}
 use Rattle.tangle_plans.specs.Flat.{Symbol}
 use Rattle.tangle_expansion.specs.Limits.{levels, heaviest}
-use Rattle.tangle_expansion.specs.Numbers.{NumbersRead, numbers_of, text}
+use Rattle.tangle_expansion.specs.Numbers.{NumbersRead, numbers_of, expansion_bytes}
 use Rattle.tangle_expansion.specs.Kept.{kept_at}
 use Rattle.tangle_files.specs.declared.marks.MarkMode.TheVariants.{Full}
 use Rattle.tangle_plans.specs.declared.nodes.Node.{Node}
 use Rattle.tangle_expansion.specs.declared.kept.Kept.{Kept}
 use Rattle.tangle_expansion.specs.Location.{LocatedSymbol, located, located_shapes, AreAtTheirOrigins}
 
-abbrev pub front_text : NumbersRead → Bool → List ℕ
-front_text numbers has_macros = if has_macros then numbers.macros else []
+abbrev pub front_bytes : NumbersRead → Bool → List ℕ
+front_bytes numbers has_macros = if has_macros then numbers.macros else []
 
--- a file: the macros, if they begin it, and the text of its node and a line feed, if the node has a piece
-abbrev pub file_text : NumbersRead → Bool → Bool → List Symbol → List ℕ
-file_text numbers has_macros has_piece symbols =
-    front_text numbers has_macros ++ (if has_piece then text numbers symbols ++ line_feed ∷ [] else [])
+-- a file: the macros, if they begin it, and what its node expands to and a line feed, if the node has a piece
+abbrev pub output_file_bytes : NumbersRead → Bool → Bool → List Symbol → List ℕ
+output_file_bytes numbers has_macros has_piece symbols =
+    front_bytes numbers has_macros ++ (if has_piece then expansion_bytes numbers symbols ++ line_feed ∷ [] else [])
 
--- an output file: its name, the node whose text it has, whether all macros begin it, and whether the node has a piece
+-- an output file: its name, the node that is written, whether all macros begin it, and whether the node has a piece
 pub record OutputRead : Type 0 where
   pub name : List ℕ
   pub node : Node
@@ -38,15 +38,15 @@ pub record IsReady (output : OutputRead) (kept : Kept) : Type 0 where
   pub there : output.has_piece ≡ true → IsSome (kept_at kept output.node)
   pub light : length (node_symbols kept output.node) ≤ heaviest
 
-abbrev pub output_text : NumbersRead → Kept → OutputRead → List ℕ
-output_text numbers kept output = file_text numbers output.has_macros output.has_piece (node_symbols kept output.node)
+abbrev pub kept_output_bytes : NumbersRead → Kept → OutputRead → List ℕ
+kept_output_bytes numbers kept output = output_file_bytes numbers output.has_macros output.has_piece (node_symbols kept output.node)
 
--- what a node expands to, with where each text is
+-- what a node expands to, with where each item is in the source
 abbrev pub located_of : SourceRead → WebRead → Title → List LocatedSymbol
 located_of source web node = located levels (located_shapes source web (table_of web)) node
 
--- The bytes are the text of what the node expands to, and each byte of a text in it that is in no stretch is at the counted origin
--- that is its own line's, where marks are written in full. In front of a file's first mark no origin is known.
+-- The bytes are those of what the node expands to, and each byte of an item that is in no stretch is at the counted origin that is its
+-- own line's, where marks are written in full. In front of a file's first mark no origin is known.
 pub record IsTrueToLines (source : SourceRead) (web : WebRead) (node : Title) (bytes : List ℕ) : Type 0 where
-  pub written : bytes ≡ text (numbers_of web (table_of web) Full) (map (λ p. p.symbol) (located_of source web node))
+  pub written : bytes ≡ expansion_bytes (numbers_of web (table_of web) Full) (map (λ p. p.symbol) (located_of source web node))
   pub origins : AreAtTheirOrigins (numbers_of web (table_of web) Full) None (located_of source web node)

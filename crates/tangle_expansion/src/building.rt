@@ -1,19 +1,18 @@
 //! Taking the numbers of a web: of each node's pieces the section numbers and the origins of the
 //! marks.
-ghost use Rattle.std.specs.Prelude.{◌≡◌, ◌<◌, ◌^◌, ◌∷◌, ◌++◌, length, map, flat_map, vec_len};
+ghost use Rattle.std.specs.Prelude.{◌≡◌, ◌<◌, ◌^◌, ◌++◌, length, map, flat_map, vec_len};
 ghost use Rattle.std.specs.Prelude.{IfOk, OnOk};
 ghost use Rattle.std.specs.List.{All};
 ghost use Rattle.tangle_names.specs.NameTable.{table_of};
-ghost use Rattle.tangle_plans.specs.Shapes.{Named, Program};
+ghost use Rattle.tangle_plans.specs.Shapes.{Named};
 ghost use Rattle.tangle_plans.specs.WebShapes.{pieces_of};
 ghost use Rattle.tangle_plans.specs.ItemSlots.{pieces_at};
 ghost use Rattle.tangle_plans.specs.Nodes.{IsGroupedBy};
-ghost use Rattle.tangle_expansion.specs.Numbers.{escaped, item_origins};
-ghost use Rattle.tangle_expansion.specs.Numbers.{piece_numbers as numbers_of_piece_read};
-ghost use Rattle.tangle_expansion.specs.Numbers.{numbers_of};
-ghost use Rattle.tangle_expansion.specs.TextLimits.{IsShort, IsLow};
+ghost use Rattle.tangle_expansion.specs.Numbers.{escaped, item_origins, numbers_of};
+ghost use Rattle.tangle_expansion.specs.Numbers.{numbers_of_piece};
+ghost use Rattle.tangle_expansion.specs.SymbolLimits.{IsShort, IsLow};
 
-use crate::macros::macros_text;
+use crate::macros::macros_bytes;
 use crate::node_numbers::{NodeNumbers, PieceNumbers};
 use crate::numbers::Numbers;
 use bstr::ByteSlice;
@@ -22,7 +21,7 @@ use tangle_lines::{MarkMode, NoMemory, Origin};
 use tangle_plans::{Node, PiecesByNode};
 use tangle_scan::{Item, Piece, Web};
 
-/// The same origin, whose line is below 2^32.
+/// The same origin. A `u32` is below 2^32, which the clause says of its line.
 fn low_origin(origin: Origin) -> Origin
     ensures same { result ≡ origin }
     ensures low { IsLow result }
@@ -48,7 +47,7 @@ fn add_origin(origins: &mut Vec<Origin>, item: Item) -> Result<(), NoMemory>
 
 /// The origins of the marks in a piece.
 fn mark_origins(alloc: Global, piece: &Piece) -> Result<Vec<Origin>, NoMemory>
-    ensures are { IfOk result
+    ensures origins { IfOk result
         (λ origins. origins.items ≡ flat_map item_origins piece.now.items) }
     ensures low { IfOk result (λ origins. All IsLow origins.items) }
 {
@@ -64,19 +63,19 @@ fn mark_origins(alloc: Global, piece: &Piece) -> Result<Vec<Origin>, NoMemory>
 
 /// The section number of a piece and the origins of its marks.
 fn numbers_of_piece(alloc: Global, piece: &Piece) -> Result<PieceNumbers, NoMemory>
-    ensures are { IfOk result (λ numbers. numbers ≡ numbers_of_piece_read piece.now) }
+    ensures numbers { IfOk result (λ numbers. numbers ≡ numbers_of_piece piece.now) }
     ensures short { IfOk result IsShort }
 {
     let opening = low_origin(piece.origin());
-    let marks = mark_origins(alloc, piece)?;
-    Ok(PieceNumbers::new(piece.section(), opening, marks))
+    let origins = mark_origins(alloc, piece)?;
+    Ok(PieceNumbers::new(piece.section(), opening, origins))
 }
 
 /// The section and the origins of the marks of each of these pieces of the web.
 fn numbers_of_pieces(alloc: Global, web: &Web, pieces: &[usize]) -> Result<NodeNumbers, NoMemory>
     requires { All (λ n. n < length web.now.pieces) pieces.now }
-    ensures are { IfOk result
-        (λ all. all ≡ map numbers_of_piece_read (pieces_at web.now.pieces pieces.now)) }
+    ensures numbers { IfOk result
+        (λ all. all ≡ map numbers_of_piece (pieces_at web.now.pieces pieces.now)) }
     ensures short { IfOk result (λ all. All IsShort all) }
 {
     if let [piece] = pieces {
@@ -94,16 +93,16 @@ fn numbers_of_pieces(alloc: Global, web: &Web, pieces: &[usize]) -> Result<NodeN
 /// The name of a file, as line marks have it: backslashes and double quotes are escaped.
 // Backslashes first: those that the quotes get are not escaped.
 fn escaped_name(alloc: Global, name: &[u8]) -> Result<Vec<u8>, NoMemory>
-    ensures { IfOk result (λ text. text.items ≡ escaped name.now) }
+    ensures { IfOk result (λ bytes. bytes.items ≡ escaped name.now) }
 {
     let slashed = name.replace(alloc, b"\\", b"\\\\")?;
-    let text = slashed.as_slice().replace(alloc, b"\"", b"\\\"")?;
-    Ok(text)
+    let quoted = slashed.as_slice().replace(alloc, b"\"", b"\\\"")?;
+    Ok(quoted)
 }
 
 /// The names of the files, as line marks have them.
 fn escaped_names(alloc: Global, web: &Web) -> Result<Vec<Vec<u8>>, NoMemory>
-    ensures are { IfOk result
+    ensures names { IfOk result
         (λ names. map (λ n. n.items) names.items ≡ map escaped web.now.file_names) }
     ensures short { IfOk result (λ names. All (λ n. vec_len n < 2 ^ 64) names.items) }
 {
@@ -125,9 +124,9 @@ fn numbers_of_names<S: PiecesByNode>(
     store: &S,
 ) -> Result<Vec<NodeNumbers>, NoMemory>
     requires { IsGroupedBy web.now (table_of web.now) (S.names store.now) (S.pieces store.now) }
-    ensures are { IfOk result (λ rows. rows.items
+    ensures rows { IfOk result (λ rows. rows.items
         ≡ (let table = table_of web.now in
-        map (λ name. map numbers_of_piece_read (pieces_of web.now table (Named name)))
+        map (λ name. map numbers_of_piece (pieces_of web.now table (Named name)))
         table.names)) }
     ensures short { IfOk result (λ rows. All (All IsShort) rows.items) }
 {
@@ -141,8 +140,9 @@ fn numbers_of_names<S: PiecesByNode>(
 }
 
 impl Numbers {
-    /// What the texts of a web's expansions take from it: section numbers, the origins of marks and
-    /// the text of the macros.
+    /// What is written of a web's expansions beside their symbols: section numbers, the origins of
+    /// marks and the bytes of the macros, with line marks written as `marks` says. The store is
+    /// that of the web.
     ///
     /// # Errors
     ///
@@ -160,7 +160,7 @@ impl Numbers {
         let program = numbers_of_pieces(alloc, web, store.piece_numbers(Node::Program))?;
         let names = store.full_names().share()?;
         let of_names = numbers_of_names(alloc, web, store)?;
-        let macros = macros_text(alloc, web)?;
+        let macros = macros_bytes(alloc, web)?;
         Ok(Numbers::new(file_names, program, names, of_names, macros, marks))
     }
 }

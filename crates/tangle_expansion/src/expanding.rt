@@ -34,25 +34,25 @@ fn share_used(used: &mut Vec<Expansion>, step: Step, kept: &Kept) -> Result<(), 
     }
 }
 
-/// The expansion of a node: it shares the node's text and the kept expansions of the names that the
+/// The expansion of a node: it shares the node's body and the kept expansions of the names that the
 /// node uses.
-fn expansion_of(alloc: Global, node: &Rc<NodeBody>, kept: &Kept) -> Result<Expansion, NoMemory>
-    requires { (id : ℕ) → Contains (uses_of node.now.value.plan.items) id
+fn expansion_of(alloc: Global, body: &Rc<NodeBody>, kept: &Kept) -> Result<Expansion, NoMemory>
+    requires { (id : ℕ) → Contains (uses_of body.now.value.plan.items) id
         → IsSome (kept_at kept.now (node_kind.Name id)) }
     ensures { IfOk result (λ e. e ≡ filled (used_symbols kept.now)
-        (slots (title_of node.now.value.name) node.now.value.text.items 0 0 0
-        node.now.value.plan.items)) }
+        (slots (title_of body.now.value.name) body.now.value.bytes.items 0 0 0
+        body.now.value.plan.items)) }
 {
-    let stored: &NodeBody = node;
+    let stored: &NodeBody = body;
     let mut used = Vec::new(alloc);
     for step in &stored.plan {
         share_used(&mut used, *step, kept)?;
     }
-    let node = match node.clone() {
-        Ok(node) => node,
+    let body = match body.clone() {
+        Ok(body) => body,
         Err(_) => return Err(NoMemory),
     };
-    match Rc::new(alloc, SharedExpansion { node, used }) {
+    match Rc::new(alloc, SharedExpansion { body, used }) {
         Ok(shared) => Ok(Expansion { shared }),
         Err(_) => Err(NoMemory),
     }
@@ -63,7 +63,7 @@ fn expansion_of(alloc: Global, node: &Rc<NodeBody>, kept: &Kept) -> Result<Expan
 ///
 /// # Errors
 ///
-/// `NoMemory`, and then the work stays.
+/// `NoMemory`, where an allocation failed; the work is then as before.
 pub fn expand<S: PiecesByNode>(
     alloc: Global,
     store: &S,
@@ -71,11 +71,11 @@ pub fn expand<S: PiecesByNode>(
     kept: &Kept,
     work: &mut Work,
 ) -> Result<Expansion, NoMemory>
-    requires text { IsSome (S.bodies store.now node) }
-    requires kept { (text : NodeBody) → S.bodies store.now node ≡ Some text
-        → (id : ℕ) → Contains (plan_uses text) id → IsSome (kept_at kept.now (node_kind.Name id)) }
-    ensures right { IfOk result (λ e. (text : NodeBody) → S.bodies store.now node ≡ Some text
-        → e ≡ filled (used_symbols kept.now) (plan_slots text)) }
+    requires body { IsSome (S.bodies store.now node) }
+    requires kept { (body : NodeBody) → S.bodies store.now node ≡ Some body
+        → (id : ℕ) → Contains (plan_uses body) id → IsSome (kept_at kept.now (node_kind.Name id)) }
+    ensures right { IfOk result (λ e. (body : NodeBody) → S.bodies store.now node ≡ Some body
+        → e ≡ filled (used_symbols kept.now) (plan_slots body)) }
     ensures listed { OnOk result (work.new ≡ work.old ++ node ∷ []) }
     ensures err { OnErr result (work.new ≡ work.old) }
 {

@@ -1,4 +1,4 @@
-//! Expansions, which share the texts of their nodes and the expansions of the names that they use.
+//! Expansions, which share the bodies of their nodes and the expansions of the names that they use.
 ghost use Rattle.std.specs.Prelude.{◌≡◌, IfOk};
 
 use std::marker::Model;
@@ -16,7 +16,7 @@ pub struct Expansion {
 #[cycle(expansion)]
 #[derive(Drop)]
 pub(crate) struct SharedExpansion {
-    pub(crate) node: Rc<NodeBody>,
+    pub(crate) body: Rc<NodeBody>,
     pub(crate) used: Vec<Expansion>,
 }
 
@@ -26,15 +26,15 @@ impl Model for Expansion {
 
     ghost Value = { List Symbol };
 
-    ghost use Rattle.tangle_expansion.specs.Expanded.{meaning};
+    ghost use Rattle.tangle_expansion.specs.Expanded.{expansion_symbols};
 
-    ghost view = { meaning };
+    ghost view = { expansion_symbols };
 
     ghost size = { length };
 
-    ghost use Rattle.tangle_expansion.specs.Falls.{falls};
+    ghost use Rattle.tangle_expansion.specs.Longer.{is_longer};
 
-    ghost size_decreases = { λ e h. falls e };
+    ghost size_decreases = { λ e h. is_longer e };
 }
 
 impl Expansion {

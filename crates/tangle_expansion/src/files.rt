@@ -2,17 +2,18 @@
 ghost use Rattle.std.specs.Prelude.{◌≡◌, length, IsSome};
 ghost use Rattle.tangle_streams.specs.Streams.{IsWritten};
 ghost use Rattle.tangle_expansion.specs.Kept.{kept_at};
-ghost use Rattle.tangle_expansion.specs.Outputs.{IsReady, front_text, node_symbols, output_text};
+ghost use Rattle.tangle_expansion.specs.Outputs.{IsReady, front_bytes, node_symbols};
+ghost use Rattle.tangle_expansion.specs.Outputs.{kept_output_bytes};
 
 use crate::expansion::Expansion;
 use crate::kept::Kept;
 use crate::numbers::Numbers;
 use std::marker::Model;
-use tangle_lines::{Sink, WriteFault, put};
+use tangle_lines::{Sink, WriteFault, write_after};
 use tangle_plans::Node;
 
-/// An output file of a web: the text of a node, with all macros in front where it is the main file
-/// and no C part has `@h`.
+/// An output file of a web: what a node expands to, written, with all macros in front where it is
+/// the main file and no C part has `@h`.
 #[derive(Drop)]
 pub struct Output {
     name: Vec<u8>,
@@ -36,8 +37,8 @@ impl Model for Output {
 }
 
 impl Output {
-    /// The file of this name with the text of a node: whether all macros begin it, and whether the
-    /// node has a piece.
+    /// The file of this name with the output of a node: whether all macros begin it, and whether
+    /// the node has a piece.
     pub fn new(name: Vec<u8>, node: Node, has_macros: bool, has_piece: bool) -> Output
         ensures { result ≡ record {
           name = name.items;
@@ -55,7 +56,7 @@ impl Output {
         }
     }
 
-    /// The node whose text it has.
+    /// The node whose output it has.
     pub fn node(&self) -> Node
         ensures { result ≡ self.now.node }
     {
@@ -76,7 +77,7 @@ impl Output {
         self.has_macros
     }
 
-    /// Whether its node has a piece; a file without one has no text but the macros.
+    /// Whether its node has a piece; a file without one has nothing but the macros.
     pub fn has_piece(&self) -> bool
         ensures { result ≡ self.now.has_piece }
     {
@@ -84,9 +85,9 @@ impl Output {
     }
 }
 
-/// What is in front of the text of a file's node: the macros, or nothing.
+/// What is in front of the output of a file's node: the macros, or nothing.
 fn front_of<'a>(output: &Output, numbers: &'a Numbers) -> &'a [u8]
-    ensures { result.now ≡ front_text numbers.now output.now.has_macros }
+    ensures { result.now ≡ front_bytes numbers.now output.now.has_macros }
 {
     if output.has_macros() {
         numbers.macros()
@@ -96,15 +97,15 @@ fn front_of<'a>(output: &Output, numbers: &'a Numbers) -> &'a [u8]
 }
 
 /// The expansion that is kept of the node.
-fn expansion_of(kept: &Kept, node: Node) -> &Expansion
+fn kept_expansion(kept: &Kept, node: Node) -> &Expansion
     requires { IsSome (kept_at kept.now node) }
     ensures { result.now ≡ node_symbols kept.now node }
 {
     kept.get(node).unwrap()
 }
 
-/// Writes an output file: the macros, if they begin it, and the text of its node and a line feed,
-/// if the node has a piece. It answers how many bytes the file has.
+/// Writes an output file: the macros, if they begin it, and what its node expands to and a line
+/// feed, if the node has a piece. It returns how many bytes the file has.
 ///
 /// # Errors
 ///
@@ -117,16 +118,16 @@ pub fn write_file<S: Sink>(
 ) -> Result<u128, WriteFault>
     requires { IsReady output.now kept.now }
     ensures { IsWritten (S.stream sink.old) (S.stream sink.new)
-        (output_text numbers.now kept.now output.now) result }
+        (kept_output_bytes numbers.now kept.now output.now) result }
 {
     numbers.symbols_are_short();
-    let begun = put(sink, Ok(0), front_of(output, numbers));
+    let begun = write_after(sink, Ok(0), front_of(output, numbers));
     if !output.has_piece() {
         return begun;
     }
-    let expansion = expansion_of(kept, output.node());
-    let written = expansion.put_text(numbers, sink, begun);
-    put(sink, written, b"\n")
+    let expansion = kept_expansion(kept, output.node());
+    let written = expansion.write_text_after(numbers, sink, begun);
+    write_after(sink, written, b"\n")
 }
 
 /// A sink that takes all bytes and keeps none.
@@ -150,7 +151,7 @@ impl Sink for Discarding {
 /// How many bytes an output file has. It takes no memory.
 pub fn file_size(output: &Output, kept: &Kept, numbers: &Numbers) -> u128
     requires { IsReady output.now kept.now }
-    ensures { result ≡ length (output_text numbers.now kept.now output.now) }
+    ensures { result ≡ length (kept_output_bytes numbers.now kept.now output.now) }
 {
     let mut sink = Discarding {};
     match write_file(output, kept, numbers, &mut sink) {

@@ -28,19 +28,24 @@ impl Kept {
         }
     }
 
-    /// Makes a position for the name with this number, if there is none.
-    fn make_position(&mut self, id: usize) -> Result<(), NoMemory>
+    /// Makes an entry for the name with this number, if there is none.
+    fn make_entry(&mut self, id: usize) -> Result<(), NoMemory>
         ensures { SameKept self.old self.new }
     {
         let size = id.saturating_add(1);
         self.names.reserve(size.saturating_sub(self.names.len()))?;
-        for _position in self.names.len()..size {
+        for _entry in self.names.len()..size {
             self.names.push(None)?;
         }
         Ok(())
     }
 
     /// Keeps this expansion of the node.
+    ///
+    /// # Errors
+    ///
+    /// `NoMemory`, where an allocation failed; all expansions are then as before, and this one is
+    /// dropped.
     pub fn put(&mut self, node: Node, expansion: Expansion) -> Result<(), NoMemory>
         ensures ok { OnOk result (PutsKept self.old self.new node expansion) }
         ensures err { OnErr result (SameKept self.old self.new) }
@@ -51,7 +56,7 @@ impl Kept {
                 Ok(())
             }
             Node::Name(id) => {
-                self.make_position(id)?;
+                self.make_entry(id)?;
                 if id >= self.names.len() {
                     return Err(NoMemory);
                 }

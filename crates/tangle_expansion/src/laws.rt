@@ -15,7 +15,8 @@ ghost use Rattle.tangle_plans.specs.Flat.{Symbol, flat, weight, depth, pieces_fl
 ghost use Rattle.tangle_plans.specs.Flat.{pieces_weight, pieces_depth};
 ghost use Rattle.tangle_expansion.specs.Affected.{IsExpandable, IsAffected};
 ghost use Rattle.tangle_plans.specs.WebShapes.{shapes, pieces_of, ResolvesInside};
-ghost use Rattle.tangle_expansion.specs.Numbers.{NumbersRead, numbers_of, symbol_text, text};
+ghost use Rattle.tangle_expansion.specs.Numbers.{NumbersRead, numbers_of, symbol_bytes};
+ghost use Rattle.tangle_expansion.specs.Numbers.{expansion_bytes};
 ghost use Rattle.std.specs.List.{AllByRecursion};
 ghost use Rattle.tangle_expansion.specs.Limits.{flat_of, heaviest, IsExpandableNode};
 ghost use Rattle.tangle_expansion.specs.Outputs.{IsTrueToLines};
@@ -30,10 +31,10 @@ pub fn the_weight_is_the_length()
         ≡ length (flat fuel shapes node) }
 {}
 
-/// Without what is said of origins, what is in an output is what its node expands to. Where the
-/// texts of each piece are at their lines, each byte of a text that is in no stretch is at the
+/// Without their classes, the symbols of a node with origins are what the node expands to. Where
+/// the items of each piece are at their lines, each byte of an item that is in no stretch is at the
 /// counted origin that is its own line's, in the whole of an output.
-pub fn texts_are_at_their_origins()
+pub fn bytes_are_at_their_origins()
     ensures symbols { (source : SourceRead) (web : WebRead) (table : TableRead) (fuel : ℕ)
         (node : Title)
         → map (λ (p : LocatedSymbol). p.symbol)
@@ -47,18 +48,19 @@ pub fn texts_are_at_their_origins()
     names_resolve_inside();
 }
 
-/// The text of each node is true to the lines of the source.
-pub fn texts_are_true_to_lines()
+/// The output of each node is true to the lines of the source.
+pub fn outputs_are_true_to_lines()
     ensures { (source : SourceRead) (web : WebRead) (node : Title)
         → PiecesAreAtTheirLines source web
         → IsTrueToLines source web node
-        (text (numbers_of web (table_of web) Full) (flat_of (shapes web (table_of web)) node)) }
+        (expansion_bytes (numbers_of web (table_of web) Full)
+        (flat_of (shapes web (table_of web)) node)) }
 {
-    texts_are_at_their_origins();
+    bytes_are_at_their_origins();
 }
 
 /// A node that is expandable now and is not affected was expandable before, with the same symbols:
-/// whatever was redefined, resolved otherwise, renumbered, or made or broken as a cycle.
+/// whatever was redefined, resolved otherwise, renumbered, or became a cycle or none.
 pub fn unaffected_nodes_stay()
     ensures { (levels limit : ℕ) (old new : Shapes) (node : Title)
         → IsExpandable levels limit new node → ¬ (IsAffected levels limit old new node)
@@ -103,8 +105,8 @@ pub fn used_names_are_expandable()
     the_weight_is_the_length();
 }
 
-/// What an expandable node expands to has no more symbols than the limit of weight, which is all
-/// that its writing asks for.
+/// What an expandable node expands to has no more symbols than the limit of weight, as writing it
+/// requires.
 pub fn expandable_nodes_are_light()
     ensures { (shapes : Shapes) (node : Title) → IsExpandableNode shapes node
         → length (flat_of shapes node) ≤ heaviest }
@@ -126,11 +128,11 @@ pub fn filled_plans_are_right()
         ≡ flat levels (shapes web table) node }
 {}
 
-/// The text of a node has at most so many bytes for each symbol, and no more symbols than the node
-/// weighs.
-pub fn texts_are_short()
+/// At most so many bytes are written for each symbol of a node, and the node has no more symbols
+/// than it weighs.
+pub fn outputs_are_short()
     ensures { (numbers : NumbersRead) (shapes : Shapes) (node : Title) (fuel limit most : ℕ)
         → weight fuel shapes node ≤ limit → AllByRecursion
-        (λ symbol. length (symbol_text numbers symbol) ≤ most) (flat fuel shapes node)
-        → length (text numbers (flat fuel shapes node)) ≤ limit * most }
+        (λ symbol. length (symbol_bytes numbers symbol) ≤ most) (flat fuel shapes node)
+        → length (expansion_bytes numbers (flat fuel shapes node)) ≤ limit * most }
 {}

@@ -1,8 +1,8 @@
 //! What nodes of a web expand to: expansions, which share, and their writing.
 //!
-//! [`expand`] makes the expansion of a node, of what is kept of it and of the expansions of the names
-//! that it uses. [`write_text`] writes an expansion, with the section numbers and origins of a web,
-//! its [`Numbers`].
+//! [`expand`] makes the expansion of a node from its body and the kept expansions of the names that
+//! it uses. [`write_text`] writes an expansion, with the section numbers and origins of a web, its
+//! [`Numbers`].
 #![tactic(auto)]
 
 mod building;
@@ -22,8 +22,8 @@ pub use expansion::Expansion;
 pub use files::{Output, file_size, write_file};
 pub use kept::Kept;
 pub use laws::{
-    expandable_nodes_are_light, expandable_nodes_reach_no_cycle, filled_plans_are_right,
-    nodes_expand_by_uses, texts_are_at_their_origins, texts_are_short, texts_are_true_to_lines,
+    bytes_are_at_their_origins, expandable_nodes_are_light, expandable_nodes_reach_no_cycle,
+    filled_plans_are_right, nodes_expand_by_uses, outputs_are_short, outputs_are_true_to_lines,
     the_weight_is_the_length, unaffected_nodes_stay, used_names_are_expandable,
 };
 pub use numbers::Numbers;

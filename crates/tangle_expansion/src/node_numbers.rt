@@ -12,7 +12,7 @@ use tangle_lines::Origin;
 pub(crate) struct PieceNumbers {
     section: usize,
     opening: Origin,
-    marks: Vec<Origin>,
+    origins: Vec<Origin>,
 }
 
 impl Model for PieceNumbers {
@@ -21,38 +21,40 @@ impl Model for PieceNumbers {
 
     ghost Value = { PieceNumbersRead };
 
-    ghost view = { λ p. record { section = p.section; marks = p.opening ∷ p.marks.items } };
+    ghost view = { λ p. record { section = p.section; origins = p.opening ∷ p.origins.items } };
 }
 
 impl PieceNumbers {
-    /// The numbers of a piece of this section with these marks behind the opening one.
-    pub(crate) fn new(section: usize, opening: Origin, marks: Vec<Origin>) -> Self
-        ensures { result ≡ record { section = section; marks = opening ∷ marks.items } }
+    /// The numbers of a piece of this section, with the origins of its opening mark and of the
+    /// marks after it.
+    pub(crate) fn new(section: usize, opening: Origin, origins: Vec<Origin>) -> Self
+        ensures { result ≡ record { section = section; origins = opening ∷ origins.items } }
     {
         PieceNumbers {
             section,
             opening,
-            marks,
+            origins,
         }
     }
 
     /// The origin of the mark with this number, the opening one first.
     fn mark(&self, number: usize) -> Origin
-        ensures { result ≡ get_or self.now.marks number no_origin }
+        ensures { result ≡ get_or self.now.origins number no_origin }
     {
         if number == 0 {
             return self.opening;
         }
-        match self.marks.get(number - 1) {
+        match self.origins.get(number - 1) {
             Some(origin) => *origin,
             None => Origin { file: 0, line: 0 },
         }
     }
 }
 
-/// The numbers of the pieces in a row. Most nodes have one piece, which takes no memory of its own.
+/// The numbers of a node's pieces: one, which takes no memory of its own, as most nodes have, or
+/// several.
 #[derive(Drop)]
-pub(crate) enum PiecesInRow {
+pub(crate) enum PieceNumbersRow {
     One(PieceNumbers),
     Several(Vec<PieceNumbers>),
 }
@@ -60,17 +62,17 @@ pub(crate) enum PiecesInRow {
 /// The numbers of a node's pieces.
 #[derive(Drop)]
 pub(crate) struct NodeNumbers {
-    row: PiecesInRow,
+    row: PieceNumbersRow,
 }
 
 impl Model for NodeNumbers {
     ghost use Rattle.std.specs.Prelude.{List};
     ghost use Rattle.tangle_expansion.specs.Numbers.{PieceNumbersRead};
-    ghost use Rattle.tangle_expansion.specs.PieceRows.{pieces_read};
+    ghost use Rattle.tangle_expansion.specs.NumberRows.{numbers_in_row};
 
     ghost Value = { List PieceNumbersRead };
 
-    ghost view = { λ n. pieces_read n.row };
+    ghost view = { λ n. numbers_in_row n.row };
 }
 
 impl NodeNumbers {
@@ -79,7 +81,7 @@ impl NodeNumbers {
         ensures { result ≡ piece ∷ [] }
     {
         NodeNumbers {
-            row: PiecesInRow::One(piece),
+            row: PieceNumbersRow::One(piece),
         }
     }
 
@@ -88,7 +90,7 @@ impl NodeNumbers {
         ensures { result ≡ pieces.items }
     {
         NodeNumbers {
-            row: PiecesInRow::Several(pieces),
+            row: PieceNumbersRow::Several(pieces),
         }
     }
 
@@ -97,8 +99,8 @@ impl NodeNumbers {
         ensures { result.now ≡ self.now }
     {
         match &self.row {
-            PiecesInRow::One(piece) => from_ref(piece),
-            PiecesInRow::Several(pieces) => pieces.as_slice(),
+            PieceNumbersRow::One(piece) => from_ref(piece),
+            PieceNumbersRow::Several(pieces) => pieces.as_slice(),
         }
     }
 }
@@ -114,8 +116,8 @@ pub(crate) fn section_at(pieces: &[PieceNumbers], piece: usize) -> usize
 }
 
 /// The origin of a mark of a piece.
-pub(crate) fn origin_at(pieces: &[PieceNumbers], piece: usize, mark: usize) -> Origin
-    ensures { result ≡ get_or (get_or pieces.now piece no_numbers).marks mark no_origin }
+pub(crate) fn mark_origin_at(pieces: &[PieceNumbers], piece: usize, mark: usize) -> Origin
+    ensures { result ≡ get_or (get_or pieces.now piece no_numbers).origins mark no_origin }
 {
     match pieces.get(piece) {
         Some(numbers) => numbers.mark(mark),

@@ -1,18 +1,18 @@
-//! The section numbers, origins and macro texts of a web.
+//! The section numbers and origins of a web, and the bytes of its macros.
 ghost use Rattle.std.specs.Prelude.{◌≡◌, ◌<◌, ◌^◌, [], get_or, length, map, vec_len};
 ghost use Rattle.std.specs.List.{All, zip};
 ghost use Rattle.tangle_plans.specs.Meaning.{title_of};
 ghost use Rattle.tangle_expansion.specs.Numbers.{node_numbers};
 ghost use Rattle.tangle_expansion.specs.NumbersKept.{row_found};
-ghost use Rattle.tangle_expansion.specs.TextLimits.{IsShort, SymbolsAreShort};
+ghost use Rattle.tangle_expansion.specs.SymbolLimits.{IsShort, SymbolsAreShort};
 
 use crate::node_numbers::{NodeNumbers, PieceNumbers};
 use std::marker::Model;
 use tangle_lines::{MarkMode, Origin};
 use tangle_names::Names;
 
-/// What the texts of a web's expansions take from it: section numbers, origins and the text of the
-/// macros.
+/// What is written of a web's expansions beside their symbols: section numbers, origins and the
+/// bytes of the macros.
 #[derive(Drop)]
 pub struct Numbers {
     file_names: Vec<Vec<u8>>,
@@ -26,17 +26,18 @@ pub struct Numbers {
 
 impl Model for Numbers {
     ghost use Rattle.tangle_expansion.specs.Numbers.{NumbersRead};
-    ghost use Rattle.tangle_expansion.specs.NumbersKept.{IsWellKept, numbers_read};
+    ghost use Rattle.tangle_expansion.specs.NumbersKept.{NumbersInvariant, numbers_read};
 
     ghost Value = { NumbersRead };
 
     ghost view = { numbers_read };
 
-    ghost invariant = { λ n. IsWellKept n };
+    ghost invariant = { λ n. NumbersInvariant n };
 }
 
 impl Numbers {
-    /// Numbers of these symbols.
+    /// Numbers of these file names, of the program's and the names' pieces, of these macros, with
+    /// marks written so.
     pub(crate) fn new(
         file_names: Vec<Vec<u8>>,
         program: NodeNumbers,
@@ -58,6 +59,7 @@ impl Numbers {
           marks = marks;
         } }
     {
+        // A length is below 2^64: that bounds the macros.
         let _bytes = macros.len();
         Numbers {
             file_names,
@@ -69,7 +71,7 @@ impl Numbers {
         }
     }
 
-    /// The text of each symbol is short.
+    /// Called for its clause, which the invariant says: few bytes are written for each symbol.
     pub(crate) fn symbols_are_short(&self)
         ensures { SymbolsAreShort self.now }
     {
@@ -103,7 +105,7 @@ impl Numbers {
         self.marks
     }
 
-    /// The text of the macros.
+    /// The bytes of the macros.
     pub(crate) fn macros(&self) -> &[u8]
         ensures { result.now ≡ self.now.macros }
     {

@@ -38,7 +38,7 @@ impl Work {
         self.nodes.len() as u64
     }
 
-    /// Notes that the node was expanded.
+    /// Adds a node that was expanded.
     pub(crate) fn add(&mut self, node: Node) -> Result<(), NoMemory>
         ensures ok { OnOk result (self.new ≡ self.old ++ node ∷ []) }
         ensures err { OnErr result (self.new ≡ self.old) }

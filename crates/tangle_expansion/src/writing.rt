@@ -1,22 +1,22 @@
-//! Writing the text of an expansion.
-ghost use Rattle.std.specs.Prelude.{◌≡◌, ◌+◌, ◌-◌, ◌^◌, ◌<◌, ◌≤◌, ◌++◌, decimal, drop, length};
-ghost use Rattle.tangle_streams.specs.Streams.{IsWritten, IsWrittenBehind};
+//! Writing an expansion.
+ghost use Rattle.std.specs.Prelude.{◌≡◌, ◌+◌, ◌^◌, ◌<◌, ◌≤◌, ◌++◌, decimal, drop, length};
+ghost use Rattle.tangle_streams.specs.Streams.{IsWritten, IsWrittenAfter};
 ghost use Rattle.tangle_expansion.specs.Limits.{heaviest};
-ghost use Rattle.tangle_plans.specs.Meaning.{title_of, bytes_between, is_use as is_use_step};
-ghost use Rattle.tangle_plans.specs.Meaning.{pieces_passed, marks_passed, bytes_passed};
-ghost use Rattle.tangle_plans.specs.Meaning.{own_symbols, before_use, behind_use};
-ghost use Rattle.tangle_expansion.specs.Numbers.{node_numbers, opening_text, closing_text};
-ghost use Rattle.tangle_expansion.specs.Numbers.{mark_text, origin_text, text};
+ghost use Rattle.tangle_plans.specs.Meaning.{title_of, bytes_between, is_use_step};
+ghost use Rattle.tangle_plans.specs.Meaning.{pieces_after_step, marks_after_step, bytes_after_step};
+ghost use Rattle.tangle_plans.specs.Meaning.{own_symbols, before_use, after_use};
+ghost use Rattle.tangle_expansion.specs.Numbers.{node_numbers, opening_bytes, closing_bytes};
+ghost use Rattle.tangle_expansion.specs.Numbers.{full_mark_bytes, mark_bytes_at, expansion_bytes};
 
 use crate::expansion::{Expansion, SharedExpansion};
-use crate::node_numbers::{PieceNumbers, origin_at, section_at};
+use crate::node_numbers::{PieceNumbers, mark_origin_at, section_at};
 use crate::numbers::Numbers;
 use itoa::Buffer;
-use tangle_lines::{MarkMode, Origin, Sink, WriteFault, put};
-use tangle_plans::{NodeBody, Step, bytes_behind, marks_behind, pieces_behind};
+use tangle_lines::{MarkMode, Origin, Sink, WriteFault, write_after};
+use tangle_plans::{NodeBody, Step, bytes_after_step, marks_after_step, pieces_after_step};
 
-/// Where the writing of a plan is: behind so many steps, so many pieces, so many marks of this
-/// piece, and so many bytes of the text.
+/// Where the writing of a plan is: after so many steps, so many pieces, so many marks of this
+/// piece, and so many of the body's bytes.
 #[derive(Clone, Copy, Debug)]
 struct Cursor {
     step: usize,
@@ -28,7 +28,7 @@ struct Cursor {
 }
 
 /// Where the writing of a plan begins.
-fn first() -> Cursor
+fn first_cursor() -> Cursor
     ensures step { result.step ≡ 0 }
     ensures piece { result.piece ≡ 0 }
     ensures marks { result.marks ≡ 0 }
@@ -42,91 +42,92 @@ fn first() -> Cursor
     }
 }
 
-/// Writes a number with these bytes before and behind it.
+/// Writes a number with these bytes before and after it.
 #[inline(always)]
-fn put_between<S: Sink>(
+fn write_between<S: Sink>(
     before: &[u8],
     number: usize,
-    behind: &[u8],
+    after: &[u8],
     sink: &mut S,
     so_far: Result<u128, WriteFault>,
 ) -> Result<u128, WriteFault>
-    ensures { IsWrittenBehind (S.stream sink.old) (S.stream sink.new)
-        so_far (before.now ++ decimal number ++ behind.now) result }
+    ensures { IsWrittenAfter (S.stream sink.old) (S.stream sink.new)
+        so_far (before.now ++ decimal number ++ after.now) result }
 {
     let mut digits = Buffer::new();
-    let opened = put(sink, so_far, before);
-    let numbered = put(sink, opened, digits.format(number).as_bytes());
-    put(sink, numbered, behind)
+    let opened = write_after(sink, so_far, before);
+    let numbered = write_after(sink, opened, digits.format(number).as_bytes());
+    write_after(sink, numbered, after)
 }
 
 /// Writes the opening of a piece.
-fn put_opening<S: Sink>(
+fn write_opening<S: Sink>(
     section: usize,
     sink: &mut S,
     so_far: Result<u128, WriteFault>,
 ) -> Result<u128, WriteFault>
-    ensures { IsWrittenBehind (S.stream sink.old) (S.stream sink.new)
-        so_far (opening_text section) result }
+    ensures { IsWrittenAfter (S.stream sink.old) (S.stream sink.new)
+        so_far (opening_bytes section) result }
 {
-    put_between(b"/*", section, b":*/", sink, so_far)
+    write_between(b"/*", section, b":*/", sink, so_far)
 }
 
 /// Writes the closing of a piece.
-fn put_closing<S: Sink>(
+fn write_closing<S: Sink>(
     section: usize,
     sink: &mut S,
     so_far: Result<u128, WriteFault>,
 ) -> Result<u128, WriteFault>
-    ensures { IsWrittenBehind (S.stream sink.old) (S.stream sink.new)
-        so_far (closing_text section) result }
+    ensures { IsWrittenAfter (S.stream sink.old) (S.stream sink.new)
+        so_far (closing_bytes section) result }
 {
-    put_between(b"/*:", section, b"*/", sink, so_far)
+    write_between(b"/*:", section, b"*/", sink, so_far)
 }
 
 /// Writes a line mark in full.
-fn put_full_mark<S: Sink>(
+fn write_full_mark<S: Sink>(
     file: &[u8],
     line: u32,
     sink: &mut S,
     so_far: Result<u128, WriteFault>,
 ) -> Result<u128, WriteFault>
-    ensures { IsWrittenBehind (S.stream sink.old) (S.stream sink.new)
-        so_far (mark_text file.now line) result }
+    ensures { IsWrittenAfter (S.stream sink.old) (S.stream sink.new)
+        so_far (full_mark_bytes file.now line) result }
 {
     let mut digits = Buffer::new();
-    let opened = put(sink, so_far, b"\n#line ");
-    let numbered = put(sink, opened, digits.format(line).as_bytes());
-    let quoted = put(sink, numbered, b" \"");
-    let named = put(sink, quoted, file);
-    put(sink, named, b"\"\n")
+    let opened = write_after(sink, so_far, b"\n#line ");
+    let numbered = write_after(sink, opened, digits.format(line).as_bytes());
+    let quoted = write_after(sink, numbered, b" \"");
+    let named = write_after(sink, quoted, file);
+    write_after(sink, named, b"\"\n")
 }
 
 /// Writes a line mark.
-fn put_mark<S: Sink>(
+fn write_mark<S: Sink>(
     numbers: &Numbers,
     origin: Origin,
     sink: &mut S,
     so_far: Result<u128, WriteFault>,
 ) -> Result<u128, WriteFault>
-    ensures { IsWrittenBehind (S.stream sink.old) (S.stream sink.new)
-        so_far (origin_text numbers.now origin) result }
+    ensures { IsWrittenAfter (S.stream sink.old) (S.stream sink.new)
+        so_far (mark_bytes_at numbers.now origin) result }
 {
     match numbers.marks() {
-        MarkMode::Full => put_full_mark(numbers.file_name(origin), origin.line, sink, so_far),
-        MarkMode::Bare => put(sink, so_far, b"\n"),
+        MarkMode::Full => write_full_mark(numbers.file_name(origin), origin.line, sink, so_far),
+        MarkMode::Bare => write_after(sink, so_far, b"\n"),
     }
 }
 
-/// The bytes from one position of a text up to another.
-fn between(text: &[u8], start: usize, end: usize) -> &[u8]
-    ensures { result.now ≡ bytes_between text.now start end }
+/// The bytes from one position up to another.
+fn bytes_between(bytes: &[u8], start: usize, end: usize) -> &[u8]
+    ensures { result.now ≡ bytes_between bytes.now start end }
 {
-    let end = if end < text.len() { end } else { text.len() };
-    if start < end { &text[start..end] } else { &[] }
+    let end = if end < bytes.len() { end } else { bytes.len() };
+    if start < end { &bytes[start..end] } else { &[] }
 }
 
-fn is_use(step: Step) -> bool
+/// Whether a step is a use of a name with a piece.
+fn is_use_step(step: Step) -> bool
     ensures { result ≡ is_use_step step }
 {
     match step {
@@ -137,128 +138,128 @@ fn is_use(step: Step) -> bool
 }
 
 /// Writes the symbols of a step that is no use.
-fn put_step<S: Sink>(
+fn write_step<S: Sink>(
     numbers: &Numbers,
-    node: &NodeBody,
+    body: &NodeBody,
     pieces: &[PieceNumbers],
     at: Cursor,
     step: Step,
     sink: &mut S,
     so_far: Result<u128, WriteFault>,
 ) -> Result<u128, WriteFault>
-    requires ours { pieces.now ≡ node_numbers numbers.now (title_of node.now.name) }
-    requires room { at.step + 1 < 2 ^ 64 }
-    ensures { IsWrittenBehind (S.stream sink.old) (S.stream sink.new)
-        so_far (text numbers.now (own_symbols (title_of node.now.name) node.now.text.items at.piece
-        at.marks at.start step)) result }
+    requires ours { pieces.now ≡ node_numbers numbers.now (title_of body.now.name) }
+    requires step { at.step + 1 < 2 ^ 64 }
+    ensures { IsWrittenAfter (S.stream sink.old) (S.stream sink.new)
+        so_far (expansion_bytes numbers.now (own_symbols (title_of body.now.name)
+        body.now.bytes.items at.piece at.marks at.start step)) result }
 {
     match step {
         Step::Open => {
-            let opened = put_opening(section_at(pieces, at.piece), sink, so_far);
-            put_mark(numbers, origin_at(pieces, at.piece, 0), sink, opened)
+            let opened = write_opening(section_at(pieces, at.piece), sink, so_far);
+            write_mark(numbers, mark_origin_at(pieces, at.piece, 0), sink, opened)
         }
-        Step::Run(end) => put(sink, so_far, between(&node.text, at.start, end)),
-        Step::Mark => put_mark(
+        Step::Run(end) => write_after(sink, so_far, bytes_between(&body.bytes, at.start, end)),
+        Step::Mark => write_mark(
             numbers,
-            origin_at(pieces, at.piece, at.marks + 1),
+            mark_origin_at(pieces, at.piece, at.marks + 1),
             sink,
             so_far,
         ),
         Step::AllMacros => {
-            let fed = put(sink, so_far, b"\n");
-            put(sink, fed, numbers.macros())
+            let opened = write_after(sink, so_far, b"\n");
+            write_after(sink, opened, numbers.macros())
         }
-        Step::Space => put(sink, so_far, b" "),
+        Step::Space => write_after(sink, so_far, b" "),
         Step::Use(_) => so_far,
-        Step::Close => put_closing(section_at(pieces, at.piece), sink, so_far),
+        Step::Close => write_closing(section_at(pieces, at.piece), sink, so_far),
     }
 }
 
-/// Where the writing is behind a step.
-fn passed(at: Cursor, step: Step) -> Cursor
+/// Where the writing is after a step.
+fn cursor_after(at: Cursor, step: Step) -> Cursor
     requires { at.step + 1 < 2 ^ 64 }
     ensures step { result.step ≡ at.step + 1 }
-    ensures piece { result.piece ≡ pieces_passed at.piece step }
-    ensures marks { result.marks ≡ marks_passed at.marks step }
-    ensures start { result.start ≡ bytes_passed at.start step }
+    ensures piece { result.piece ≡ pieces_after_step at.piece step }
+    ensures marks { result.marks ≡ marks_after_step at.marks step }
+    ensures start { result.start ≡ bytes_after_step at.start step }
 {
     Cursor {
         step: at.step + 1,
-        piece: pieces_behind(at.piece, step),
-        marks: marks_behind(at.marks, step),
-        start: bytes_behind(at.start, step),
+        piece: pieces_after_step(at.piece, step),
+        marks: marks_after_step(at.marks, step),
+        start: bytes_after_step(at.start, step),
     }
 }
 
 /// Writes the symbols up to the next use, or to the end: where the writing then is.
-fn put_to_use<S: Sink>(
+fn write_to_use<S: Sink>(
     numbers: &Numbers,
-    node: &NodeBody,
+    body: &NodeBody,
     pieces: &[PieceNumbers],
     from: Cursor,
     sink: &mut S,
     so_far: Result<u128, WriteFault>,
 ) -> (Cursor, Result<u128, WriteFault>)
-    requires { pieces.now ≡ node_numbers numbers.now (title_of node.now.name) }
-    ensures puts { IsWrittenBehind (S.stream sink.old) (S.stream sink.new) so_far
-        (text numbers.now (before_use (title_of node.now.name) node.now.text.items from.piece
-        from.marks from.start (drop from.step node.now.plan.items))) result.1 }
-    ensures rest { behind_use from.piece from.marks from.start (drop from.step node.now.plan.items)
+    requires { pieces.now ≡ node_numbers numbers.now (title_of body.now.name) }
+    ensures writes { IsWrittenAfter (S.stream sink.old) (S.stream sink.new) so_far
+        (expansion_bytes numbers.now (before_use (title_of body.now.name) body.now.bytes.items
+        from.piece from.marks from.start (drop from.step body.now.plan.items))) result.1 }
+    ensures rest { after_use from.piece from.marks from.start (drop from.step body.now.plan.items)
         ≡ record {
           piece = result.0.piece;
           marks = result.0.marks;
           start = result.0.start;
           plan =
-              drop result.0.step node.now.plan.items;
+              drop result.0.step body.now.plan.items;
         } }
 {
     let mut at = from;
     let mut so_far = so_far;
-    while at.step < node.plan.len() {
-        let step = node.plan[at.step];
-        if is_use(step) {
-            return (passed(at, step), so_far);
+    while at.step < body.plan.len() {
+        let step = body.plan[at.step];
+        if is_use_step(step) {
+            return (cursor_after(at, step), so_far);
         }
-        so_far = put_step(numbers, node, pieces, at, step, sink, so_far);
-        at = passed(at, step);
+        so_far = write_step(numbers, body, pieces, at, step, sink, so_far);
+        at = cursor_after(at, step);
     }
     (at, so_far)
 }
 
 impl Expansion {
-    /// Writes the text of the expansion after what was written so far, unless that met a fault: how
-    /// many bytes were written in all.
+    /// Writes the text of the expansion after what was written so far, unless that met a fault. It
+    /// returns how many bytes were written in all.
     ///
     /// # Errors
     ///
     /// The fault so far, or `WriteFault(n)` where the sink failed, or took no byte, after `n` bytes
     /// in all.
-    pub fn put_text<S: Sink>(
+    pub fn write_text_after<S: Sink>(
         &self,
         numbers: &Numbers,
         sink: &mut S,
         so_far: Result<u128, WriteFault>,
     ) -> Result<u128, WriteFault>
-        ensures { IsWrittenBehind (S.stream sink.old) (S.stream sink.new)
-            so_far (text numbers.now self.now) result }
+        ensures { IsWrittenAfter (S.stream sink.old) (S.stream sink.new)
+            so_far (expansion_bytes numbers.now self.now) result }
     {
         let shared: &SharedExpansion = &self.shared;
-        let node: &NodeBody = &shared.node;
-        let pieces = numbers.of_node(&node.name);
-        let mut at = first();
+        let body: &NodeBody = &shared.body;
+        let pieces = numbers.of_node(&body.name);
+        let mut at = first_cursor();
         let mut so_far = so_far;
         for used in &shared.used {
-            let (next, before) = put_to_use(numbers, node, pieces, at, sink, so_far);
-            let spaced = put(sink, before, b" ");
-            so_far = used.put_text(numbers, sink, spaced);
+            let (next, before) = write_to_use(numbers, body, pieces, at, sink, so_far);
+            let spaced = write_after(sink, before, b" ");
+            so_far = used.write_text_after(numbers, sink, spaced);
             at = next;
         }
-        let (_, all) = put_to_use(numbers, node, pieces, at, sink, so_far);
+        let (_, all) = write_to_use(numbers, body, pieces, at, sink, so_far);
         all
     }
 }
 
-/// Writes the text of an expansion: how many bytes it has.
+/// Writes the text of an expansion. It returns how many bytes that has.
 ///
 /// # Errors
 ///
@@ -270,8 +271,8 @@ pub fn write_text<S: Sink>(
 ) -> Result<u128, WriteFault>
     requires { length expansion.now ≤ heaviest }
     ensures { IsWritten (S.stream sink.old) (S.stream sink.new)
-        (text numbers.now expansion.now) result }
+        (expansion_bytes numbers.now expansion.now) result }
 {
     numbers.symbols_are_short();
-    expansion.put_text(numbers, sink, Ok(0))
+    expansion.write_text_after(numbers, sink, Ok(0))
 }

@@ -28,7 +28,7 @@ pub enum FaultKind {
     IncludeTooDeep,
     /// Old lines of a change that the lines there do not match. It says how many.
     ChangeMismatch,
-    /// A line behind the 2,000,000 that are read.
+    /// A line after the 2,000,000 that are read.
     SourceTooLong,
     /// A change that was never used: the first of them.
     ChangeUnused,
@@ -66,7 +66,8 @@ pub enum FaultKind {
     Unused,
     /// A section that contains itself. It has the name.
     SelfContaining,
-    /// A section whose text is too large, or without a place the unnamed program.
+    /// A section that weighs too much or is too deep; the unnamed program where the fault has no
+    /// place.
     TooLarge,
     /// A file to be written that has the main file's name. It has the name.
     FileClash,
@@ -133,7 +134,7 @@ impl Place {
     }
 }
 
-/// A fault of the sources: what it is, its place, and the name or the number that its text has.
+/// A fault of the sources: what it is, its place, and the name or the number that its message has.
 #[derive(Drop)]
 pub struct Fault {
     kind: FaultKind,
@@ -161,7 +162,7 @@ impl Fault {
     ///
     /// # Errors
     ///
-    /// `NoMemory`.
+    /// `NoMemory`, where an allocation failed.
     pub fn at(alloc: Global, kind: FaultKind, file: &[u8], line: u32) -> Result<Self, NoMemory>
         ensures { IfOk result (λ f. f ≡ fault_at kind (record { file = file.now; line = line })) }
     {
@@ -176,7 +177,7 @@ impl Fault {
     ///
     /// # Errors
     ///
-    /// `NoMemory`.
+    /// `NoMemory`, where an allocation failed.
     pub fn about(
         alloc: Global,
         kind: FaultKind,
@@ -198,7 +199,7 @@ impl Fault {
     ///
     /// # Errors
     ///
-    /// `NoMemory`.
+    /// `NoMemory`, where an allocation failed.
     pub fn counting(
         alloc: Global,
         kind: FaultKind,
@@ -241,14 +242,14 @@ impl Fault {
         self.place.as_ref()
     }
 
-    /// The file or the name that it is about: no bytes where its text has none.
+    /// The file or the name that it is about: no bytes where its message has none.
     pub fn subject(&self) -> &[u8]
         ensures { result.now ≡ self.now.subject }
     {
         self.subject.as_slice()
     }
 
-    /// The number that its text has, or 0.
+    /// The number that its message has, or 0.
     pub fn count(&self) -> usize
         ensures { result ≡ self.now.count }
     {
@@ -264,7 +265,11 @@ impl Fault {
 }
 
 /// Adds a fault at a line to the others.
-pub fn note(
+///
+/// # Errors
+///
+/// `NoMemory`, where an allocation failed; then no fault is added.
+pub fn add_fault(
     alloc: Global,
     kind: FaultKind,
     file: &[u8],

@@ -1,12 +1,12 @@
 -- Bytes are cut at the first line feed, and a line at its last byte that is no space.
-use Rattle.std.proofs.Common.{◌≡◌, ℕ, zero, suc, ◌<◌, ◌≤◌, ◌==◌, Bool, true, false, cond, List, [], ◌∷◌, length, get_or, take, drop, refl, ap, sym, ◌∙◌, arith, Some, None, ◌+◌, ◌-◌, ◌++◌, ◌||◌, map, length-drop, length-append, append_assoc}
-use Rattle.std.specs.Prelude.{nat_lt, position}
-use Rattle.std.specs.List.{list_any, position_or_len, before_first}
+use Rattle.std.proofs.Common.{◌≡◌, ℕ, zero, suc, ◌<◌, ◌≤◌, ◌==◌, Bool, true, false, cond, List, [], ◌∷◌, length, get_or, take, drop, refl, ap, sym, ◌∙◌, arith, ◌+◌, ◌-◌, ◌++◌, ◌||◌, map, length-drop, length-append, append_assoc}
+use Rattle.std.specs.Prelude.{nat_lt}
+use Rattle.std.specs.List.{list_any}
 use Rattle.std.proofs.lemmas.List.{take_all, drop_all, drop-drop, take-take, length-take}
-use borrow.Author.Tests.{ltb-true, ltb-false}
+use borrow.Author.Tests.{ltb-true}
 use Rattle.tangle_files.specs.Lines.{raw_lines, trimmed, cut, before_first_line, before_trimmed}
 use Rattle.tangle_files.specs.Adding.{is_too_long, longest_line, most_lines}
-use Rattle.tangle_files.specs.Sharing.{part_of}
+use Rattle.tangle_files.specs.Sharing.{slice_of}
 
 -- a byte that is no line feed joins the first line
 raw_lines-cons : (b : ℕ) (bs : List ℕ) → (b == 10) ≡ false → raw_lines (b ∷ bs) ≡ before_first_line b (raw_lines bs)
@@ -56,25 +56,6 @@ length-raw_lines (b ∷ bs) = by (b == 10) (length-raw_lines bs)
         grow [] h = omega arith
         grow (l ∷ ls) h = omega arith
 
--- where an element passes, and where none does
-module _ {X : Type 0} (p : X → Bool) (xs : List X) where
-  pub position-some : (n : ℕ) → Some n ≡ position p xs → (position_or_len p xs ≡ n) × (n < length xs)
-  position-some n e = by (nat_lt (position_or_len p xs) (length xs)) refl e
-    where
-      by : (b : Bool) → nat_lt (position_or_len p xs) (length xs) ≡ b → Some n ≡ cond b (Some (position_or_len p xs)) None → (position_or_len p xs ≡ n) × (n < length xs)
-      by true t e =
-          let same : n ≡ position_or_len p xs = cc in
-          let below : position_or_len p xs < length xs = ltb-true (position_or_len p xs) (length xs) t in
-          (sym same, omega arith)
-      by false t e = cc
-
-  pub before_first-none : None ≡ position p xs → before_first p xs ≡ xs
-  before_first-none e = by (nat_lt (position_or_len p xs) (length xs)) refl e
-    where
-      by : (b : Bool) → nat_lt (position_or_len p xs) (length xs) ≡ b → None ≡ cond b (Some (position_or_len p xs)) None → before_first p xs ≡ xs
-      by true t e = cc
-      by false t e = take_all (position_or_len p xs) xs (omega (arith, ltb-false (position_or_len p xs) (length xs) t))
-
 -- a line without its trailing spaces is a beginning of it
 pub trimmed_is_front : (bs : List ℕ) → take (length (trimmed bs)) bs ≡ trimmed bs
 trimmed_is_front [] = refl
@@ -85,7 +66,7 @@ trimmed_is_front (b ∷ bs) = by (trimmed bs) (trimmed_is_front bs) (b == 32) re
     by [] e false is = ap (λ l. take (length l) (b ∷ bs)) (ap (λ t. cond t [] (b ∷ [])) is) ∙ sym (ap (λ t. cond t [] (b ∷ [])) is)
     by (c ∷ cs) e s is = ap (λ l. b ∷ l) e
 
--- the first line behind a position, with its line feed and without one
+-- the first line after a position, with its line feed and without one
 pub line_with_feed : (bs rest : List ℕ) (start n : ℕ) → rest ≡ drop start bs → n < length rest → ((k : ℕ) → k < n → (get_or rest k 0 == 10) ≡ false)
     → (get_or rest n 0 == 10) ≡ true
     → raw_lines (drop start bs) ≡ take (start + n - start) (drop start bs) ∷ raw_lines (drop (start + n + 1) bs)
@@ -131,13 +112,13 @@ not_too_long n h = by (nat_lt longest_line n) refl
 pub one_more_line : (text line : List ℕ) (start end : ℕ) (lines next : List (List ℕ))
     → raw_lines (drop start text) ≡ take (end - start) (drop start text) ∷ raw_lines (drop (end + 1) text)
     → line ≡ trimmed (take (end - start) (drop start text)) → length line ≤ longest_line → start ≤ end → end ≤ length text → length lines < most_lines
-    → next ≡ lines ++ part_of text start (length line) ∷ []
+    → next ≡ lines ++ slice_of text start (length line) ∷ []
     → IsCutUpTo text start lines → IsCutUpTo text (end + 1) next
-one_more_line text line start end lines next raw is size low high room more h =
+one_more_line text line start end lines next raw is size low high below_limit more h =
     let whole = take (end - start) (drop start text) in
     let rest = cut (drop (end + 1) text) in
     let fits : length line ≤ end - start = omega (arith, ap length is, trimmed_shorter whole, length-take (end - start) (drop start text)) in
-    let shared : part_of text start (length line) ≡ trimmed whole
+    let shared : slice_of text start (length line) ≡ trimmed whole
     = sym (take-take (length line) (end - start) (drop start text) fits) ∙ ap (λ m. take (length m) whole) is ∙ trimmed_is_front whole in
     let lines_here : cut (drop start text) ≡ trimmed whole ∷ rest = ap (map trimmed) raw in
     let fine : is_too_long (trimmed whole) ≡ false = ap is_too_long (sym is) ∙ not_too_long (length line) size in
@@ -145,6 +126,6 @@ one_more_line text line start end lines next raw is size low high room more h =
       made = ap (λ l. l ++ rest) more ∙ ap (λ p. (lines ++ p ∷ []) ++ rest) shared ∙ append_assoc lines (trimmed whole ∷ []) rest
           ∙ ap (λ l. lines ++ l) (sym lines_here) ∙ h.made;
       short = ap (λ b. b || list_any is_too_long rest) (sym fine) ∙ ap (list_any is_too_long) (sym lines_here) ∙ h.short;
-      few = omega (arith, room, ap length more, length-append lines (part_of text start (length line) ∷ []));
+      few = omega (arith, below_limit, ap length more, length-append lines (slice_of text start (length line) ∷ []));
       within = omega (arith, high);
     }

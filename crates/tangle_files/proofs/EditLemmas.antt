@@ -8,7 +8,7 @@ use Rattle.std.proofs.lemmas.List.{append_assoc, take-append-drop, take-set, dro
 use Rattle.std.proofs.lemmas.Map.Steps.{set_value_same}
 use Rattle.tangle_files.specs.Lines.{lines_of}
 use Rattle.tangle_files.specs.Table.{SharedLines, Table, file_of, files_of}
-use Rattle.tangle_files.specs.Edited.{spliced, with_lines_changed}
+use Rattle.tangle_files.specs.Edited.{spliced, with_lines_edited}
 use Rattle.tangle_files.proofs.TableLemmas.{lines_of-entries}
 
 map-set_value : (name : List ℕ) (es : List (Vec ℕ Global × SharedLines)) (w : SharedLines)
@@ -31,15 +31,15 @@ lines_of-found t name v found = rw (lines_of-entries, ← found) refl
 pub lines_of-absent : (t : Table) (name : List ℕ) → None ≡ lookup (λ k. bytes_eq name k.items) t.entries → lines_of (files_of t) name ≡ None
 lines_of-absent t name found = rw (lines_of-entries, ← found) refl
 
--- lines that are written to the place of others are the lines of their file
-pub files_of-written : (old new : Table) (name : List ℕ) (v w : SharedLines) (change : List (List ℕ) → List (List ℕ))
-    → Some v ≡ lookup (λ k. bytes_eq name k.items) old.entries → w.value.items ≡ change v.value.items
-    → new.entries ≡ set_value (λ k. bytes_eq name k.items) old.entries w → files_of new ≡ with_lines_changed (files_of old) name change
-files_of-written old new name v w change found is written =
+-- lines that replace others in the table are the lines of their file
+pub files_of-written : (old new : Table) (name : List ℕ) (v w : SharedLines) (splice : List (List ℕ) → List (List ℕ))
+    → Some v ≡ lookup (λ k. bytes_eq name k.items) old.entries → w.value.items ≡ splice v.value.items
+    → new.entries ≡ set_value (λ k. bytes_eq name k.items) old.entries w → files_of new ≡ with_lines_edited (files_of old) name splice
+files_of-written old new name v w splice found is written =
     rw (lines_of-found old name v found)
     (ap (map file_of) written ∙ map-set_value name old.entries w ∙ ap (set_value (bytes_eq name) (files_of old)) is)
 
--- the same lines that are written to the place of others change nothing
+-- lines that replace equal ones change nothing
 pub files_of-same : (old new : Table) (name : List ℕ) (v w : SharedLines)
     → Some v ≡ lookup (λ k. bytes_eq name k.items) old.entries → w.value.items ≡ v.value.items
     → new.entries ≡ set_value (λ k. bytes_eq name k.items) old.entries w → files_of new ≡ files_of old

@@ -16,7 +16,7 @@ use Rattle.tangle_files.specs.declared.refusal.Refusal.TheVariants.{BadName, Fil
 use Rattle.tangle_files.specs.Lines.{FileTable, lines_of, trimmed}
 use Rattle.tangle_files.specs.Adding.{is_name, has_file, most_files, most_lines, HasDistinctNames, IsWithinLimits}
 use Rattle.tangle_files.specs.Edits.{create_refusal, edit_refusal, insert_refusal, is_line_number, or_else, refusal_if, refusal_in, replace_refusal, text_refusal}
-use Rattle.tangle_files.specs.Edited.{edited, spliced, with_lines_changed}
+use Rattle.tangle_files.specs.Edited.{edited, spliced, with_lines_edited}
 use Rattle.tangle_files.proofs.TableLemmas.{distinct-with_file, last_few, none_from_is_some}
 
 -- where neither of two refusals applies
@@ -43,14 +43,14 @@ numbered at last h =
     (leb-true 1 at parts.0, leb-true at last parts.1)
 
 -- the lines of a file of which an edit is not refused
-found : (o : Option (List (List ℕ))) (within : List (List ℕ) → Option Refusal) → None ≡ option_map_or within o (Some UnknownFile)
-    → (lines : List (List ℕ)) × ((o ≡ Some lines) × (None ≡ within lines))
-found None within h = absurd (cc)
-found (Some lines) within h = (lines, (refl, h))
+found : (o : Option (List (List ℕ))) (of_lines : List (List ℕ) → Option Refusal) → None ≡ option_map_or of_lines o (Some UnknownFile)
+    → (lines : List (List ℕ)) × ((o ≡ Some lines) × (None ≡ of_lines lines))
+found None of_lines h = absurd (cc)
+found (Some lines) of_lines h = (lines, (refl, h))
 
-found_in : (files : FileTable) (name : List ℕ) (within : List (List ℕ) → Option Refusal) → None ≡ refusal_in files name within
-    → (lines : List (List ℕ)) × ((lines_of files name ≡ Some lines) × (None ≡ within lines))
-found_in files name within h = found (lines_of files name) within (both_none (refusal_if (not (is_name name)) BadName) _ h).1
+found_in : (files : FileTable) (name : List ℕ) (of_lines : List (List ℕ) → Option Refusal) → None ≡ refusal_in files name of_lines
+    → (lines : List (List ℕ)) × ((lines_of files name ≡ Some lines) × (None ≡ of_lines lines))
+found_in files name of_lines h = found (lines_of files name) of_lines (both_none (refusal_if (not (is_name name)) BadName) _ h).1
 
 abbrev HasFewLines : (List ℕ × List (List ℕ)) → Type 0
 HasFewLines file = length file.1 ≤ most_lines
@@ -69,14 +69,14 @@ few-set_value (f ∷ fs) name lines few h = by (bytes_eq name f.0) rest (few-set
     by false old changed zero d l = h 0 d (omega arith)
     by false old changed (suc k) d l = changed k d (omega arith)
 
--- a change that leaves few enough lines keeps the limits
-within-changed : (files : FileTable) (name : List ℕ) (change : List (List ℕ) → List (List ℕ)) (lines : List (List ℕ))
-    → lines_of files name ≡ Some lines → length (change lines) ≤ most_lines → IsWithinLimits files → IsWithinLimits (with_lines_changed files name change)
-within-changed files name change lines is few within =
+-- a splicing that leaves few enough lines keeps the limits
+within-spliced : (files : FileTable) (name : List ℕ) (splice : List (List ℕ) → List (List ℕ)) (lines : List (List ℕ))
+    → lines_of files name ≡ Some lines → length (splice lines) ≤ most_lines → IsWithinLimits files → IsWithinLimits (with_lines_edited files name splice)
+within-spliced files name splice lines is few within =
     rw is (record {
-      count = rw (length-set_value (bytes_eq name) files (change lines)) within.count;
-      names = subst (IsDistinct bytes_eq) (sym (keys-set_value (bytes_eq name) files (change lines))) within.names;
-      lines = few-set_value files name (change lines) few within.lines;
+      count = rw (length-set_value (bytes_eq name) files (splice lines)) within.count;
+      names = subst (IsDistinct bytes_eq) (sym (keys-set_value (bytes_eq name) files (splice lines))) within.names;
+      lines = few-set_value files name (splice lines) few within.lines;
     })
 
 few_lines-found : (files : FileTable) (name : List ℕ) (lines : List (List ℕ)) → lines_of files name ≡ Some lines → All HasFewLines files → length lines ≤ most_lines
@@ -139,24 +139,24 @@ distinct-remove_entry (f ∷ fs) name h =
     by false others later = (others, later)
 
 -- the lengths that edits of lines leave
-room_to_insert : (lines : List (List ℕ)) (at : ℕ) (text : List ℕ) → None ≡ insert_refusal lines at text
+few_after_insert : (lines : List (List ℕ)) (at : ℕ) (text : List ℕ) → None ≡ insert_refusal lines at text
     → length (spliced lines (at - 1) (trimmed text ∷ []) (at - 1)) ≤ most_lines
-room_to_insert lines at text h =
+few_after_insert lines at text h =
     let first = both_none (refusal_if (not (is_line_number at (length lines + 1))) NoSuchLine) _ h in
     let second = both_none (text_refusal text) _ first.1 in
     let number = numbered at (length lines + 1) first.0 in
-    let room = leb-false most_lines (length lines) (not_refused _ TooManyLines (sym second.1)) in
-    omega (arith, number, room, length-spliced lines (at - 1) (trimmed text ∷ []) (at - 1) (omega (arith, number)))
+    let below_limit = leb-false most_lines (length lines) (not_refused _ TooManyLines (sym second.1)) in
+    omega (arith, number, below_limit, length-spliced lines (at - 1) (trimmed text ∷ []) (at - 1) (omega (arith, number)))
 
-room_to_remove : (lines : List (List ℕ)) (at : ℕ) → length lines ≤ most_lines → None ≡ refusal_if (not (is_line_number at (length lines))) NoSuchLine
+few_after_remove : (lines : List (List ℕ)) (at : ℕ) → length lines ≤ most_lines → None ≡ refusal_if (not (is_line_number at (length lines))) NoSuchLine
     → length (spliced lines (at - 1) [] at) ≤ most_lines
-room_to_remove lines at few h =
+few_after_remove lines at few h =
     let number = numbered at (length lines) (sym h) in
     omega (arith, number, few, length-spliced lines (at - 1) [] at (omega (arith, number)))
 
-room_to_replace : (lines : List (List ℕ)) (at : ℕ) (text : List ℕ) → length lines ≤ most_lines → None ≡ replace_refusal lines at text
+few_after_replace : (lines : List (List ℕ)) (at : ℕ) (text : List ℕ) → length lines ≤ most_lines → None ≡ replace_refusal lines at text
     → length (spliced lines (at - 1) (trimmed text ∷ []) at) ≤ most_lines
-room_to_replace lines at text few h =
+few_after_replace lines at text few h =
     let first = both_none (refusal_if (not (is_line_number at (length lines))) NoSuchLine) _ h in
     let number = numbered at (length lines) first.0 in
     omega (arith, number, few, length-spliced lines (at - 1) (trimmed text ∷ []) at (omega (arith, number)))
@@ -166,9 +166,9 @@ within-created files name h within =
     let first = both_none (refusal_if (not (is_name name)) BadName) _ h in
     let second = both_none (refusal_if (has_file files name) FileExists) _ first.1 in
     let absent = none_from_is_some (lines_of files name) (not_refused _ FileExists second.0) in
-    let room = leb-false most_files (length files) (not_refused _ TooManyFiles (sym second.1)) in
+    let below_limit = leb-false most_files (length files) (not_refused _ TooManyFiles (sym second.1)) in
     record {
-      count = omega (arith, room, length-append files ((name, []) ∷ []));
+      count = omega (arith, below_limit, length-append files ((name, []) ∷ []));
       names = distinct-with_file files name [] absent within.names;
       lines = All-append HasFewLines files _ within.lines (last_few (name, []) (omega arith));
     }
@@ -177,15 +177,15 @@ within-created files name h within =
 pub IsWithinLimits-edited : (files : FileTable) (edit : Edit) → None ≡ edit_refusal files edit → IsWithinLimits files → IsWithinLimits (edited files edit)
 IsWithinLimits-edited files (Insert file at text) h within =
     let lines = found_in files file.items (λ lines. insert_refusal lines at text.items) h in
-    within-changed files file.items (λ lines. spliced lines (at - 1) (trimmed text.items ∷ []) (at - 1)) lines.0 lines.1.0 (room_to_insert lines.0 at text.items lines.1.1) within
+    within-spliced files file.items (λ lines. spliced lines (at - 1) (trimmed text.items ∷ []) (at - 1)) lines.0 lines.1.0 (few_after_insert lines.0 at text.items lines.1.1) within
 IsWithinLimits-edited files (Remove file at) h within =
     let lines = found_in files file.items (λ lines. refusal_if (not (is_line_number at (length lines))) NoSuchLine) h in
     let few = few_lines-found files file.items lines.0 lines.1.0 within.lines in
-    within-changed files file.items (λ lines. spliced lines (at - 1) [] at) lines.0 lines.1.0 (room_to_remove lines.0 at few lines.1.1) within
+    within-spliced files file.items (λ lines. spliced lines (at - 1) [] at) lines.0 lines.1.0 (few_after_remove lines.0 at few lines.1.1) within
 IsWithinLimits-edited files (Replace file at text) h within =
     let lines = found_in files file.items (λ lines. replace_refusal lines at text.items) h in
     let few = few_lines-found files file.items lines.0 lines.1.0 within.lines in
-    within-changed files file.items (λ lines. spliced lines (at - 1) (trimmed text.items ∷ []) at) lines.0 lines.1.0 (room_to_replace lines.0 at text.items few lines.1.1) within
+    within-spliced files file.items (λ lines. spliced lines (at - 1) (trimmed text.items ∷ []) at) lines.0 lines.1.0 (few_after_replace lines.0 at text.items few lines.1.1) within
 IsWithinLimits-edited files (Create file) h within = within-created files file.items h within
 IsWithinLimits-edited files (Discard file) h within =
     record {

@@ -3,7 +3,6 @@ use Rattle.std.proofs.Common.{◌≡◌, ℕ, zero, suc, ◌+◌, ◌||◌, Bool
 use Rattle.indexmap.specs.IndexMap.{insert_entry}
 use Rattle.tangle_files.specs.Adding.{is_name, has_file, most_files, most_lines, is_too_long, add_refusal, name_refusal, cut_refusal, with_file, HasDistinctNames, IsWithinLimits}
 use Rattle.std.specs.Option.{option_map}
-use Rattle.tangle_files.specs.declared.refusal.Refusal.{Refusal}
 use Rattle.tangle_files.specs.declared.refusal.Refusal.TheVariants.{BadName, FileExists, TooManyFiles}
 use Rattle.std.specs.Prelude.{position, nat_lt, nat_le, length, slice_get, ◌≤◌}
 use Rattle.std.specs.List.{position_or_len, list_any, All, AllZip, IsDistinct}
@@ -42,7 +41,7 @@ none_from_is_some (Some x) h = absurd (true≢false h)
 -- what is known of an accepted file
 pub record IsAccepted (files : FileTable) (name bytes : List ℕ) : Type 0 where
   pub absent : lines_of files name ≡ None
-  pub room : nat_le most_files (length files) ≡ false
+  pub below_limit : nat_le most_files (length files) ≡ false
   pub short : list_any is_too_long (cut bytes) ≡ false
   pub few : nat_lt most_lines (length (cut bytes)) ≡ false
 
@@ -50,22 +49,12 @@ pub accepted : (files : FileTable) (name bytes : List ℕ) → None ≡ add_refu
 accepted files name bytes h =
     let named = none_from_cond (not (is_name name)) _ _ (sym h) in
     let new = none_from_cond (has_file files name) _ _ named.1 in
-    let room = none_from_cond (nat_le most_files (length files)) _ _ new.1 in
-    let short = none_from_cond (list_any is_too_long (cut bytes)) _ _ room.1 in
+    let below_limit = none_from_cond (nat_le most_files (length files)) _ _ new.1 in
+    let short = none_from_cond (list_any is_too_long (cut bytes)) _ _ below_limit.1 in
     let few = none_from_cond (nat_lt most_lines (length (cut bytes))) _ _ short.1 in
-    record { absent = none_from_is_some (lines_of files name) new.0; room = room.0; short = short.0; few = few.0 }
+    record { absent = none_from_is_some (lines_of files name) new.0; below_limit = below_limit.0; short = short.0; few = few.0 }
 
--- a refusal of an addition is that of its name, or that of its lines
-pub refused_by_name : (files : FileTable) (name bytes : List ℕ) (refusal : Refusal) → name_refusal files name ≡ Some refusal → add_refusal files name bytes ≡ Some refusal
-refused_by_name files name bytes refusal h = by (not (is_name name)) (has_file files name) (nat_le most_files (length files)) h
-  where
-    by : (bad there full : Bool) → cond bad (Some BadName) (cond there (Some FileExists) (cond full (Some TooManyFiles) None)) ≡ Some refusal
-        → cond bad (Some BadName) (cond there (Some FileExists) (cond full (Some TooManyFiles) (cut_refusal bytes))) ≡ Some refusal
-    by true there full h = h
-    by false true full h = h
-    by false false true h = h
-    by false false false h = absurd (cc)
-
+-- where its name does not refuse a file, its lines may
 pub refused_by_lines : (files : FileTable) (name bytes : List ℕ) → name_refusal files name ≡ None → add_refusal files name bytes ≡ cut_refusal bytes
 refused_by_lines files name bytes h = by (not (is_name name)) (has_file files name) (nat_le most_files (length files)) h
   where
@@ -117,7 +106,7 @@ IsWithinLimits-none = record { count = omega arith; names = tt; lines = λ k d h
 pub IsWithinLimits-with_file : (files : FileTable) (name bytes : List ℕ) → None ≡ add_refusal files name bytes → IsWithinLimits files → IsWithinLimits (with_file files name bytes)
 IsWithinLimits-with_file files name bytes h within =
     let a = accepted files name bytes h in
-    let room = leb-false most_files (length files) a.room in
+    let below_limit = leb-false most_files (length files) a.below_limit in
     let few = ltb-false most_lines (length (cut bytes)) a.few in
     record {
       count = omega (arith, length-append files ((name, cut bytes) ∷ []));
@@ -142,7 +131,7 @@ files_of-clone (e ∷ es) [] h = absurd h
 files_of-clone (e ∷ es) (f ∷ fs) h =
     λ i. (AllZip-same e.0.items f.0.items h.0.0.0 i, (h.0.1 i).items) ∷ files_of-clone es fs h.1 i
 
--- a new file goes last
+-- a new file is the last
 pub map-insert_entry : (es : List (Vec ℕ Global × SharedLines)) (k : Vec ℕ Global) (v : SharedLines)
     → lines_of (map file_of es) k.items ≡ None
     → map file_of (insert_entry (λ x y. bytes_eq x.items y.items) es k v) ≡ map file_of es ++ (k.items, v.value.items) ∷ []

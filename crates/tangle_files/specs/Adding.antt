@@ -7,7 +7,7 @@ use Rattle.tangle_files.specs.declared.refusal.Refusal.TheVariants.{BadName, Fil
 use Rattle.tangle_files.specs.Bytes.{line_feed}
 use Rattle.tangle_files.specs.Lines.{FileTable, lines_of, cut}
 
--- the most bytes of a file's name and of a line, and the most files and lines of a file
+-- the most bytes of a file's name and of a line, the most files of a table, and the most lines of a file
 abbrev pub longest_name : ℕ
 longest_name = 255
 
@@ -30,7 +30,7 @@ has_file files name = is_some (lines_of files name)
 abbrev pub is_too_long : List ℕ → Bool
 is_too_long line = nat_lt longest_line (length line)
 
--- what of a name refuses a file, and what of its lines
+-- why a file of this name is refused, and why its lines are
 abbrev pub name_refusal : FileTable → List ℕ → Option Refusal
 name_refusal files name =
     if not (is_name name) then Some BadName

@@ -8,20 +8,20 @@ use Rattle.tangle_files.specs.declared.edits.Edit.TheVariants.{Insert, Remove, R
 use Rattle.tangle_files.specs.Lines.{FileTable, lines_of, trimmed}
 use Rattle.tangle_files.specs.Roles.{RolesRead}
 
--- the lines with new ones in place of those between two positions
+-- the lines, with those between two positions replaced by new ones
 abbrev pub spliced : List (List ℕ) → ℕ → List (List ℕ) → ℕ → List (List ℕ)
 spliced lines start new_lines end = take start lines ++ new_lines ++ drop end lines
 
--- the files, of which the one of this name has its lines changed
-abbrev pub with_lines_changed : FileTable → List ℕ → (List (List ℕ) → List (List ℕ)) → FileTable
-with_lines_changed files name change = option_map_or (λ lines. set_value (bytes_eq name) files (change lines)) (lines_of files name) files
+-- the files, with the lines of the one of this name spliced
+abbrev pub with_lines_edited : FileTable → List ℕ → (List (List ℕ) → List (List ℕ)) → FileTable
+with_lines_edited files name splice = option_map_or (λ lines. set_value (bytes_eq name) files (splice lines)) (lines_of files name) files
 
--- the files after an edit: a text becomes the line of its number, or goes, or replaces it; a new file has no
--- lines and is the last; one that is discarded closes up
+-- the files after an edit: a text becomes the line of its number or replaces it, or that line is removed; a new file
+-- has no lines and is the last; those after a discarded one move up by one
 abbrev pub edited : FileTable → Edit → FileTable
-edited files (Insert file at text) = with_lines_changed files file.items (λ lines. spliced lines (at - 1) (trimmed text.items ∷ []) (at - 1))
-edited files (Remove file at) = with_lines_changed files file.items (λ lines. spliced lines (at - 1) [] at)
-edited files (Replace file at text) = with_lines_changed files file.items (λ lines. spliced lines (at - 1) (trimmed text.items ∷ []) at)
+edited files (Insert file at text) = with_lines_edited files file.items (λ lines. spliced lines (at - 1) (trimmed text.items ∷ []) (at - 1))
+edited files (Remove file at) = with_lines_edited files file.items (λ lines. spliced lines (at - 1) [] at)
+edited files (Replace file at text) = with_lines_edited files file.items (λ lines. spliced lines (at - 1) (trimmed text.items ∷ []) at)
 edited files (Create file) = files ++ (file.items, []) ∷ []
 edited files (Discard file) = remove_entry (bytes_eq file.items) files
 edited files (Marks mode) = files

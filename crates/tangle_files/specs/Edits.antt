@@ -29,7 +29,7 @@ text_refusal text =
     else if is_too_long (trimmed text) then Some LineTooLong
     else None
 
--- a line may be inserted behind the last one too
+-- a line may be inserted after the last one too
 abbrev pub insert_refusal : List (List ℕ) → ℕ → List ℕ → Option Refusal
 insert_refusal lines at text =
     or_else (refusal_if (not (is_line_number at (length lines + 1))) NoSuchLine)
@@ -45,7 +45,7 @@ create_refusal files name =
 
 -- the refusals of a name, then of a file that isn't there, then those among its lines
 abbrev pub refusal_in : FileTable → List ℕ → (List (List ℕ) → Option Refusal) → Option Refusal
-refusal_in files name within = or_else (refusal_if (not (is_name name)) BadName) (option_map_or within (lines_of files name) (Some UnknownFile))
+refusal_in files name of_lines = or_else (refusal_if (not (is_name name)) BadName) (option_map_or of_lines (lines_of files name) (Some UnknownFile))
 
 -- the first refusal that applies to an edit
 abbrev pub edit_refusal : FileTable → Edit → Option Refusal

@@ -41,8 +41,8 @@ abbrev pub file_number : FileTable → List ℕ → Option ℕ
 file_number files name = position (λ f. bytes_eq name f.0) files
 
 -- the same, or a number that no file has
-abbrev pub number_of : FileTable → List ℕ → ℕ
-number_of files name = unwrap_or (file_number files name) (length files)
+abbrev pub file_number_or_count : FileTable → List ℕ → ℕ
+file_number_or_count files name = unwrap_or (file_number files name) (length files)
 
 -- the name and the lines of the file of this number: a number that no file has gives none
 abbrev pub name_at : FileTable → ℕ → List ℕ

@@ -15,7 +15,7 @@ pub record RolesRead : Type 0 where
   pub out : List ℕ
   pub marks : MarkMode
 
--- the roles of these names: line marks are written in full until that is set otherwise
+-- the roles of these names: line marks are written in full until that is changed
 abbrev pub roles_of : List ℕ → Option (List ℕ) → List ℕ → RolesRead
 roles_of web change out = record { web = web; change = change; out = out; marks = Full }
 

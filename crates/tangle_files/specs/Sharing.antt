@@ -1,4 +1,4 @@
--- Lines that share a text: each is a part of it.
+-- Lines that share a text: each is a slice of it.
 use Rattle.std.specs.Prelude.{ℕ, ◌+◌, ◌*◌, ◌^◌, List, take, drop}
 
 -- a position in a text, by its low 32 bits and those above them
@@ -6,5 +6,5 @@ abbrev pub position_of : ℕ → ℕ → ℕ
 position_of low high = low + high * 2 ^ 32
 
 -- so many bytes of a text from a position on
-abbrev pub part_of : List ℕ → ℕ → ℕ → List ℕ
-part_of text position size = take size (drop position text)
+abbrev pub slice_of : List ℕ → ℕ → ℕ → List ℕ
+slice_of text position size = take size (drop position text)

@@ -12,11 +12,11 @@ use Rattle.tangle_files.specs.Lines.{FileTable}
 abbrev pub SharedLines : Type 0
 SharedLines = Rc (Vec (List ℕ) Global) Global
 
--- the table as it lies in memory
+-- the table in memory
 abbrev pub Table : Type 0
 Table = IndexMap (Vec ℕ Global) SharedLines (BuildHasherDefault FoldHasher)
 
--- a file without where it lies in memory
+-- a file: its name and its lines
 abbrev pub file_of : (Vec ℕ Global × SharedLines) → (List ℕ × List (List ℕ))
 file_of e = (e.0.items, e.1.value.items)
 

@@ -4,7 +4,7 @@ ghost use Rattle.std.specs.Prelude.{drop, None, unwrap_or, IfErr, IfOk, IfSome, 
 ghost use Rattle.std.specs.List.{list_any};
 ghost use Rattle.tangle_files.specs.Lines.{raw_lines, trimmed, cut};
 ghost use Rattle.tangle_files.specs.Adding.{cut_refusal, is_too_long};
-ghost use Rattle.tangle_files.specs.Sharing.{part_of};
+ghost use Rattle.tangle_files.specs.Sharing.{slice_of};
 
 use crate::files::MOST_LINES;
 use crate::line::{Line, MOST_POSITIONS};
@@ -16,7 +16,7 @@ use std::rc::Rc;
 /// The most bytes of a line.
 pub(crate) const LONGEST_LINE: usize = 65_535;
 
-/// What adding a file has to know of its lines before it cuts them.
+/// What decides whether the lines of a file are within the limits.
 #[derive(Clone, Copy)]
 pub(crate) struct LineMeasure {
     /// Whether a line is longer than the limit.
@@ -64,7 +64,7 @@ pub(crate) fn cut_lines(alloc: Global, bytes: Vec<u8>) -> Result<Vec<Line>, Refu
     }
 }
 
-/// Why the bytes were not cut: lack of memory, if their lines are within the limits.
+/// Why the bytes were not cut: `NoMemory`, if their lines are within the limits.
 fn why_not_cut(bytes: &[u8]) -> Refusal
     ensures { result ≡ unwrap_or (cut_refusal bytes.now) Refusal.NoMemory }
 {
@@ -102,6 +102,7 @@ fn share_lines(alloc: Global, text: &Rc<Vec<u8>>) -> Option<Vec<Line>>
 }
 
 /// The bytes of a text.
+// Separate for its clause, which the proof of the loop over the bytes uses.
 fn bytes_of(text: &Rc<Vec<u8>>) -> &[u8]
     ensures { result.now ≡ text.now.value.items }
 {
@@ -118,7 +119,7 @@ fn add_line(
     requires near { start < 2 ^ 48 }
     requires within { start + size ≤ length text.now.value.items }
     ensures { OnOk result (lines.new.items ≡ lines.old.items
-        ++ part_of text.now.value.items start size ∷ []) }
+        ++ slice_of text.now.value.items start size ∷ []) }
 {
     lines.push(Line::new(text.clone()?, start, size))?;
     Ok(())

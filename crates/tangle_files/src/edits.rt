@@ -15,13 +15,13 @@ use crate::refusal::Refusal;
 /// An edit of the files. Lines are counted from 1. The trailing spaces of a text are dropped.
 #[derive(Drop)]
 pub enum Edit {
-    /// The text becomes line `at`, which may be one behind the last.
+    /// The text becomes line `at`, which may be one after the last.
     Insert {
         file: Vec<u8>,
         at: usize,
         text: Vec<u8>,
     },
-    /// Line `at` goes.
+    /// Line `at` is removed.
     Remove {
         file: Vec<u8>,
         at: usize,
@@ -36,18 +36,18 @@ pub enum Edit {
     Create {
         file: Vec<u8>,
     },
-    /// The file goes, and the others close up.
+    /// The file is removed, and those after it move up by one.
     Discard {
         file: Vec<u8>,
     },
-    /// Sets how line marks are written. It changes no file, and is refused only out of memory.
+    /// Sets how line marks are written. It changes no file, and is refused for `NoMemory` alone.
     Marks {
         mode: MarkMode,
     },
 }
 
 impl Files {
-    /// Why an edit is refused, but for lack of memory: the first of these that applies. `BadName`
+    /// Why an edit is refused, except for `NoMemory`: the first of these that applies. `BadName`
     /// for what is no file's name; `FileExists` where a file to be created is there, `UnknownFile`
     /// where another isn't; `NoSuchLine`; `BadLine` for a text with a line feed; `TooManyFiles` at
     /// 256 files; `LineTooLong` for a text of more than 65,535 bytes without its trailing spaces;
@@ -79,10 +79,10 @@ impl Files {
 
     /// The lines of the file of this name, or why there are none to edit.
     fn lines_to_edit(&self, file: &[u8]) -> Result<&[Line], Refusal>
-        ensures ok { (within : List (List ℕ) → Option Refusal)
-            → IfOk result (λ lines. refusal_in self.now file.now within ≡ within lines.now) }
-        ensures err { (within : List (List ℕ) → Option Refusal)
-            → IfErr result (λ refusal. refusal_in self.now file.now within ≡ Some refusal) }
+        ensures ok { (of_lines : List (List ℕ) → Option Refusal)
+            → IfOk result (λ lines. refusal_in self.now file.now of_lines ≡ of_lines lines.now) }
+        ensures err { (of_lines : List (List ℕ) → Option Refusal)
+            → IfErr result (λ refusal. refusal_in self.now file.now of_lines ≡ Some refusal) }
     {
         if !is_file_name(file) {
             return Err(Refusal::BadName);

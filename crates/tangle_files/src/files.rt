@@ -83,8 +83,8 @@ impl Files {
         self.add_owned(name, bytes)
     }
 
-    /// Adds a file as [`Files::add`] does. Its bytes are passed, and its lines share them:
-    /// they are cut in one pass, and not copied.
+    /// Adds a file as [`Files::add`] does, but takes the bytes: they are cut in one pass and not
+    /// copied, and the lines share them.
     ///
     /// # Errors
     ///
@@ -111,7 +111,7 @@ impl Files {
     ///
     /// # Errors
     ///
-    /// `NoMemory`.
+    /// `NoMemory`, where an allocation failed.
     pub fn copy(&self) -> Result<Files, NoMemory>
         ensures { IfOk result (λ copy. copy ≡ self.now) }
     {
@@ -119,9 +119,9 @@ impl Files {
         Ok(Files { table })
     }
 
-    /// Makes an edit. The files keep their order, and one that is discarded closes up. An edit of
-    /// lines changes the list of the lines of its file alone: in place where no other table shares
-    /// it, else a new list is made. [`Edit::Marks`] changes no file.
+    /// Makes an edit. The files keep their order; those after a discarded one move up by one. An
+    /// edit of lines changes the list of the lines of its file alone: in place where no other table
+    /// shares it, else a new list is made. [`Edit::Marks`] changes no file.
     ///
     /// # Errors
     ///
@@ -157,7 +157,7 @@ impl Files {
         None
     }
 
-    /// Why a file is not to be added, but for lack of memory.
+    /// Why a file is not to be added, except for `NoMemory`.
     fn refusal_to_add(&self, name: &[u8], bytes: &[u8]) -> Option<Refusal>
         ensures { result ≡ add_refusal self.now name.now bytes.now }
     {

@@ -10,14 +10,14 @@ mod files;
 mod line;
 mod marks;
 mod refusal;
-mod role_names;
 mod roles;
 mod splicing;
+mod words;
 
 pub use edits::Edit;
 pub use files::{Files, is_file_name};
 pub use line::Line;
 pub use marks::MarkMode;
 pub use refusal::Refusal;
-pub use role_names::Words;
 pub use roles::Roles;
+pub use words::Words;

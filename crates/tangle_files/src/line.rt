@@ -1,16 +1,16 @@
 //! A line, which shares the text of its file.
 ghost use Rattle.std.specs.Prelude.{◌≡◌, ◌+◌, ◌^◌, ◌<◌, ◌≤◌, length, IfOk};
 ghost use Rattle.tangle_files.specs.Adding.{longest_line};
-ghost use Rattle.tangle_files.specs.Sharing.{part_of};
+ghost use Rattle.tangle_files.specs.Sharing.{slice_of};
 
 use std::alloc::AllocError;
 use std::marker::Model;
 use std::rc::Rc;
 
-/// How many positions the low number of a position distinguishes.
+/// A position is `low + high * LOW_POSITIONS`.
 const LOW_POSITIONS: usize = 4_294_967_296;
 
-/// How many positions the two numbers of a position distinguish: more than bytes that fit a memory.
+/// Positions are below this, 2^48: no memory has so many bytes.
 pub(crate) const MOST_POSITIONS: usize = 281_474_976_710_656;
 
 /// A line without its trailing spaces and its line feed: at most 65,535 bytes. It is in a text that
@@ -26,11 +26,11 @@ pub struct Line {
 
 impl Model for Line {
     ghost use Rattle.std.specs.Prelude.{List, ℕ, ◌+◌, ◌≤◌, length};
-    ghost use Rattle.tangle_files.specs.Sharing.{part_of, position_of};
+    ghost use Rattle.tangle_files.specs.Sharing.{slice_of, position_of};
 
     ghost Value = { List ℕ };
 
-    ghost view = { λ l. part_of l.text.value.items (position_of l.low l.high) l.size };
+    ghost view = { λ l. slice_of l.text.value.items (position_of l.low l.high) l.size };
 
     ghost invariant = { λ l. position_of l.low l.high + l.size ≤ length l.text.value.items };
 }
@@ -40,7 +40,7 @@ impl Line {
     pub(crate) fn new(text: Rc<Vec<u8>>, position: usize, size: u16) -> Self
         requires near { position < 2 ^ 48 }
         requires within { position + size ≤ length text.value.items }
-        ensures { result ≡ part_of text.value.items position size }
+        ensures { result ≡ slice_of text.value.items position size }
     {
         Line {
             text,

@@ -5,7 +5,7 @@ use std::alloc::{AllocError, AllocFailed};
 use tangle_streams::NoMemory;
 use thiserror::Error;
 
-/// Why a call is refused. This crate gives the first nine; the later programs need the others.
+/// Why a call is refused. This crate returns the first nine; the crates above it return the others.
 #[derive(Clone, Copy, Debug, PartialEq, Eq, Error)]
 pub enum Refusal {
     /// The name is empty, longer than 255 bytes, or has a line feed.
@@ -32,7 +32,7 @@ pub enum Refusal {
     /// The file has no line of this number.
     #[error("no such line")]
     NoSuchLine,
-    /// A line has a line feed.
+    /// The text of an edit has a line feed.
     #[error("a line feed in a line")]
     BadLine,
     /// No file has the role of the web.

@@ -8,7 +8,7 @@ ghost use Rattle.tangle_files.specs.Roles.{fits as roles_fit, has_file_if_any};
 use crate::files::{Files, is_file_name};
 use crate::marks::MarkMode;
 use crate::refusal::Refusal;
-use crate::role_names::Words;
+use crate::words::Words;
 use std::alloc::Global;
 use std::marker::Model;
 use tangle_streams::NoMemory;
@@ -29,8 +29,8 @@ impl Model for Roles {
 }
 
 impl Roles {
-    /// The roles of these names. Line marks are written in full until [`Roles::set_marks`] says
-    /// otherwise.
+    /// The roles of these names. Line marks are written in full until [`Roles::set_marks`] changes
+    /// that.
     ///
     /// # Errors
     ///

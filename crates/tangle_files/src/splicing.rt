@@ -7,7 +7,7 @@ ghost use Rattle.std.specs.Str.{bytes_eq};
 ghost use Rattle.tangle_files.specs.Lines.{lines_of, trimmed};
 ghost use Rattle.tangle_files.specs.Adding.{is_too_long};
 ghost use Rattle.tangle_files.specs.Edits.{edit_refusal};
-ghost use Rattle.tangle_files.specs.Edited.{edited, spliced, with_lines_changed};
+ghost use Rattle.tangle_files.specs.Edited.{edited, spliced, with_lines_edited};
 ghost use Rattle.tangle_files.specs.Table.{files_of};
 
 use crate::cutting::without_trailing_spaces;
@@ -31,12 +31,12 @@ pub(crate) fn make_edit(
     match edit {
         Edit::Insert { file, at, text } => {
             let line = line_of_text(alloc, text)?;
-            change_lines(table, file, *at - 1, Some(line), *at - 1)
+            splice_lines(table, file, *at - 1, Some(line), *at - 1)
         }
-        Edit::Remove { file, at } => change_lines(table, file, *at - 1, None, *at),
+        Edit::Remove { file, at } => splice_lines(table, file, *at - 1, None, *at),
         Edit::Replace { file, at, text } => {
             let line = line_of_text(alloc, text)?;
-            change_lines(table, file, *at - 1, Some(line), *at)
+            splice_lines(table, file, *at - 1, Some(line), *at)
         }
         Edit::Create { file } => create_file(table, file),
         Edit::Discard { file } => {
@@ -57,9 +57,9 @@ fn line_of_text(alloc: Global, text: &[u8]) -> Result<Line, AllocError>
     Ok(Line::new(shared, 0, bytes.len() as u16))
 }
 
-/// Puts a line, or none, in place of the line between two positions, or of none, in the file of
-/// this name.
-fn change_lines(
+/// Replaces the lines between two positions, one at most, by a line or by none, in the file of this
+/// name.
+fn splice_lines(
     table: &mut IndexMap<Vec<u8>, Rc<Vec<Line>>>,
     file: &[u8],
     start: usize,
@@ -70,7 +70,7 @@ fn change_lines(
     requires within { IfSome (lines_of (files_of table.old) file.now)
         (λ lines. end ≤ length lines) }
     ensures ok { OnOk result (files_of table.new
-        ≡ with_lines_changed (files_of table.old) file.now
+        ≡ with_lines_edited (files_of table.old) file.now
         (λ lines. spliced lines start (option_to_list line) end)) }
     ensures err { OnErr result (files_of table.new ≡ files_of table.old) }
 {
@@ -80,8 +80,8 @@ fn change_lines(
     }
 }
 
-/// Puts a line, or none, in place of the line between two positions, or of none. A list that
-/// another table shares stays as it is, and a new one is made.
+/// Replaces the lines between two positions, one at most, by a line or by none. A list that another
+/// table shares stays as it is, and a new one is made.
 fn splice_shared(
     shared: &mut Rc<Vec<Line>>,
     start: usize,
@@ -135,7 +135,7 @@ fn splice_in_place(
     Ok(())
 }
 
-/// The lines with one, or none, in place of those between two positions.
+/// The lines, with those between two positions replaced by one or by none.
 fn splice(
     alloc: Global,
     lines: &[Line],
@@ -148,16 +148,16 @@ fn splice(
     ensures { IfOk result (λ made. made.items ≡ spliced lines.now start (option_to_list line) end) }
 {
     let mut made = Vec::with_capacity(alloc, start + 1 + (lines.len() - end))?;
-    share_lines(&mut made, &lines[..start])?;
+    append_shares(&mut made, &lines[..start])?;
     if let Some(line) = line {
         made.push(line)?;
     }
-    share_lines(&mut made, &lines[end..])?;
+    append_shares(&mut made, &lines[end..])?;
     Ok(made)
 }
 
-/// Puts more lines behind those that are there. They share the texts of these.
-fn share_lines(made: &mut Vec<Line>, lines: &[Line]) -> Result<(), AllocError>
+/// Adds lines after those that are there. They share the texts of the given ones.
+fn append_shares(made: &mut Vec<Line>, lines: &[Line]) -> Result<(), AllocError>
     ensures { OnOk result (made.new.items ≡ made.old.items ++ lines.now) }
 {
     for line in lines {
@@ -166,7 +166,7 @@ fn share_lines(made: &mut Vec<Line>, lines: &[Line]) -> Result<(), AllocError>
     Ok(())
 }
 
-/// Puts a file without lines behind the others.
+/// Adds a file without lines, as the last one.
 fn create_file(table: &mut IndexMap<Vec<u8>, Rc<Vec<Line>>>, file: &[u8]) -> Result<(), AllocError>
     requires { lines_of (files_of table.old) file.now ≡ None }
     ensures ok { OnOk result (files_of table.new ≡ files_of table.old ++ (file.now, []) ∷ []) }
@@ -179,7 +179,7 @@ fn create_file(table: &mut IndexMap<Vec<u8>, Rc<Vec<Line>>>, file: &[u8]) -> Res
     Ok(())
 }
 
-/// Takes the file of this name out, and the others close up.
+/// Removes the file of this name. Those after it move up by one.
 fn discard_file(table: &mut IndexMap<Vec<u8>, Rc<Vec<Line>>>, file: &[u8])
     ensures { files_of table.new ≡ remove_entry (bytes_eq file.now) (files_of table.old) }
 {

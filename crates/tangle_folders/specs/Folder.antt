@@ -1,4 +1,4 @@
--- A folder: the files that it has, the files that it created, and the count of its failures.
+-- A folder: its files, those that it created, the names that it was asked for and failed at, and the count of its failures.
 use Rattle.std.specs.Prelude.{◌≡◌, ◌⊎◌, ◌<◌, ℕ, ◌==◌, if◌then◌else◌, List, [], ◌∷◌, ◌++◌, Option, Some, None, Result, Ok, Err, ⊤, IsSomeAnd, length, take}
 use Rattle.std.specs.Map.{lookup}
 use Rattle.std.specs.Str.{bytes_eq}
@@ -29,39 +29,39 @@ file_limit = 67108864
 abbrev pub file_bytes : List File → List ℕ → Option (List ℕ)
 file_bytes files name = lookup (bytes_eq name) files
 
--- what a folder answers that reports its files
-abbrev pub Reads : Option (List File) → List ℕ → Result (Vec ℕ Global) FolderFault → Type 0
-Reads None name result = ⊤
-Reads (Some files) name (Ok bytes) = file_bytes files name ≡ Some bytes.items
-Reads (Some files) name (Err Missing) = file_bytes files name ≡ None
-Reads (Some files) name (Err TooBig) = IsSomeAnd (file_bytes files name) (λ bytes. file_limit < length bytes)
-Reads (Some files) name (Err Failed) = ⊤
-Reads (Some files) name (Err NoMemory) = ⊤
+-- what a folder that reports its files answers when it is asked for a file
+abbrev pub IsFileAnswer : Option (List File) → List ℕ → Result (Vec ℕ Global) FolderFault → Type 0
+IsFileAnswer None name result = ⊤
+IsFileAnswer (Some files) name (Ok bytes) = file_bytes files name ≡ Some bytes.items
+IsFileAnswer (Some files) name (Err Missing) = file_bytes files name ≡ None
+IsFileAnswer (Some files) name (Err TooBig) = IsSomeAnd (file_bytes files name) (λ bytes. file_limit < length bytes)
+IsFileAnswer (Some files) name (Err Failed) = ⊤
+IsFileAnswer (Some files) name (Err NoMemory) = ⊤
 
 -- the files created, where they are reported, and these after them
 abbrev pub with_created : Option (List File) → List File → Option (List File)
 with_created None files = None
 with_created (Some old) files = Some (old ++ files)
 
--- the names asked for, where they are reported, and this one after them
-abbrev pub with_asked : Option (List (List ℕ)) → List ℕ → Option (List (List ℕ))
-with_asked None name = None
-with_asked (Some old) name = Some (old ++ name ∷ [])
+-- the names, where they are reported, and this one after them
+abbrev pub with_name_added : Option (List (List ℕ)) → List ℕ → Option (List (List ℕ))
+with_name_added None name = None
+with_name_added (Some old) name = Some (old ++ name ∷ [])
 
--- The name is the last of those asked for. Where memory ran out, it may be left out.
+-- The name is the last of those asked for. At `NoMemory` it may be left out.
 abbrev pub AddsAsked : Option (List (List ℕ)) → Option (List (List ℕ)) → List ℕ → Result (Vec ℕ Global) FolderFault → Type 0
-AddsAsked old new name (Ok bytes) = new ≡ with_asked old name
-AddsAsked old new name (Err Missing) = new ≡ with_asked old name
-AddsAsked old new name (Err TooBig) = new ≡ with_asked old name
-AddsAsked old new name (Err Failed) = new ≡ with_asked old name
-AddsAsked old new name (Err NoMemory) = (new ≡ old) ⊎ (new ≡ with_asked old name)
+AddsAsked old new name (Ok bytes) = new ≡ with_name_added old name
+AddsAsked old new name (Err Missing) = new ≡ with_name_added old name
+AddsAsked old new name (Err TooBig) = new ≡ with_name_added old name
+AddsAsked old new name (Err Failed) = new ≡ with_name_added old name
+AddsAsked old new name (Err NoMemory) = (new ≡ old) ⊎ (new ≡ with_name_added old name)
 
 -- the names at which it failed, where they are reported: this one after them, if that is the answer
 abbrev pub with_failed : Option (List (List ℕ)) → List ℕ → Result (Vec ℕ Global) FolderFault → Option (List (List ℕ))
 with_failed old name (Ok bytes) = old
 with_failed old name (Err Missing) = old
 with_failed old name (Err TooBig) = old
-with_failed old name (Err Failed) = with_asked old name
+with_failed old name (Err Failed) = with_name_added old name
 with_failed old name (Err NoMemory) = old
 
 -- the sink of a folder that reports its files reports its bytes, and has none
@@ -69,7 +69,7 @@ abbrev pub Begins : Option (List File) → Option (List ℕ) → Type 0
 Begins None taken = ⊤
 Begins (Some files) taken = taken ≡ Some []
 
--- the file created last has these bytes in place of its own
+-- the file created last has these bytes instead of its own
 abbrev pub with_last : List File → List ℕ → List File
 with_last [] bytes = []
 with_last (f ∷ []) bytes = (f.0, bytes) ∷ []

@@ -9,9 +9,9 @@ use std::rt::Files;
 use std::{fs, io, str};
 use tangle_streams::{IoSink, Sink};
 
-/// The folder that the program runs in. It says nothing of its files.
+/// The folder that the program runs in. It does not report its files.
 ///
-/// Outputs are buffered, and are flushed when they are closed, so a full disk is found there.
+/// Outputs are buffered, and are flushed when they are closed, so `close` reports a full disk.
 #[derive(Drop)]
 pub struct Disk<'r, R: Files> {
     rt: &'r R,

@@ -1,7 +1,7 @@
 //! What a program reads its files from and writes its outputs to.
 ghost use Rattle.std.specs.Prelude.{◌≡◌, ◌≢◌, ◌∷◌, ◌≤◌, [], IfErr, IfOk, OnErr, OnOk, vec_len};
 ghost use Rattle.tangle_folders.specs.Folder.{AddsAsked, Begins, Closes, ClosesWithin, FolderRead};
-ghost use Rattle.tangle_folders.specs.Folder.{Reads, after_close, after_read, after_refusal};
+ghost use Rattle.tangle_folders.specs.Folder.{IsFileAnswer, after_close, after_read, after_refusal};
 ghost use Rattle.tangle_folders.specs.Folder.{file_limit, with_created, with_failed};
 ghost use Rattle.tangle_folders.specs.declared.folder.FolderFault.TheVariants.{NoMemory};
 
@@ -24,10 +24,8 @@ pub enum FolderFault {
     NoMemory,
 }
 
-/// A place with files, in which a program creates others.
-///
-/// A folder may report its files and what was created in it; what is said of them is said where it
-/// does.
+/// A folder: files that a program reads, and others that it creates. It may report both; clauses on
+/// them hold where it does.
 pub trait Folder {
     /// The writer of a file that was created.
     type Out: Sink + Drop;
@@ -41,9 +39,9 @@ pub trait Folder {
     /// # Errors
     ///
     /// `Missing` where it has no such file, `TooBig` where the file is larger than [`FILE_LIMIT`],
-    /// `NoMemory` where a allocation fails, and `Failed` where the folder failed, which it counts.
+    /// `NoMemory` where an allocation fails, and `Failed` where the folder failed, which it counts.
     fn read_file(&mut self, alloc: Global, name: &[u8]) -> Result<Vec<u8>, FolderFault>
-        ensures answer { Reads (state self.old).files name.now result }
+        ensures answer { IsFileAnswer (state self.old).files name.now result }
         ensures small { IfOk result (λ bytes. vec_len bytes ≤ file_limit) }
         ensures counted { (state self.new).failures ≡ after_read result (state self.old).failures }
         ensures asks { AddsAsked (state self.old).asked (state self.new).asked name.now result }
@@ -52,7 +50,7 @@ pub trait Folder {
         ensures files_stay { (state self.new).files ≡ (state self.old).files }
         ensures created_stay { (state self.new).created ≡ (state self.old).created };
 
-    /// Creates a file without bytes, and gives its writer. Where this is refused, nothing is
+    /// Creates a file without bytes, and returns its writer. Where this is refused, nothing is
     /// created.
     ///
     /// # Errors
@@ -82,8 +80,8 @@ pub trait Folder {
     fn close(&mut self, out: Self::Out) -> Result<(), FolderFault>
         ensures whole { OnOk result
             (Closes (state self.old).created (state self.new).created (Self.Out.stream out).taken) }
-        ensures part { OnErr result (ClosesWithin (state self.old).created (state self.new).created
-            (Self.Out.stream out).taken) }
+        ensures prefix { OnErr result (ClosesWithin (state self.old).created
+            (state self.new).created (Self.Out.stream out).taken) }
         ensures needs_no_memory { IfErr result (λ fault. fault ≢ NoMemory) }
         ensures counted { (state self.new).failures
             ≡ after_close result ((Self.Out.stream out).failures) (state self.old).failures }

@@ -1,14 +1,14 @@
 //! A folder in memory, for tests: it reports its files, and can be made to fail.
 ghost use Rattle.std.specs.Prelude.{◌≡◌, ◌≢◌, ◌⊎◌, ◌≤◌, ◌-◌, ◌∷◌, ◌++◌, ℕ, min, List, [], None};
-ghost use Rattle.std.specs.Prelude.{Some, Err, Option, map, length, true, vec_len};
+ghost use Rattle.std.specs.Prelude.{Some, Err, map, length, true, vec_len};
 ghost use Rattle.std.specs.Prelude.{IfErr, IfOk, IfSome, OnErr, OnOk};
-ghost use Rattle.tangle_streams.specs.Streams.{Takes, counted, one_more_failure};
+ghost use Rattle.tangle_streams.specs.Streams.{Takes, counted_write, one_more_failure};
 ghost use Rattle.std.specs.Option.{option_copied};
-ghost use Rattle.tangle_folders.specs.Folder.{AddsAsked, Reads, after_close, after_read};
+ghost use Rattle.tangle_folders.specs.Folder.{AddsAsked, IsFileAnswer, after_close, after_read};
 ghost use Rattle.tangle_folders.specs.Folder.{after_refusal, file_bytes, file_limit, with_failed};
 ghost use Rattle.tangle_folders.specs.Folder.{with_last};
-ghost use Rattle.tangle_folders.specs.MemoryFolder.{after_call, file_of, held_files, is_due};
-ghost use Rattle.tangle_folders.specs.MemoryFolder.{bytes_of_each};
+ghost use Rattle.tangle_folders.specs.MemoryFolder.{after_call, bytes_of_each, created_file};
+ghost use Rattle.tangle_folders.specs.MemoryFolder.{fails_now, stored_files};
 ghost use Rattle.tangle_folders.specs.declared.folder.FolderFault.TheVariants.{Failed, NoMemory};
 
 use crate::folder::{FILE_LIMIT, Folder, FolderFault};
@@ -23,24 +23,24 @@ pub struct CreatedFile {
     pub bytes: Vec<u8>,
 }
 
-/// A writer in memory, with room for so many bytes; then it fails.
+/// A writer in memory, which takes as many bytes as its capacity; then it fails.
 #[derive(Debug, Drop)]
 pub struct MemorySink {
     bytes: Vec<u8>,
-    room: usize,
+    remaining: usize,
     failures: u64,
 }
 
 impl MemorySink {
-    /// A writer that has no bytes, has room for so many, and has not failed.
-    pub fn new(alloc: Global, room: usize) -> Self
+    /// A writer of this capacity, which has no bytes and has not failed.
+    pub fn new(alloc: Global, capacity: usize) -> Self
         ensures bytes { result.bytes.items ≡ [] }
-        ensures room { result.room ≡ room }
+        ensures remaining { result.remaining ≡ capacity }
         ensures failures { result.failures ≡ 0 }
     {
         MemorySink {
             bytes: Vec::new(alloc),
-            room,
+            remaining: capacity,
             failures: 0,
         }
     }
@@ -56,21 +56,21 @@ impl MemorySink {
 impl Sink for MemorySink {
     ghost stream = { λ sink. record { taken = Some sink.bytes.items; failures = sink.failures } };
 
-    // The clauses of the trait, and that it takes all for which it has room.
+    // The clauses of the trait, and that it takes as many bytes as its capacity allows.
     fn take(&mut self, bytes: &[u8]) -> Option<usize>
         ensures within { IfSome result (λ n. n ≤ length bytes.now) }
         ensures reported { Takes (Some self.old.bytes.items) (Some self.new.bytes.items) bytes.now
             result }
-        ensures failed { self.new.failures ≡ counted self.old.failures bytes.now result }
-        ensures most { IfSome result (λ n. n ≡ min (length bytes.now) self.old.room) }
-        ensures left { IfSome result (λ n. self.new.room ≡ self.old.room - n) }
+        ensures failed { self.new.failures ≡ counted_write self.old.failures bytes.now result }
+        ensures most { IfSome result (λ n. n ≡ min (length bytes.now) self.old.remaining) }
+        ensures left { IfSome result (λ n. self.new.remaining ≡ self.old.remaining - n) }
     {
-        let count = bytes.len().min(self.room);
+        let count = bytes.len().min(self.remaining);
         if self.bytes.extend_from_slice(&bytes[..count]).is_err() {
             self.failures = self.failures.saturating_add(1);
             return None;
         }
-        self.room -= count;
+        self.remaining -= count;
         if count == 0 && !bytes.is_empty() {
             self.failures = self.failures.saturating_add(1);
         }
@@ -82,27 +82,27 @@ impl Sink for MemorySink {
     }
 }
 
-/// A folder in memory, whose writers have room for so many bytes each. It notes the names that it
-/// was asked for, and can be made to fail once, at a later call.
+/// A folder in memory, whose writers have one capacity. It records the names that it was asked for,
+/// and can be made to fail once, at a later call.
 #[derive(Drop)]
 pub struct MemoryFolder {
     files: IndexMap<Vec<u8>, Vec<u8>>,
     created: Vec<CreatedFile>,
     asked: Vec<Vec<u8>>,
     failed: Vec<Vec<u8>>,
-    room: usize,
+    capacity: usize,
     calls_to_failure: Option<u64>,
     failures: u64,
 }
 
 impl MemoryFolder {
-    /// A folder without files. Each writer of a file that is created has room for so many bytes.
-    pub fn new(alloc: Global, room: usize) -> Self
-        ensures files { held_files result.files ≡ [] }
+    /// A folder without files. Each writer of a file that is created has this capacity.
+    pub fn new(alloc: Global, capacity: usize) -> Self
+        ensures files { stored_files result.files ≡ [] }
         ensures created { result.created.items ≡ [] }
         ensures asked { result.asked.items ≡ [] }
         ensures failed { result.failed.items ≡ [] }
-        ensures room { result.room ≡ room }
+        ensures capacity { result.capacity ≡ capacity }
         ensures sound { result.calls_to_failure ≡ None }
         ensures failures { result.failures ≡ 0 }
     {
@@ -111,25 +111,24 @@ impl MemoryFolder {
             created: Vec::new(alloc),
             asked: Vec::new(alloc),
             failed: Vec::new(alloc),
-            room,
+            capacity,
             calls_to_failure: None,
             failures: 0,
         }
     }
 
-    /// Puts a file of these bytes into the folder, in place of one of the same name. Files of other
-    /// names stay.
+    /// Adds a file of these bytes, or replaces the one of the same name. Files of other names stay.
     ///
     /// # Errors
     ///
     /// `AllocError` where an allocation fails; the files are then what they were.
     pub fn put(&mut self, alloc: Global, name: &[u8], bytes: &[u8]) -> Result<(), AllocError>
-        ensures ok { OnOk result (file_bytes (held_files self.new.files) name.now
+        ensures ok { OnOk result (file_bytes (stored_files self.new.files) name.now
             ≡ Some bytes.now) }
         ensures others { OnOk result ((other : List ℕ) → other ≢ name.now
-            → file_bytes (held_files self.new.files) other
-            ≡ file_bytes (held_files self.old.files) other) }
-        ensures err { OnErr result (held_files self.new.files ≡ held_files self.old.files) }
+            → file_bytes (stored_files self.new.files) other
+            ≡ file_bytes (stored_files self.old.files) other) }
+        ensures err { OnErr result (stored_files self.new.files ≡ stored_files self.old.files) }
         ensures kept { self.new ≡ record self.old { files = self.new.files } }
     {
         let name = Vec::from_slice(alloc, name)?;
@@ -140,7 +139,7 @@ impl MemoryFolder {
         }
     }
 
-    /// Makes the call after so many others fail: each reading, creating and closing is one.
+    /// The next call after this many fails, once: each `read_file`, `create` and `close` is a call.
     pub fn fail_after(&mut self, calls: u64)
         ensures { self.new ≡ record self.old { calls_to_failure = Some calls } }
     {
@@ -162,8 +161,8 @@ impl MemoryFolder {
     }
 
     // Whether the call is the one that fails.
-    fn is_due(&mut self) -> bool
-        ensures due { result ≡ is_due self.old.calls_to_failure }
+    fn fails_now(&mut self) -> bool
+        ensures fails { result ≡ fails_now self.old.calls_to_failure }
         ensures after { self.new ≡ record self.old
             { calls_to_failure = after_call self.old.calls_to_failure } }
     {
@@ -176,8 +175,8 @@ impl MemoryFolder {
         left == Some(0)
     }
 
-    // Notes that it was asked for a file.
-    fn note(&mut self, alloc: Global, name: &[u8]) -> Result<(), AllocError>
+    // Records the name that it was asked for.
+    fn record_name(&mut self, alloc: Global, name: &[u8]) -> Result<(), AllocError>
         ensures ok { OnOk result (bytes_of_each self.new.asked.items
             ≡ bytes_of_each self.old.asked.items ++ name.now ∷ []) }
         ensures err { OnErr result (self.new.asked.items ≡ self.old.asked.items) }
@@ -188,7 +187,7 @@ impl MemoryFolder {
         Ok(())
     }
 
-    // Fails at a file that it was asked for, and notes the name.
+    // Fails at a file that it was asked for, and records the name.
     fn fail_at(&mut self, alloc: Global, name: &[u8]) -> Result<(), AllocError>
         ensures ok { OnOk result (bytes_of_each self.new.failed.items
             ≡ bytes_of_each self.old.failed.items ++ name.now ∷ []) }
@@ -206,7 +205,7 @@ impl MemoryFolder {
 
     // The bytes of its file of this name.
     fn bytes(&self, name: &[u8]) -> Option<&[u8]>
-        ensures { option_copied result ≡ file_bytes (held_files self.now.files) name.now }
+        ensures { option_copied result ≡ file_bytes (stored_files self.now.files) name.now }
     {
         match self.files.get(name) {
             Some(bytes) => Some(bytes.as_slice()),
@@ -217,7 +216,8 @@ impl MemoryFolder {
 
 // Gives the file created last these bytes.
 fn set_last(files: &mut Vec<CreatedFile>, bytes: Vec<u8>)
-    ensures { map file_of files.new.items ≡ with_last (map file_of files.old.items) bytes.items }
+    ensures { map created_file files.new.items
+        ≡ with_last (map created_file files.old.items) bytes.items }
 {
     let count = files.len();
     if count > 0 {
@@ -229,8 +229,8 @@ impl Folder for MemoryFolder {
     type Out = MemorySink;
 
     ghost state = { λ folder. record {
-      files = Some (held_files folder.files);
-      created = Some (map file_of folder.created.items);
+      files = Some (stored_files folder.files);
+      created = Some (map created_file folder.created.items);
       asked = Some (bytes_of_each folder.asked.items);
       failed = Some (bytes_of_each folder.failed.items);
       failures = folder.failures;
@@ -238,16 +238,16 @@ impl Folder for MemoryFolder {
 
     // The clauses of the trait, and which call fails.
     fn read_file(&mut self, alloc: Global, name: &[u8]) -> Result<Vec<u8>, FolderFault>
-        ensures answer { Reads (Some (held_files self.old.files)) name.now result }
+        ensures answer { IsFileAnswer (Some (stored_files self.old.files)) name.now result }
         ensures small { IfOk result (λ bytes. vec_len bytes ≤ file_limit) }
         ensures counted { self.new.failures ≡ after_read result self.old.failures }
         ensures asks { AddsAsked (Some (bytes_of_each self.old.asked.items))
             (Some (bytes_of_each self.new.asked.items)) name.now result }
         ensures fails { Some (bytes_of_each self.new.failed.items)
             ≡ with_failed (Some (bytes_of_each self.old.failed.items)) name.now result }
-        ensures due { is_due self.old.calls_to_failure ≡ true → (result ≡ Err Failed)
+        ensures failing { fails_now self.old.calls_to_failure ≡ true → (result ≡ Err Failed)
             ⊎ (result ≡ Err NoMemory) }
-        ensures only_due { result ≡ Err Failed → is_due self.old.calls_to_failure ≡ true }
+        ensures only_failing { result ≡ Err Failed → fails_now self.old.calls_to_failure ≡ true }
         ensures kept { self.new ≡ record self.old {
           asked = self.new.asked;
           failed = self.new.failed;
@@ -255,11 +255,11 @@ impl Folder for MemoryFolder {
           failures = self.new.failures;
         } }
     {
-        let due = self.is_due();
-        if self.note(alloc, name).is_err() {
+        let fails = self.fails_now();
+        if self.record_name(alloc, name).is_err() {
             return Err(FolderFault::NoMemory);
         }
-        if due {
+        if fails {
             return match self.fail_at(alloc, name) {
                 Ok(()) => Err(FolderFault::Failed),
                 Err(_) => Err(FolderFault::NoMemory),
@@ -279,25 +279,25 @@ impl Folder for MemoryFolder {
         }
     }
 
-    // The clauses of the trait, the room of the writer, and which call fails.
+    // The clauses of the trait, the capacity of the writer, and which call fails.
     fn create(&mut self, alloc: Global, name: &[u8]) -> Result<MemorySink, FolderFault>
-        ensures added { OnOk result (map file_of self.new.created.items
-            ≡ map file_of self.old.created.items ++ (name.now, []) ∷ []) }
+        ensures added { OnOk result (map created_file self.new.created.items
+            ≡ map created_file self.old.created.items ++ (name.now, []) ∷ []) }
         ensures empty { IfOk result (λ out. out.bytes.items ≡ []) }
         ensures unfailed { IfOk result (λ out. out.failures ≡ 0) }
-        ensures room { IfOk result (λ out. out.room ≡ self.old.room) }
+        ensures capacity { IfOk result (λ out. out.remaining ≡ self.old.capacity) }
         ensures refused { OnErr result
-            (map file_of self.new.created.items ≡ map file_of self.old.created.items) }
+            (map created_file self.new.created.items ≡ map created_file self.old.created.items) }
         ensures counted { self.new.failures ≡ after_refusal result self.old.failures }
-        ensures due { is_due self.old.calls_to_failure ≡ true → result ≡ Err Failed }
-        ensures only_due { result ≡ Err Failed → is_due self.old.calls_to_failure ≡ true }
+        ensures failing { fails_now self.old.calls_to_failure ≡ true → result ≡ Err Failed }
+        ensures only_failing { result ≡ Err Failed → fails_now self.old.calls_to_failure ≡ true }
         ensures kept { self.new ≡ record self.old {
           created = self.new.created;
           calls_to_failure = after_call self.old.calls_to_failure;
           failures = self.new.failures;
         } }
     {
-        if self.is_due() {
+        if self.fails_now() {
             self.failures = self.failures.saturating_add(1);
             return Err(FolderFault::Failed);
         }
@@ -311,19 +311,19 @@ impl Folder for MemoryFolder {
         if self.created.push(file).is_err() {
             return Err(FolderFault::NoMemory);
         }
-        Ok(MemorySink::new(alloc, self.room))
+        Ok(MemorySink::new(alloc, self.capacity))
     }
 
     // The clauses of the trait, and which call fails.
     fn close(&mut self, out: MemorySink) -> Result<(), FolderFault>
-        ensures whole { OnOk result (map file_of self.new.created.items
-            ≡ with_last (map file_of self.old.created.items) out.bytes.items) }
-        ensures part { OnErr result (map file_of self.new.created.items
-            ≡ with_last (map file_of self.old.created.items) out.bytes.items) }
+        ensures whole { OnOk result (map created_file self.new.created.items
+            ≡ with_last (map created_file self.old.created.items) out.bytes.items) }
+        ensures prefix { OnErr result (map created_file self.new.created.items
+            ≡ with_last (map created_file self.old.created.items) out.bytes.items) }
         ensures needs_no_memory { IfErr result (λ fault. fault ≢ NoMemory) }
         ensures counted { self.new.failures ≡ after_close result out.failures self.old.failures }
-        ensures due { is_due self.old.calls_to_failure ≡ true → result ≡ Err Failed }
-        ensures only_due { result ≡ Err Failed → is_due self.old.calls_to_failure ≡ true }
+        ensures failing { fails_now self.old.calls_to_failure ≡ true → result ≡ Err Failed }
+        ensures only_failing { result ≡ Err Failed → fails_now self.old.calls_to_failure ≡ true }
         ensures kept { self.new ≡ record self.old {
           created = self.new.created;
           calls_to_failure = after_call self.old.calls_to_failure;
@@ -332,11 +332,11 @@ impl Folder for MemoryFolder {
     {
         let MemorySink {
             bytes,
-            room: _,
+            remaining: _,
             failures,
         } = out;
         set_last(&mut self.created, bytes);
-        if self.is_due() {
+        if self.fails_now() {
             self.failures = self.failures.saturating_add(1);
             return Err(FolderFault::Failed);
         }

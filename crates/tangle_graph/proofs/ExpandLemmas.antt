@@ -19,7 +19,8 @@ use Rattle.tangle_graph.specs.Nodes.{IsNodeOf, number_in, entry, entry_if}
 use Rattle.tangle_graph.specs.Stores.{StoreRead, IsStoreOf, KeepsUsed, is_expandable_at, slots_at, plan_uses_at, body_at, title_in_store}
 use Rattle.tangle_graph.specs.Plans.{node_bodies, slots_of, uses_of_plans}
 
-node_in : (names : List (List ℕ)) (flags : List Bool) (node : Node) → entry false flags (number_in (length names) node) ≡ true → IsNodeOf names node
+-- a node that has a flag is the store's
+pub node_in : (names : List (List ℕ)) (flags : List Bool) (node : Node) → entry false flags (number_in (length names) node) ≡ true → IsNodeOf names node
 node_in names flags Program e = tt
 node_in names flags (Name id) e = by (nat_lt id (length names)) refl e
   where
@@ -33,7 +34,7 @@ expanded_right shapes store kept node is e keeps =
     let ha = node_in store.names store.expandable node e in
     is.plans node (used_symbols kept) ha ((is.expandable node ha).0 e).shallow (λ id u. ap (λ o. unwrap_or o []) (keeps id u))
 
--- of an expandable node something is kept
+-- an expandable node has a body
 pub body_there : (store : StoreRead) (node : Node) → length store.bodies ≡ length store.expandable → is_expandable_at store node ≡ true → (body : NodeBody) × (body_at store node ≡ Some body)
 body_there store node size e = by (number_in (length store.names) node) e
   where
@@ -48,7 +49,7 @@ mapped : {X Y Z : Type 0} (f : Y → Z) (g : X → Y) (xs : List X) → map f (m
 mapped f g [] = refl
 mapped f g (x ∷ xs) = ap (λ l. f (g x) ∷ l) (mapped f g xs)
 
--- what is read of a body is what a list of all bodies' has in its place
+-- what is read of a body is the entry of the same number in the list of what is read of all bodies
 read_at : {Y : Type 0} (f : NodeBody → List Y) (bodies : List (Rc NodeBody Global)) (entries : List (List Y)) (o : Option ℕ) (body : NodeBody)
     → map (λ (t : Rc NodeBody Global). f t.value) bodies ≡ entries → entry_if (node_bodies bodies) o ≡ Some body → entry [] entries o ≡ f body
 read_at f bodies entries None body same e = absurd (let both : None ≡ Some body = e in cc)
@@ -60,7 +61,7 @@ read_at f bodies entries (Some n) body same e =
     ∙ ap f (get_or_from_slice_get (node_bodies bodies) n body body e)
 
 module _ (store : StoreRead) (bodies : List (Rc NodeBody Global)) (node : Node) (body : NodeBody) (same : node_bodies bodies ≡ store.bodies) (there : body_at store node ≡ Some body) where
-  -- what is kept of a node says what the store says of the node
+  -- the body of a node says what the store says of the node
   pub plan_uses_read : uses_of_plans bodies ≡ store.plan_uses → plan_uses body ≡ plan_uses_at store node
   plan_uses_read is = sym (read_at plan_uses bodies store.plan_uses (number_in (length store.names) node) body is (ap (λ ts. entry_if ts (number_in (length store.names) node)) same ∙ there))
 

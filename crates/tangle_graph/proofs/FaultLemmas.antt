@@ -22,13 +22,13 @@ use Rattle.digraph.specs.Flags.{FlagsJust}
 use Rattle.digraph.specs.Reach as graph
 use Rattle.digraph.proofs.GraphLemmas.{rows_size}
 use Rattle.digraph.proofs.TitleLemmas.{contains_alike, cycle_alike}
-use Rattle.tangle_graph.specs.FaultFlags.{flag_at}
-use Rattle.tangle_graph.specs.Faults.{is_defined, is_too_large, ReachesCycle, AreGraphFaults, fault_of, faults_of_names, first_occurrence_number, graph_faults, large_program, no_program}
+use Rattle.tangle_graph.specs.FaultFlags.{flag_of_number}
+use Rattle.tangle_graph.specs.Faults.{has_piece_by_number, is_too_large, ReachesCycle, AreGraphFaults, fault_of, faults_of_names, first_occurrence_number, graph_faults, large_program, no_program}
 use Rattle.tangle_graph.specs.Groups.{IsGraphOf}
 use Rattle.tangle_graph.specs.Nodes.{title_at, UsesTitle}
-use Rattle.tangle_graph.specs.Outputs.{has_pieces, is_expandable}
-use Rattle.tangle_graph.specs.Plans.{AreFilled}
-use Rattle.tangle_graph.specs.Stores.{is_filled}
+use Rattle.tangle_graph.specs.Outputs.{shape_has_piece, is_expandable}
+use Rattle.tangle_graph.specs.Plans.{ArePieceFlags}
+use Rattle.tangle_graph.specs.Stores.{row_has_piece}
 use Rattle.tangle_graph.proofs.ReachLemmas.{contains_by_titles, cycle_by_titles}
 
 -- the first uses, counted over the occurrences that were read from the web
@@ -56,11 +56,11 @@ listed_step g names i before now next h sofar is =
     ∙ ap (λ l. before ++ l) (flat_map_more g [] (take i names) (get_or names i 0) ∙ ap (flat_map g) (sym (take_more names i 0 h)))
 
 -- one number more of a list that may leave out what has no fault
-pub suspects_step : (g : ℕ → List FaultRead) (n : ℕ) (names : List ℕ) (needed : Bool) → (needed ≡ false → g n ≡ []) → flat_map g names ≡ flat_map g (range_with_len 0 n)
+pub candidates_step : (g : ℕ → List FaultRead) (n : ℕ) (names : List ℕ) (needed : Bool) → (needed ≡ false → g n ≡ []) → flat_map g names ≡ flat_map g (range_with_len 0 n)
     → flat_map g (names ++ cond needed (n ∷ []) []) ≡ flat_map g (range_with_len 0 (n + 1))
-suspects_step g n names true none sofar =
+candidates_step g n names true none sofar =
     sym (flat_map_more g [] names n) ∙ ap (λ l. l ++ g n) sofar ∙ ap (λ k. flat_map g (range_with_len 0 n) ++ g k) (sym (zero-add n)) ∙ sym (range_more g 0 n)
-suspects_step g n names false none sofar =
+candidates_step g n names false none sofar =
     ap (flat_map g) (append-nil names) ∙ sofar ∙ sym (append-nil (flat_map g (range_with_len 0 n))) ∙ ap (λ l. flat_map g (range_with_len 0 n) ++ l) (sym (ap g (zero-add n) ∙ none refl)) ∙ sym (range_more g 0 n)
 
 -- the faults of one kind more
@@ -80,21 +80,21 @@ module _ (web : WebRead) (table : TableRead) (rows uses : Graph) (is : IsGraphOf
   row_below : (n : ℕ) → n ≤ length table.names → n < length rows
   row_below n h = omega (arith, h, is.rows_size)
 
-  has_mapped : (row : List ℕ) → is_filled row ≡ has_pieces (map (λ (p : PieceRead). map (shape_item web.texts table) p.items) (pieces_at web.pieces row))
+  has_mapped : (row : List ℕ) → row_has_piece row ≡ shape_has_piece (map (λ (p : PieceRead). map (shape_item web.texts table) p.items) (pieces_at web.pieces row))
   has_mapped [] = refl
   has_mapped (k ∷ row) = refl
 
-  pub defined_flag : (flags : List Bool) → AreFilled (rows_of rows) flags → (n : ℕ) → n ≤ length table.names → flag_at flags n ≡ is_defined web table n
-  defined_flag flags filled n h =
-      filled.flag n (let low = row_below n h in omega (arith, low, rows_size rows))
+  pub has_piece_flag : (flags : List Bool) → ArePieceFlags (rows_of rows) flags → (n : ℕ) → n ≤ length table.names → flag_of_number flags n ≡ has_piece_by_number web table n
+  has_piece_flag flags flagged n h =
+      flagged.flag n (let low = row_below n h in omega (arith, low, rows_size rows))
       ∙ has_mapped (row_at (rows_of rows) n)
-      ∙ ap (λ ps. has_pieces (map (λ (p : PieceRead). map (shape_item web.texts table) p.items) ps)) (is.pieces n (row_below n h))
+      ∙ ap (λ ps. shape_has_piece (map (λ (p : PieceRead). map (shape_item web.texts table) p.items) ps)) (is.pieces n (row_below n h))
 
-  pub defined_size : (flags : List Bool) → AreFilled (rows_of rows) flags → length flags ≡ length table.names + 1
-  defined_size flags filled = filled.size ∙ rows_size rows ∙ is.rows_size
+  pub has_piece_size : (flags : List Bool) → ArePieceFlags (rows_of rows) flags → length flags ≡ length table.names + 1
+  has_piece_size flags flagged = flagged.size ∙ rows_size rows ∙ is.rows_size
 
   pub containing_flag : (flags : List Bool) → FlagsJust uses flags (graph.ContainsItself (HasUse uses)) → (n : ℕ) → n ≤ length table.names
-      → (flag_at flags n ≡ true) ↔ title.ContainsItself (shapes web table) (title_at table.names n)
+      → (flag_of_number flags n ≡ true) ↔ title.ContainsItself (shapes web table) (title_at table.names n)
   containing_flag flags just n h =
       let alike = contains_alike uses (UsesTitle (shapes web table)) (title_at table.names) is.titled n (below n h) in
       let titles = contains_by_titles (shapes web table) (title_at table.names n) in
@@ -102,7 +102,7 @@ module _ (web : WebRead) (table : TableRead) (rows uses : Graph) (is : IsGraphOf
       (λ e. titles.0 (alike.0 (flag.0 e)), λ c. flag.1 (alike.1 (titles.1 c)))
 
   pub reaching_flag : (flags : List Bool) → FlagsJust uses flags (graph.ReachesCycle (HasUse uses)) → (n : ℕ) → n ≤ length table.names
-      → (flag_at flags n ≡ true) ↔ ReachesCycle (shapes web table) (title_at table.names n)
+      → (flag_of_number flags n ≡ true) ↔ ReachesCycle (shapes web table) (title_at table.names n)
   reaching_flag flags just n h =
       let alike = cycle_alike uses (UsesTitle (shapes web table)) (title_at table.names) is.titled n (below n h) in
       let titles = cycle_by_titles (shapes web table) (title_at table.names n) in
@@ -141,7 +141,7 @@ same_in_range f g a (suc n) same =
 module _ (web : WebRead) (table : TableRead) (out : List ℕ) (c d r s : ℕ → Bool)
     (containing : (n : ℕ) → n ≤ length table.names → c n ≡ d n) (reaching : (n : ℕ) → n ≤ length table.names → r n ≡ s n) where
   same_large : (n : ℕ) → n ≤ length table.names → is_too_large web table r n ≡ is_too_large web table s n
-  same_large n h = ap (λ b. is_defined web table n && (not b && not (is_expandable (shapes web table) (title_at table.names n)))) (reaching n h)
+  same_large n h = ap (λ b. has_piece_by_number web table n && (not b && not (is_expandable (shapes web table) (title_at table.names n)))) (reaching n h)
 
   same_containing : faults_of_names web table out c r kind.SelfContaining ≡ faults_of_names web table out d s kind.SelfContaining
   same_containing = same_in_range _ _ 0 (length table.names) (λ k low high.
@@ -162,5 +162,5 @@ pub one_list : (web : WebRead) (table : TableRead) (out : List ℕ) (a b : List 
 one_list web table out a b x y =
     x.list ∙ same_faults web table out x.contains_itself y.contains_itself x.reaches_cycle y.reaches_cycle
     (λ n h. same_flag (x.contains_itself n) (y.contains_itself n) (x.self_containing n h) (y.self_containing n h))
-    (λ n h. same_flag (x.reaches_cycle n) (y.reaches_cycle n) (x.cyclic n h) (y.cyclic n h))
+    (λ n h. same_flag (x.reaches_cycle n) (y.reaches_cycle n) (x.reaching_cycles n h) (y.reaching_cycles n h))
     ∙ sym y.list

@@ -21,7 +21,7 @@ module _ (store : StoreRead) where
       let low = number.1 in
       ap (λ o. entry false (with_entry flags o b) o) number.3 ∙ get_or-set_same flags number.0 b false (omega (arith, low, size))
 
-  -- the others have those of before
+  -- the others have their old ones
   pub flag_stays : (flags : List Bool) (node other : Node) (b : Bool) → IsNodeIn store node → IsNodeIn store other → other ≢ node
       → flag_at store (with_flag store flags node b) other ≡ flag_at store flags other
   flag_stays flags node other b inside also apart =

@@ -20,7 +20,7 @@ use Rattle.digraph.specs.Graph.{Graph, HasUse, rows_of, row_at}
 use Rattle.digraph.specs.Rows.{IsRowsOf, IsOnceEach}
 use Rattle.digraph.specs.Titles.{IsTitled}
 use Rattle.digraph.proofs.GraphLemmas.{rows_size, node_in}
-use Rattle.tangle_graph.specs.Grouping.{number_of_name, used_by, used_in, is_piece_of_number, positions_of, used_numbers}
+use Rattle.tangle_graph.specs.Grouping.{resolved_number, used_by, used_in, is_piece_of_number, positions_of, used_numbers}
 use Rattle.tangle_graph.specs.Groups.{IsGraphOf}
 use Rattle.tangle_graph.specs.Nodes.{title_at, UsesTitle}
 use Rattle.tangle_graph.proofs.GroupLemmas.{pieces_by_number, number_uses, title_uses}
@@ -28,7 +28,7 @@ use Rattle.tangle_graph.proofs.NodeLemmas.{title_inside, once_titled}
 use Rattle.tangle_graph.proofs.RowLemmas.{positions_below, positions_read}
 
 module _ (table : TableRead) (inside : ResolvesInside table) where
-  resolved_below : (r : Resolved) → IsNameBelow (length table.names) r → All (λ m. m < length table.names) (option_to_list (number_of_name r))
+  resolved_below : (r : Resolved) → IsNameBelow (length table.names) r → All (λ m. m < length table.names) (option_to_list (resolved_number r))
   resolved_below (resolved.Name id) h = All-cons (λ m. m < length table.names) id [] h (All-nil (λ m. m < length table.names))
   resolved_below resolved.NoFullName h = All-nil (λ m. m < length table.names)
   resolved_below resolved.Ambiguous h = All-nil (λ m. m < length table.names)

@@ -15,9 +15,9 @@ use Rattle.tangle_names.specs.declared.Resolved.TheVariants as resolved
 use Rattle.tangle_names.specs.NameTable.{TableRead}
 use Rattle.tangle_plans.specs.Shapes.{Title, Named, title_eq, ShapeItem, Use, UsesInPiece, UsesInShape, Uses, IsUseOf}
 use Rattle.tangle_plans.specs.Shapes as title
-use Rattle.tangle_plans.specs.WebShapes.{resolved_at, use_of, node_of, node_of_name, is_node, IsNameBelow, ResolvesInside, shape_item, pieces_of, shapes}
+use Rattle.tangle_plans.specs.WebShapes.{resolved_at, use_of, node_of, node_of_occurrence, is_node, IsNameBelow, ResolvesInside, shape_item, pieces_of, shapes}
 use Rattle.tangle_graph.specs.Nodes.{title_at}
-use Rattle.tangle_graph.specs.Grouping.{number_of_name, number_of, used_by, used_in, is_number, is_piece_of_number, used_numbers}
+use Rattle.tangle_graph.specs.Grouping.{resolved_number, number_of_piece, used_by, used_in, has_number_in, is_piece_of_number, used_numbers}
 use Rattle.tangle_graph.proofs.NodeLemmas.{title_inside, title_past, once_named}
 
 same_test : (a b : Bool) (P : Type 0) → ((e : a ≡ true) → P) → (P → b ≡ true) → (P → a ≡ true) → ((e : b ≡ true) → P) → a ≡ b
@@ -41,7 +41,7 @@ module _ (table : TableRead) (distinct : IsDistinct bytes_eq table.names) (insid
         apart ∙ ap (λ t. title_eq t (Named (get_or table.names id []))) (sym is))
   ]
 
-  resolved_is : (n : ℕ) (r : Resolved) → n ≤ length table.names → IsNameBelow (length table.names) r → is_number n (number_of_name r) ≡ is_node table (title_at table.names n) (node_of table r)
+  resolved_is : (n : ℕ) (r : Resolved) → n ≤ length table.names → IsNameBelow (length table.names) r → has_number_in n (resolved_number r) ≡ is_node table (title_at table.names n) (node_of table r)
   resolved_is n (resolved.Name id) hn h = name_is n id hn h
   resolved_is n resolved.NoFullName hn h = refl
   resolved_is n resolved.Ambiguous hn h = refl
@@ -54,16 +54,16 @@ module _ (table : TableRead) (distinct : IsDistinct bytes_eq table.names) (insid
         (Decides-eqb (length table.names) n).1 end ∙ ap (λ t. title_eq t title.Program) (sym (title_past table.names n (omega (arith, past)))))
   ]
 
-  named_is : (n : ℕ) (name : Option ℕ) → n ≤ length table.names → is_number n (number_of table name) ≡ is_node table (title_at table.names n) (node_of_name table name)
-  named_is n None hn = program_is n hn
-  named_is n (Some occurrence) hn = resolved_is n (resolved_at table occurrence) hn (inside occurrence)
+  piece_is : (n : ℕ) (occurrence : Option ℕ) → n ≤ length table.names → has_number_in n (number_of_piece table occurrence) ≡ is_node table (title_at table.names n) (node_of_occurrence table occurrence)
+  piece_is n None hn = program_is n hn
+  piece_is n (Some occurrence) hn = resolved_is n (resolved_at table occurrence) hn (inside occurrence)
 
   pub pieces_by_number : (web : WebRead) (n : ℕ) → n ≤ length table.names → filter (is_piece_of_number table n) web.pieces ≡ pieces_of web table (title_at table.names n)
-  pieces_by_number web n hn = λ i. filter (λ (piece : PieceRead). named_is n piece.occurrence hn i) web.pieces
+  pieces_by_number web n hn = λ i. filter (λ (piece : PieceRead). piece_is n piece.occurrence hn i) web.pieces
 
 -- The uses of the shape are those by number.
 module _ (texts : List (List ℕ)) (table : TableRead) (inside : ResolvesInside table) where
-  resolved_use : (r : Resolved) (m : ℕ) → Contains (option_to_list (number_of_name r)) m → IsUseOf (use_of table r) (get_or table.names m [])
+  resolved_use : (r : Resolved) (m : ℕ) → Contains (option_to_list (resolved_number r)) m → IsUseOf (use_of table r) (get_or table.names m [])
   resolved_use (resolved.Name id) m c = ap (λ k. get_or table.names k []) (only id m c)
     where
       only : (x y : ℕ) → Contains (x ∷ []) y → x ≡ y
@@ -104,7 +104,7 @@ module _ (texts : List (List ℕ)) (table : TableRead) (inside : ResolvesInside 
   abbrev pub IsAmong : List ℕ → List ℕ → Type 0
   IsAmong numbers name = (m : ℕ) × Contains numbers m × (m < length table.names) × (get_or table.names m [] ≡ name)
 
-  resolved_used : (r : Resolved) (name : List ℕ) → IsNameBelow (length table.names) r → IsUseOf (use_of table r) name → IsAmong (option_to_list (number_of_name r)) name
+  resolved_used : (r : Resolved) (name : List ℕ) → IsNameBelow (length table.names) r → IsUseOf (use_of table r) name → IsAmong (option_to_list (resolved_number r)) name
   resolved_used (resolved.Name id) name h u = (id, (0, omega arith, refl), h, u)
   resolved_used resolved.NoFullName name h u = absurd u
   resolved_used resolved.Ambiguous name h u = absurd u

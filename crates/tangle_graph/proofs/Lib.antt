@@ -13,13 +13,13 @@ mod BodyLemmas
 pub mod ShapeLemmas
 mod PushLemmas
 mod ReachLemmas
-mod ExpandLemmas
+pub mod ExpandLemmas
 mod StoreIs
 mod OrderingLemmas
 mod FaultLemmas
 pub mod WeightLemmas
 pub mod UsesLemmas
-mod SkeletonLemmas
-mod SuspectLemmas
+mod NameGraphLemmas
+mod CandidateLemmas
 mod PlannedLemmas
 pub mod FlagLemmas

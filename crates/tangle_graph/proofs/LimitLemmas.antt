@@ -11,16 +11,16 @@ use Rattle.digraph.specs.Graph.{Graph, rows_of, row_at}
 use Rattle.digraph.proofs.GraphLemmas.{rows_size}
 use Rattle.tangle_graph.specs.Groups.{IsGraphOf}
 use Rattle.tangle_graph.specs.Nodes.{title_at}
-use Rattle.tangle_graph.specs.Outputs.{has_pieces, is_expandable}
-use Rattle.tangle_graph.specs.Stores.{is_filled, AreWithin}
+use Rattle.tangle_graph.specs.Outputs.{shape_has_piece, is_expandable}
+use Rattle.tangle_graph.specs.Stores.{row_has_piece, AreWithin}
 use Rattle.tangle_graph.proofs.NodeLemmas.{title_past}
 use Rattle.tangle_graph.proofs.StoreLemmas.{expandable_by_limits}
 
-filled_alike : (row : List ℕ) (s : Shape) → length s ≡ length row → is_filled row ≡ has_pieces s
-filled_alike [] [] e = refl
-filled_alike [] (x ∷ s) e = absurd (omega (arith, e))
-filled_alike (k ∷ row) [] e = absurd (omega (arith, e))
-filled_alike (k ∷ row) (x ∷ s) e = refl
+piece_in_both : (row : List ℕ) (s : Shape) → length s ≡ length row → row_has_piece row ≡ shape_has_piece s
+piece_in_both [] [] e = refl
+piece_in_both [] (x ∷ s) e = absurd (omega (arith, e))
+piece_in_both (k ∷ row) [] e = absurd (omega (arith, e))
+piece_in_both (k ∷ row) (x ∷ s) e = refl
 
 module _ (web : WebRead) (table : TableRead) (rows uses : Graph) (is : IsGraphOf web table rows uses) where
   pub shape_size : (n : ℕ) → n < length uses → length (shapes web table (title_at table.names n)) ≡ length (row_at (rows_of rows) n)
@@ -37,7 +37,7 @@ module _ (web : WebRead) (table : TableRead) (rows uses : Graph) (is : IsGraphOf
       within.flag n (omega (arith, h, is.rows_size, is.uses_size, rows_size rows))
       ∙ expandable_by_limits (shapes web table) (title_at table.names n) (row_at (rows_of rows) n) (get_or weights n 0) (get_or depths n 0) (shape_size n h) (weighed n h) (measured n h)
 
-  pub program_filled : is_filled (row_at (rows_of rows) (length table.names)) ≡ has_pieces (shapes web table Program)
-  program_filled =
-      filled_alike (row_at (rows_of rows) (length table.names)) (shapes web table (title_at table.names (length table.names))) (shape_size (length table.names) (omega (arith, is.uses_size)))
-      ∙ ap (λ t. has_pieces (shapes web table t)) (title_past table.names (length table.names) (omega arith))
+  pub program_has_piece : row_has_piece (row_at (rows_of rows) (length table.names)) ≡ shape_has_piece (shapes web table Program)
+  program_has_piece =
+      piece_in_both (row_at (rows_of rows) (length table.names)) (shapes web table (title_at table.names (length table.names))) (shape_size (length table.names) (omega (arith, is.uses_size)))
+      ∙ ap (λ t. shape_has_piece (shapes web table t)) (title_past table.names (length table.names) (omega arith))

@@ -11,16 +11,16 @@ use Rattle.tangle_names.specs.NameTable.{TableRead}
 use Rattle.tangle_plans.specs.Shapes.{Title, Named, ShapeItem, Written, Mark, AllMacros, Use, NoUse, Shape, Shapes, IsUseOf, UsesInPiece, UsesInShape}
 use Rattle.tangle_plans.specs.Flat.{item_weight, items_weight, pieces_weight, weight, item_depth, items_depth, pieces_depth, depth}
 use Rattle.tangle_plans.specs.WebShapes.{resolved_at, use_of, shape_item, IsNameBelow, ResolvesInside}
-use Rattle.tangle_graph.specs.Grouping.{number_of_name}
+use Rattle.tangle_graph.specs.Grouping.{resolved_number}
 use Rattle.tangle_graph.specs.Measures.{use_weight, weight_of_item, weight_of_piece, weight_of_pieces}
 
 module _ (texts : List (List ℕ)) (table : TableRead) (inside : ResolvesInside table) (cap : ℕ) (used : ℕ → ℕ) (by_name : List ℕ → ℕ) where
-  -- the name with this number weighs as much as its text
+  -- a name weighs the same by its number and by its bytes
   abbrev pub Weighs : ℕ → Type 0
   Weighs id = min cap (by_name (get_or table.names id [])) ≡ min cap (used id)
 
   use_weighs : (r : Resolved) → IsNameBelow (length table.names) r → ((id : ℕ) → id < length table.names → IsUseOf (use_of table r) (get_or table.names id []) → Weighs id)
-      → min cap (use_weight used (number_of_name r)) ≡ min cap (item_weight by_name (use_of table r))
+      → min cap (use_weight used (resolved_number r)) ≡ min cap (item_weight by_name (use_of table r))
   use_weighs (resolved.Name id) h same = (let is = same id h refl in omega (arith, is))
   use_weighs resolved.NoFullName h same = refl
   use_weighs resolved.Ambiguous h same = refl

@@ -27,8 +27,8 @@ named_inside names n name e = elim (dec_lt n (length names)) [
   | no past ↦ (let is : title_at names n ≡ title.Program = title_past names n (omega (arith, past)) in let both : Named name ≡ title.Program = sym e ∙ is in absurd (cc))
 ]
 
-pub body_of_named : (a b : List ℕ) → Named a ≡ Named b → a ≡ b
-body_of_named a b e = cc
+pub named_injective : (a b : List ℕ) → Named a ≡ Named b → a ≡ b
+named_injective a b e = cc
 
 -- each name is once
 pub once_named : (names : List (List ℕ)) (n m : ℕ) → IsDistinct bytes_eq names → n < length names → m < length names → get_or names n [] ≡ get_or names m [] → n ≡ m
@@ -46,7 +46,7 @@ once_titled names n m distinct hn hm e = elim (dec_lt n (length names)) [
   | yes low ↦ (let named : title_at names m ≡ Named (get_or names n []) = sym e ∙ title_inside names n low in
       let within : m < length names = named_inside names m (get_or names n []) named in
       let same : Named (get_or names n []) ≡ Named (get_or names m []) = sym named ∙ title_inside names m within in
-      once_named names n m distinct low within (body_of_named (get_or names n []) (get_or names m []) same))
+      once_named names n m distinct low within (named_injective (get_or names n []) (get_or names m []) same))
   | no past ↦ elim (dec_lt m (length names)) [
     | yes low ↦ (let named : title_at names n ≡ Named (get_or names m []) = e ∙ title_inside names m low in
         let within : n < length names = named_inside names n (get_or names m []) named in

@@ -42,13 +42,13 @@ measured_none value other values order all = record {
 pub measured_next : (graph : Graph) (value : ℕ → ℕ) (other : ℕ) (values order : List ℕ) (i v : ℕ) → IsAfterUses graph order → i < length order → length values ≡ length graph
     → AreMeasured value other values (take i order) → v ≡ value (get_or order i 0)
     → AreMeasured value other (set values (get_or order i 0) v) (take (i + 1) order)
-measured_next graph value other values order i v placed h size sofar e = record { listed = here; unlisted = left }
+measured_next graph value other values order i v after_uses h size sofar e = record { listed = here; unlisted = left }
   where
     more : take (i + 1) order ≡ take i order ++ get_or order i 0 ∷ []
     more = take_more order i 0 h
 
     at : get_or order i 0 < length values
-    at = omega (arith, size, placed.nodes i h)
+    at = omega (arith, size, after_uses.nodes i h)
 
     is : get_or (set values (get_or order i 0) v) (get_or order i 0) 0 ≡ value (get_or order i 0)
     is = get_or-set_same values (get_or order i 0) v 0 at ∙ e

@@ -19,15 +19,10 @@ use Rattle.digraph.proofs.GraphLemmas.{rows_size}
 use Rattle.tangle_graph.specs.Groups.{IsGraphOf}
 use Rattle.tangle_graph.specs.Nodes.{title_at, node_at, number_in, entry, IsNodeOf, title_of_node}
 use Rattle.tangle_graph.specs.Ordering.{IsOrderIn}
-use Rattle.tangle_graph.specs.Stores.{StoreRead, IsNodeIn, AreWithin, is_filled, uses_at, is_expandable_at}
-use Rattle.tangle_graph.proofs.NodeLemmas.{numbered, node_is, title-node, title_inside}
+use Rattle.tangle_graph.specs.Stores.{StoreRead, IsNodeIn, AreWithin, row_has_piece, uses_at, is_expandable_at}
+use Rattle.tangle_graph.proofs.NodeLemmas.{number_at, numbered, node_is, title-node, title_inside}
 use Rattle.tangle_graph.proofs.OrderLemmas.{among, left_out_deepest}
-use Rattle.tangle_graph.proofs.StoreLemmas.{same_number, contains_mapped, mapped_contains}
-
-both_true : (a b : Bool) → (a && b) ≡ true → (a ≡ true) × (b ≡ true)
-both_true true true e = (refl, refl)
-both_true true false e = absurd (cc)
-both_true false b e = absurd (cc)
+use Rattle.tangle_graph.proofs.StoreLemmas.{both_true, same_number, contains_mapped, mapped_contains}
 
 is_below : (a b : ℕ) → nat_lt a b ≡ true → a < b
 is_below a b e = grind (arith, nat_tests)
@@ -40,19 +35,14 @@ module _ (web : WebRead) (table : TableRead) (rows uses : Graph) (order weights 
   node n = node_at (length table.names) n
 
   in_order : (n : ℕ) → Contains order n → n < length uses
-  in_order n c = All-contains (λ m. m < length uses) order n (All-from_get_or (λ m. m < length uses) order 0 is.placed.nodes) c
+  in_order n c = All-contains (λ m. m < length uses) order n (All-from_get_or (λ m. m < length uses) order 0 is.after_uses.nodes) c
 
   low : (k : ℕ) → k < length order → get_or order k 0 ≤ length table.names
-  low k h = omega (arith, is.placed.nodes k h, graph.uses_size)
+  low k h = omega (arith, is.after_uses.nodes k h, graph.uses_size)
 
   -- the entries of a node by its number
   entry_at : {X : Type 0} (none : X) (entries : List X) (n : ℕ) (a : Node) → number_in (length table.names) a ≡ Some n → entry none entries (number_in (length store.names) a) ≡ get_or entries n none
   entry_at none entries n a e = ap (λ l. entry none entries (number_in (length l) a)) names_are ∙ ap (entry none entries) e
-
-  number_at : (n : ℕ) → n ≤ length table.names → number_in (length table.names) (node n) ≡ Some n
-  number_at n h =
-      let found = numbered table.names (node n) (node_is table.names n h) in
-      found.3 ∙ ap Some (same_number table.names found.0 n found.1 h found.2)
 
   inside : (a : Node) → Contains (map (node_at (length table.names)) order) a → IsNodeIn store a
   inside a c =
@@ -64,7 +54,7 @@ module _ (web : WebRead) (table : TableRead) (rows uses : Graph) (order weights 
   once j k d less h same =
       let high : k < length order = omega (arith, h, length-map order (node_at (length table.names))) in
       let near : j < length order = omega (arith, high, less) in
-      is.placed.once j k less high
+      is.after_uses.once j k less high
       (same_number table.names (get_or order j 0) (get_or order k 0) (low j near) (low k high)
       (sym (get_or-map (node_at (length table.names)) order j 0 d near) ∙ same ∙ get_or-map (node_at (length table.names)) order k 0 d high))
 
@@ -77,11 +67,11 @@ module _ (web : WebRead) (table : TableRead) (rows uses : Graph) (order weights 
       let row : uses_at store (get_or (map (node_at (length table.names)) order) k Program) ≡ map (node_at (length table.names)) (row_at (rows_of uses) n) =
       ap (uses_at store) this
       ∙ ap (λ us. entry [] us (number_in (length store.names) (node n))) uses_are
-      ∙ entry_at [] (map (map (node_at (length table.names))) (rows_of uses)) n (node n) (number_at n (low k high))
-      ∙ get_or-map (map (node_at (length table.names))) (rows_of uses) n [] [] (omega (arith, is.placed.nodes k high, rows_size uses)) in
+      ∙ entry_at [] (map (map (node_at (length table.names))) (rows_of uses)) n (node n) (number_at table.names n (low k high))
+      ∙ get_or-map (map (node_at (length table.names))) (rows_of uses) n [] [] (omega (arith, is.after_uses.nodes k high, rows_size uses)) in
       let found = mapped_contains (node_at (length table.names)) (row_at (rows_of uses) n) other (subst (λ l. Contains l other) row c) in
       let before : Contains (map (node_at (length table.names)) (take k order)) (node found.0) =
-      contains_mapped (node_at (length table.names)) (take k order) found.0 (is.placed.after k found.0 high found.1) in
+      contains_mapped (node_at (length table.names)) (take k order) found.0 (is.after_uses.after k found.0 high found.1) in
       subst (λ a. Contains (take k (map (node_at (length table.names)) order)) a) found.2
       (subst (λ l. Contains l (node found.0)) (sym (take-map (node_at (length table.names)) k order)) before)
 
@@ -93,7 +83,7 @@ module _ (web : WebRead) (table : TableRead) (rows uses : Graph) (order weights 
       let flagged : get_or flags n false ≡ true =
       sym (entry_at false flags n a found.3) ∙ ap (λ fs. entry false fs (number_in (length store.names) a)) (sym flags_are) ∙ flag in
       let says = sym (within.flag n (omega (arith, here, graph.rows_size, graph.uses_size, rows_size rows))) ∙ flagged in
-      let two = both_true (is_filled (row_at (rows_of rows) n)) (nat_lt (get_or depths n 0) levels && nat_le (get_or weights n 0) heaviest) says in
+      let two = both_true (row_has_piece (row_at (rows_of rows) n)) (nat_lt (get_or depths n 0) levels && nat_le (get_or weights n 0) heaviest) says in
       let three = both_true (nat_lt (get_or depths n 0) levels) (nat_le (get_or weights n 0) heaviest) two.1 in
       let shallow : get_or depths n 0 < levels = is_below (get_or depths n 0) levels three.0 in
       elim (among order n) [

@@ -10,14 +10,14 @@ use Rattle.tangle_names.specs.declared.Resolved.TheVariants as resolved
 use Rattle.tangle_names.specs.NameTable.{TableRead}
 use Rattle.tangle_plans.specs.Shapes.{Title, Named, Shape, Shapes, Uses}
 use Rattle.tangle_plans.specs.Flat.{Symbol, flat, pieces_flat}
-use Rattle.tangle_plans.specs.ItemTags.{names_resolved, names_in, pieces_names}
+use Rattle.tangle_plans.specs.ItemTags.{uses_resolved, uses_in, pieces_uses}
 use Rattle.tangle_expansion.specs.Limits.{levels, flat_of}
 use Rattle.tangle_plans.specs.WebShapes.{resolved_at, ResolvesInside, pieces_of, shapes}
 use Rattle.digraph.specs.Graph.{Graph, rows_of, row_at}
-use Rattle.tangle_graph.specs.Grouping.{number_of_name, used_by, used_in}
+use Rattle.tangle_graph.specs.Grouping.{resolved_number, used_by, used_in}
 use Rattle.tangle_graph.specs.Groups.{IsGraphOf}
 use Rattle.tangle_graph.specs.Nodes.{title_at}
-use Rattle.tangle_graph.specs.Stores.{is_filled}
+use Rattle.tangle_graph.specs.Stores.{row_has_piece}
 use Rattle.tangle_graph.proofs.GraphLemmas.{pieces_below}
 use Rattle.tangle_graph.proofs.GroupLemmas.{pieces_use}
 use Rattle.tangle_graph.proofs.LimitLemmas.{shape_size}
@@ -41,12 +41,12 @@ passes_filter p (y ∷ xs) x c = by (p y) refl (passes_filter p xs x) c
     by true t rest (suc k, h, e) = rest (k, omega (arith, h), e)
     by false t rest d = rest d
 
-resolved_same : (r : Resolved) → names_resolved r ≡ option_to_list (number_of_name r)
+resolved_same : (r : Resolved) → uses_resolved r ≡ option_to_list (resolved_number r)
 resolved_same (resolved.Name id) = refl
 resolved_same resolved.NoFullName = refl
 resolved_same resolved.Ambiguous = refl
 
-item_same : (table : TableRead) (x : Item) → names_in table x ≡ used_by table x
+item_same : (table : TableRead) (x : Item) → uses_in table x ≡ used_by table x
 item_same table (item.UseOf occurrence) = resolved_same (resolved_at table occurrence)
 item_same table (item.Word span) = refl
 item_same table (item.Sign span) = refl
@@ -59,27 +59,27 @@ item_same table item.LineEnd = refl
 item_same table (item.LineMark origin) = refl
 item_same table item.Defs = refl
 
-pub names_same : (table : TableRead) (pieces : List PieceRead) → pieces_names table pieces ≡ flat_map (used_in table) pieces
+pub names_same : (table : TableRead) (pieces : List PieceRead) → pieces_uses table pieces ≡ flat_map (used_in table) pieces
 names_same table pieces = λ i. flat_map (λ (p : PieceRead). flat_map (λ x. item_same table x i) p.items) pieces
 
 empty_shape : (s : Shape) → length s ≡ 0 → s ≡ []
 empty_shape [] e = refl
 empty_shape (x ∷ s) e = absurd (omega (arith, e))
 
-some_shape : (row : List ℕ) (s : Shape) → length s ≡ length row → is_filled row ≡ true → s ≢ []
+some_shape : (row : List ℕ) (s : Shape) → length s ≡ length row → row_has_piece row ≡ true → s ≢ []
 some_shape [] s e t = absurd (let no : false ≡ true = t in cc)
 some_shape (k ∷ row) s e t = λ none. absurd (omega (arith, e, ap length none))
 
-no_shape : (row : List ℕ) (s : Shape) → length s ≡ length row → is_filled row ≡ false → s ≡ []
+no_shape : (row : List ℕ) (s : Shape) → length s ≡ length row → row_has_piece row ≡ false → s ≡ []
 no_shape [] s e t = empty_shape s e
 no_shape (k ∷ row) s e t = absurd (let no : true ≡ false = t in cc)
 
-flat_empty : (p : Shapes) (node : Title) → p node ≡ [] → flat_of p node ≡ []
+flat_empty : (all : Shapes) (node : Title) → all node ≡ [] → flat_of all node ≡ []
 unfolding levels
-flat_empty p node e = ap (λ (s : Shape). pieces_flat (λ name. flat 1000 p (Named name)) node 0 s) e
+flat_empty all node e = ap (λ (s : Shape). pieces_flat (λ name. flat 1000 all (Named name)) node 0 s) e
 
 module _ (web : WebRead) (table : TableRead) (rows uses : Graph) (is : IsGraphOf web table rows uses) (inside : ResolvesInside table) (has : ℕ → Bool)
-    (flags : (id : ℕ) → id < length table.names → has id ≡ is_filled (row_at (rows_of rows) id)) where
+    (flags : (id : ℕ) → id < length table.names → has id ≡ row_has_piece (row_at (rows_of rows) id)) where
   -- the node with this number uses the name with that one, which has a piece
   abbrev pub UsesWithPiece : ℕ → ℕ → Type 0
   UsesWithPiece n id = (id < length table.names) × Uses (shapes web table) (title_at table.names n) (get_or table.names id []) × (shapes web table (Named (get_or table.names id [])) ≢ [])
@@ -87,16 +87,16 @@ module _ (web : WebRead) (table : TableRead) (rows uses : Graph) (is : IsGraphOf
   shape_of_name : (id : ℕ) → id < length table.names → length (shapes web table (Named (get_or table.names id []))) ≡ length (row_at (rows_of rows) id)
   shape_of_name id h = ap (λ t. length (shapes web table t)) (sym (title_inside table.names id h)) ∙ shape_size web table rows uses is id (omega (arith, h, is.uses_size))
 
-  pub plan_uses_pieces : (n id : ℕ) → Contains (filter has (pieces_names table (pieces_of web table (title_at table.names n)))) id → UsesWithPiece n id
+  pub plan_uses_pieces : (n id : ℕ) → Contains (filter has (pieces_uses table (pieces_of web table (title_at table.names n)))) id → UsesWithPiece n id
   plan_uses_pieces n id c =
       let used : Contains (flat_map (used_in table) (pieces_of web table (title_at table.names n))) id =
-      subst (λ l. Contains l id) (names_same table (pieces_of web table (title_at table.names n))) (out_of_filter has (pieces_names table (pieces_of web table (title_at table.names n))) id c) in
+      subst (λ l. Contains l id) (names_same table (pieces_of web table (title_at table.names n))) (out_of_filter has (pieces_uses table (pieces_of web table (title_at table.names n))) id c) in
       let low : id < length table.names =
       All-contains (λ k. k < length table.names) (flat_map (used_in table) (pieces_of web table (title_at table.names n))) id (pieces_below table inside (pieces_of web table (title_at table.names n))) used in (
         low,
         pieces_use web.texts table inside (pieces_of web table (title_at table.names n)) id used,
         some_shape (row_at (rows_of rows) id) (shapes web table (Named (get_or table.names id []))) (shape_of_name id low)
-            (sym (flags id low) ∙ passes_filter has (pieces_names table (pieces_of web table (title_at table.names n))) id c),
+            (sym (flags id low) ∙ passes_filter has (pieces_uses table (pieces_of web table (title_at table.names n))) id c),
       )
 
   pub symbols_fit : (symbols : ℕ → List Symbol) (n : ℕ)

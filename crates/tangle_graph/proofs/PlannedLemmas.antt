@@ -1,4 +1,4 @@
--- What is kept of a node, where other names have a piece.
+-- The body of a node, where other names have a piece.
 use Rattle.std.proofs.Common.{◌≡◌, ◌∙◌, ◌+◌, ℕ, Bool, List, [], ◌∷◌, ◌++◌, flat_map, filter, refl, ap, subst, All}
 use Rattle.std.specs.Prelude.{if◌then◌else◌}
 use Rattle.std.proofs.lemmas.List.Elements.{All-head, All-tail}
@@ -11,9 +11,9 @@ use Rattle.tangle_names.specs.declared.Resolved.TheVariants.{Name, NoFullName, A
 use Rattle.tangle_names.specs.NameTable.{TableRead}
 use Rattle.tangle_plans.specs.Comparing.{IsPlanned}
 use Rattle.tangle_plans.specs.Flat.{Byte, Opening, MarkOf}
-use Rattle.tangle_plans.specs.ItemSlots.{marks_behind_item, name_slots, item_slots, items_slots, piece_slots, pieces_slots}
-use Rattle.tangle_plans.specs.ItemTags.{names_in, names_resolved, pieces_names}
-use Rattle.tangle_plans.specs.NodeBodies.{node_title, node_uses}
+use Rattle.tangle_plans.specs.ItemSlots.{marks_after_item, name_slots, item_slots, items_slots, piece_slots, pieces_slots}
+use Rattle.tangle_plans.specs.ItemTags.{uses_in, uses_resolved, pieces_uses}
+use Rattle.tangle_plans.specs.NodeBodies.{body_title, body_uses}
 use Rattle.tangle_plans.specs.Shapes.{Title}
 use Rattle.tangle_plans.specs.Slots.{Own, Used}
 use Rattle.tangle_plans.specs.WebShapes.{resolved_at}
@@ -43,13 +43,13 @@ module _ (has has' : ℕ → Bool) where
       ap (λ b. if b then id ∷ filter has ids else filter has ids) agrees.0
       ∙ ap (λ l. if has' id then id ∷ l else l) (same_filtered ids agrees.1)
 
-  same_name : (r : Resolved) → Agrees (names_resolved r) → name_slots has r ≡ name_slots has' r
+  same_name : (r : Resolved) → Agrees (uses_resolved r) → name_slots has r ≡ name_slots has' r
   same_name (Name id) agrees = ap (λ b. if b then Used id ∷ [] else Own (Byte space) ∷ []) agrees.0
   same_name NoFullName agrees = refl
   same_name Ambiguous agrees = refl
 
   module _ (texts : List (List ℕ)) (table : TableRead) (node : Title) where
-    same_item : (piece marks : ℕ) (x : Item) → Agrees (names_in table x) → item_slots texts table has node piece marks x ≡ item_slots texts table has' node piece marks x
+    same_item : (piece marks : ℕ) (x : Item) → Agrees (uses_in table x) → item_slots texts table has node piece marks x ≡ item_slots texts table has' node piece marks x
     same_item piece marks (item.UseOf occurrence) agrees = same_name (resolved_at table occurrence) agrees
     same_item piece marks (item.Word span) agrees = refl
     same_item piece marks (item.Sign span) agrees = refl
@@ -62,34 +62,34 @@ module _ (has has' : ℕ → Bool) where
     same_item piece marks (item.LineMark origin) agrees = refl
     same_item piece marks item.Defs agrees = refl
 
-    same_items : (piece marks : ℕ) (items : List Item) → Agrees (flat_map (names_in table) items)
+    same_items : (piece marks : ℕ) (items : List Item) → Agrees (flat_map (uses_in table) items)
         → items_slots texts table has node piece marks items ≡ items_slots texts table has' node piece marks items
     same_items piece marks [] agrees = refl
     same_items piece marks (x ∷ items) agrees =
-        let used = names_in table x in
-        let behind = flat_map (names_in table) items in
-        let next = marks_behind_item marks x in
-        ap (λ l. l ++ items_slots texts table has node piece next items) (same_item piece marks x (front used behind agrees))
-        ∙ ap (λ l. item_slots texts table has' node piece marks x ++ l) (same_items piece next items (back used behind agrees))
+        let used = uses_in table x in
+        let after = flat_map (uses_in table) items in
+        let next = marks_after_item marks x in
+        ap (λ l. l ++ items_slots texts table has node piece next items) (same_item piece marks x (front used after agrees))
+        ∙ ap (λ l. item_slots texts table has' node piece marks x ++ l) (same_items piece next items (back used after agrees))
 
-    same_pieces : (piece : ℕ) (pieces : List PieceRead) → Agrees (pieces_names table pieces)
+    same_pieces : (piece : ℕ) (pieces : List PieceRead) → Agrees (pieces_uses table pieces)
         → pieces_slots texts table has node piece pieces ≡ pieces_slots texts table has' node piece pieces
     same_pieces piece [] agrees = refl
     same_pieces piece (p ∷ pieces) agrees =
-        let used = flat_map (names_in table) p.items in
-        let behind = pieces_names table pieces in
-        ap (λ l. (Own (Opening node piece) ∷ Own (MarkOf node piece 0) ∷ l) ++ pieces_slots texts table has node (piece + 1) pieces) (same_items piece 0 p.items (front used behind agrees))
-        ∙ ap (λ l. piece_slots texts table has' node piece p.items ++ l) (same_pieces (piece + 1) pieces (back used behind agrees))
+        let used = flat_map (uses_in table) p.items in
+        let after = pieces_uses table pieces in
+        ap (λ l. (Own (Opening node piece) ∷ Own (MarkOf node piece 0) ∷ l) ++ pieces_slots texts table has node (piece + 1) pieces) (same_items piece 0 p.items (front used after agrees))
+        ∙ ap (λ l. piece_slots texts table has' node piece p.items ++ l) (same_pieces (piece + 1) pieces (back used after agrees))
 
-  -- what is kept is the same, if as before those names have a piece that it uses
-  pub planned_over : (node : NodeBody) → All (λ id. has id ≡ has' id) (node_uses node) → IsPlanned has node → IsPlanned has' node
+  -- the body is the same, if of the names that it uses the same ones have a piece
+  pub planned_over : (node : NodeBody) → All (λ id. has id ≡ has' id) (body_uses node) → IsPlanned has node → IsPlanned has' node
   planned_over node all is =
-      let agrees = one_by_one (pieces_names is.table is.pieces) (subst (All (λ id. has id ≡ has' id)) is.items.uses all) in
+      let agrees = one_by_one (pieces_uses is.table is.pieces) (subst (All (λ id. has id ≡ has' id)) is.items.uses all) in
       record {
         texts = is.texts;
         table = is.table;
         pieces = is.pieces;
         items = is.items;
-        plan = is.plan ∙ same_pieces is.texts is.table (node_title node) 0 is.pieces agrees;
-        plan_uses = is.plan_uses ∙ same_filtered (pieces_names is.table is.pieces) agrees;
+        plan = is.plan ∙ same_pieces is.texts is.table (body_title node) 0 is.pieces agrees;
+        plan_uses = is.plan_uses ∙ same_filtered (pieces_uses is.table is.pieces) agrees;
       }

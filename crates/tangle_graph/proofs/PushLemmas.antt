@@ -11,15 +11,15 @@ use Rattle.std.proofs.lemmas.List.{take_more, map-append, get_or_append_left, ge
 use Rattle.tangle_scan.specs.Web.{WebRead}
 use Rattle.tangle_names.specs.NameTable.{TableRead}
 use Rattle.tangle_plans.specs.Comparing.{IsPlanned}
-use Rattle.tangle_plans.specs.ItemTags.{pieces_names}
+use Rattle.tangle_plans.specs.ItemTags.{pieces_uses}
 use Rattle.tangle_plans.specs.ItemSlots.{pieces_at, pieces_slots}
-use Rattle.tangle_plans.specs.NodeBodies.{node_title, plan_slots, plan_uses}
+use Rattle.tangle_plans.specs.NodeBodies.{body_title, plan_slots, plan_uses}
 use Rattle.tangle_plans.specs.Slots.{Slot}
 use Rattle.tangle_plans.specs.declared.nodes.NodeBody.{NodeBody}
 use Rattle.digraph.specs.Graph.{Graph, rows_of}
 use Rattle.tangle_graph.specs.Nodes.{title_at}
-use Rattle.tangle_graph.specs.Plans.{AreFilled, ArePlanned, ArePlans, AreBodies, IsBodyOf, node_bodies, slots_of, uses_of_plans}
-use Rattle.tangle_graph.specs.Stores.{is_filled}
+use Rattle.tangle_graph.specs.Plans.{ArePieceFlags, ArePlanned, ArePlans, AreBodies, IsBodyOf, node_bodies, slots_of, uses_of_plans}
+use Rattle.tangle_graph.specs.Stores.{row_has_piece}
 
 -- what is so at each position of two lists is so with one more
 pushed : {X Y : Type 0} (f : ℕ → X → Y) (xs : List X) (ys : List Y) (x : X) (y : Y) (d : X) (e : Y) → length ys ≡ length xs
@@ -36,31 +36,31 @@ row_taken rows i row h read =
     ap rows_of (take_more rows i row h) ∙ map-append (λ (v : Vec ℕ Global). v.items) (take i rows) (get_or rows i row ∷ [])
     ∙ ap (λ (v : Vec ℕ Global). rows_of (take i rows) ++ v.items ∷ []) (sym read)
 
-filled_push : (xs : List (List ℕ)) (flags : List Bool) (r : List ℕ) (b : Bool) → AreFilled xs flags → b ≡ is_filled r → AreFilled (xs ++ r ∷ []) (flags ++ b ∷ [])
-filled_push xs flags r b is e = record {
+piece_flags_push : (xs : List (List ℕ)) (flags : List Bool) (r : List ℕ) (b : Bool) → ArePieceFlags xs flags → b ≡ row_has_piece r → ArePieceFlags (xs ++ r ∷ []) (flags ++ b ∷ [])
+piece_flags_push xs flags r b is e = record {
   size = omega (arith, is.size, length-append xs (r ∷ []), length-append flags (b ∷ []));
-  flag = pushed (λ n x. is_filled x) xs flags r b [] false is.size is.flag e;
+  flag = pushed (λ n x. row_has_piece x) xs flags r b [] false is.size is.flag e;
 }
 
-pub filled_more : (rows : Graph) (flags : List Bool) (i : ℕ) (row : Vec ℕ Global) (b : Bool) → i < length rows → row ≡ get_or rows i row → AreFilled (rows_of (take i rows)) flags
-    → b ≡ is_filled row.items → AreFilled (rows_of (take (i + 1) rows)) (flags ++ b ∷ [])
-filled_more rows flags i row b h read is e = subst (λ xs. AreFilled xs (flags ++ b ∷ [])) (sym (row_taken rows i row h read)) (filled_push (rows_of (take i rows)) flags row.items b is e)
+pub piece_flags_more : (rows : Graph) (flags : List Bool) (i : ℕ) (row : Vec ℕ Global) (b : Bool) → i < length rows → row ≡ get_or rows i row → ArePieceFlags (rows_of (take i rows)) flags
+    → b ≡ row_has_piece row.items → ArePieceFlags (rows_of (take (i + 1) rows)) (flags ++ b ∷ [])
+piece_flags_more rows flags i row b h read is e = subst (λ xs. ArePieceFlags xs (flags ++ b ∷ [])) (sym (row_taken rows i row h read)) (piece_flags_push (rows_of (take i rows)) flags row.items b is e)
 
 module _ (web : WebRead) (table : TableRead) (has : ℕ → Bool) where
   plans_push : (xs : List (List ℕ)) (slots : List (List Slot)) (uses : List (List ℕ)) (r : List ℕ) (s : List Slot) (u : List ℕ) → ArePlans web table has xs slots uses
-      → s ≡ pieces_slots web.texts table has (title_at table.names (length xs)) 0 (pieces_at web.pieces r) → u ≡ filter has (pieces_names table (pieces_at web.pieces r))
+      → s ≡ pieces_slots web.texts table has (title_at table.names (length xs)) 0 (pieces_at web.pieces r) → u ≡ filter has (pieces_uses table (pieces_at web.pieces r))
       → ArePlans web table has (xs ++ r ∷ []) (slots ++ s ∷ []) (uses ++ u ∷ [])
   plans_push xs slots uses r s u is es eu = record {
     slots_size = omega (arith, is.slots_size, length-append xs (r ∷ []), length-append slots (s ∷ []));
     uses_size = omega (arith, is.uses_size, length-append xs (r ∷ []), length-append uses (u ∷ []));
     slots_right = pushed (λ n x. pieces_slots web.texts table has (title_at table.names n) 0 (pieces_at web.pieces x)) xs slots r s [] [] is.slots_size is.slots_right es;
-    uses_right = pushed (λ n x. filter has (pieces_names table (pieces_at web.pieces x))) xs uses r u [] [] is.uses_size is.uses_right eu;
+    uses_right = pushed (λ n x. filter has (pieces_uses table (pieces_at web.pieces x))) xs uses r u [] [] is.uses_size is.uses_right eu;
   }
 
   pub plans_more : (rows : Graph) (bodies : List (Rc NodeBody Global)) (i : ℕ) (row : Vec ℕ Global) (body : Rc NodeBody Global) → i < length rows → row ≡ get_or rows i row
       → ArePlans web table has (rows_of (take i rows)) (slots_of bodies) (uses_of_plans bodies)
       → plan_slots body.value ≡ pieces_slots web.texts table has (title_at table.names i) 0 (pieces_at web.pieces row.items)
-      → plan_uses body.value ≡ filter has (pieces_names table (pieces_at web.pieces row.items))
+      → plan_uses body.value ≡ filter has (pieces_uses table (pieces_at web.pieces row.items))
       → ArePlans web table has (rows_of (take (i + 1) rows)) (slots_of (bodies ++ body ∷ [])) (uses_of_plans (bodies ++ body ∷ []))
   plans_more rows bodies i row body h read is es eu =
       let count : length (rows_of (take i rows)) ≡ i = length-map (take i rows) (λ (v : Vec ℕ Global). v.items) ∙ length-take-le i rows (omega (arith, h)) in
@@ -103,12 +103,12 @@ module _ (web : WebRead) (table : TableRead) where
       (bodies_push (rows_of (take i rows)) (node_bodies bodies) row.items body.value is one))
 
 module _ (names : List (List ℕ)) (has : ℕ → Bool) where
-  planned_push : (ts : List NodeBody) (t : NodeBody) (n : ℕ) → length ts ≡ n → ArePlanned names has ts → node_title t ≡ title_at names n → IsPlanned has t → ArePlanned names has (ts ++ t ∷ [])
+  planned_push : (ts : List NodeBody) (t : NodeBody) (n : ℕ) → length ts ≡ n → ArePlanned names has ts → body_title t ≡ title_at names n → IsPlanned has t → ArePlanned names has (ts ++ t ∷ [])
   planned_push ts t n count is e p = record {
-    titles = λ k body h. elim (dec_lt k (length ts)) as (λ _. node_title (get_or (ts ++ t ∷ []) k body) ≡ title_at names k) [
-      | yes low ↦ ap node_title (get_or_append_left ts (t ∷ []) body k low) ∙ is.titles k body low
+    titles = λ k body h. elim (dec_lt k (length ts)) as (λ _. body_title (get_or (ts ++ t ∷ []) k body) ≡ title_at names k) [
+      | yes low ↦ ap body_title (get_or_append_left ts (t ∷ []) body k low) ∙ is.titles k body low
       | no past ↦ (let end : length ts ≡ k = omega (arith, past, h, length-append ts (t ∷ [])) in
-          ap node_title (get_or_push ts t body k end) ∙ e ∙ ap (title_at names) (sym count ∙ end))
+          ap body_title (get_or_push ts t body k end) ∙ e ∙ ap (title_at names) (sym count ∙ end))
     ];
     planned = All-append (IsPlanned has) ts (t ∷ []) is.planned (All-cons (IsPlanned has) t [] p (All-nil (IsPlanned has)));
   }
@@ -117,7 +117,7 @@ module _ (names : List (List ℕ)) (has : ℕ → Bool) where
   none_planned = record { titles = λ k body h. absurd (omega (arith, h)); planned = All-nil (IsPlanned has) }
 
   pub planned_more : (rows : Graph) (bodies : List (Rc NodeBody Global)) (i : ℕ) (body : Rc NodeBody Global) → i < length rows → length (node_bodies bodies) ≡ length (rows_of (take i rows))
-      → ArePlanned names has (node_bodies bodies) → node_title body.value ≡ title_at names i → IsPlanned has body.value → ArePlanned names has (node_bodies (bodies ++ body ∷ []))
+      → ArePlanned names has (node_bodies bodies) → body_title body.value ≡ title_at names i → IsPlanned has body.value → ArePlanned names has (node_bodies (bodies ++ body ∷ []))
   planned_more rows bodies i body h size is e p =
       let count : length (node_bodies bodies) ≡ i = size ∙ length-map (take i rows) (λ (v : Vec ℕ Global). v.items) ∙ length-take-le i rows (omega (arith, h)) in
       subst (ArePlanned names has) (sym (map-append (λ (t : Rc NodeBody Global). t.value) bodies (body ∷ []))) (planned_push (node_bodies bodies) body.value i count is e p)
@@ -127,19 +127,19 @@ pub bodies_count : (rows : Graph) (bodies : List (Rc NodeBody Global)) (i : ℕ)
 bodies_count rows bodies i h size =
     sym (length-map bodies (λ (t : Rc NodeBody Global). t.value)) ∙ size ∙ length-map (take i rows) (λ (v : Vec ℕ Global). v.items) ∙ length-take-le i rows (omega (arith, h))
 
--- what is so of the body of before is so of the one that is kept
-pub kept_there : (before : Option (Bor (Rc NodeBody Global))) (Q : NodeBody → Type 0) (body : NodeBody) → MatchOption before ⊥ (λ old. body ≡ old.now.value)
+-- what holds of the old body holds of a body that is the same
+pub holds_of_old : (before : Option (Bor (Rc NodeBody Global))) (Q : NodeBody → Type 0) (body : NodeBody) → MatchOption before ⊥ (λ old. body ≡ old.now.value)
     → IfSome before (λ old. Q old.now.value) → Q body
-kept_there None Q body same at = absurd same
-kept_there (Some old) Q body same at = subst Q (sym same) at
+holds_of_old None Q body same at = absurd same
+holds_of_old (Some old) Q body same at = subst Q (sym same) at
 
 -- one body more, with its flag
-pub kept_more : (R : ℕ → NodeBody → Type 0) (bodies : List (Rc NodeBody Global)) (flags : List Bool) (i : ℕ) (body : Rc NodeBody Global) (flag : Bool)
+pub flagged_more : (R : ℕ → NodeBody → Type 0) (bodies : List (Rc NodeBody Global)) (flags : List Bool) (i : ℕ) (body : Rc NodeBody Global) (flag : Bool)
     → length bodies ≡ i → length flags ≡ length bodies
     → ((n : ℕ) → get_or flags n false ≡ true → (b : NodeBody) × (slice_get (node_bodies bodies) n ≡ Some b) × R n b)
     → (flag ≡ true → R i body.value)
     → (n : ℕ) → get_or (flags ++ flag ∷ []) n false ≡ true → (b : NodeBody) × (slice_get (node_bodies (bodies ++ body ∷ [])) n ≡ Some b) × R n b
-kept_more R bodies flags i body flag at size are one n e =
+flagged_more R bodies flags i body flag at size are one n e =
     let all = node_bodies bodies in
     let more : node_bodies (bodies ++ body ∷ []) ≡ all ++ body.value ∷ [] = map-append (λ (t : Rc NodeBody Global). t.value) bodies (body ∷ []) in
     let count : length (node_bodies bodies) ≡ length flags = length-map bodies (λ (t : Rc NodeBody Global). t.value) ∙ sym size in

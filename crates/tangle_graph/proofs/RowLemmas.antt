@@ -1,31 +1,13 @@
--- Rows that grow by the pieces of a web, one after another.
-use Rattle.std.proofs.Common.{◌≡◌, ◌∙◌, ◌<◌, ◌≤◌, ◌+◌, length-append, ℕ, zero, suc, Bool, true, false, cond, List, [], ◌∷◌, ◌++◌, length, map, take, filter, get_or, refl, ap, sym, arith, append_assoc, append-nil, add-zero, Vec}
+-- Rows of the positions of elements.
+use Rattle.std.proofs.Common.{◌≡◌, ◌∙◌, ◌<◌, ◌≤◌, ◌+◌, length-append, ℕ, Bool, true, false, cond, List, [], ◌∷◌, ◌++◌, length, map, filter, get_or, refl, ap, sym, arith, append_assoc, Vec}
 use Rattle.std.specs.Global.{Global}
 use Rattle.std.proofs.lemmas.List.{map-append, get_or_append_left, get_or_push}
 use Rattle.std.specs.Prelude.{All, if◌then◌else◌}
 use Rattle.std.proofs.lemmas.List.Elements.{All-append, All-cons, All-nil}
 use Rattle.std.proofs.Math.Decide.{dec_lt}
 use Rattle.digraph.specs.Graph.{rows_of}
-use Rattle.digraph.specs.Rows.{IsRowsOf, GrowsBy}
+use Rattle.digraph.specs.Rows.{IsRowsOf}
 use Rattle.digraph.specs.Users.{positions}
-
-pub positions_more : {X : Type 0} (p : X → Bool) (k : ℕ) (xs : List X) (i : ℕ) (d : X) → i < length xs
-    → positions p k (take (i + 1) xs) ≡ positions p k (take i xs) ++ cond (p (get_or xs i d)) ((k + i) ∷ []) []
-positions_more p k [] i d h = absurd (omega (arith, h))
-positions_more p k (x ∷ xs) zero d h = append-nil (cond (p x) (k ∷ []) []) ∙ ap (λ j. cond (p x) (j ∷ []) []) (sym (add-zero k))
-positions_more p k (x ∷ xs) (suc i) d h =
-    let one_more : suc i + 1 ≡ suc (i + 1) = omega arith in
-    let position : k + 1 + i ≡ k + suc i = omega arith in
-    let low : i < length xs = omega (arith, h) in
-    ap (λ n. positions p k (take n (x ∷ xs))) one_more
-    ∙ (ap (λ r. cond (p x) (k ∷ []) [] ++ r) (positions_more p (k + 1) xs i d low ∙ ap (λ n. positions p (k + 1) (take i xs) ++ cond (p (get_or xs i d)) (n ∷ []) []) position)
-    ∙ sym (append_assoc (cond (p x) (k ∷ []) []) (positions p (k + 1) (take i xs)) (cond (p (get_or xs i d)) ((k + suc i) ∷ []) [])))
-
-pub rows_by : (count : ℕ) (f g h : ℕ → List ℕ) (old new : List (List ℕ)) → IsRowsOf count f old → GrowsBy g old new → ((n : ℕ) → h n ≡ f n ++ g n) → IsRowsOf count h new
-rows_by count f g h old new is more sum = record {
-  size = more.size ∙ is.size;
-  row = λ n l. let inside : n < length old = omega (arith, is.size) in more.row n inside ∙ (ap (λ r. r ++ g n) (is.row n l) ∙ sym (sum n));
-}
 
 -- one empty row more
 pub row_more : (rows : List (Vec ℕ Global)) (count : ℕ) (row : Vec ℕ Global) → IsRowsOf count (λ _. []) (rows_of rows) → row.items ≡ [] → IsRowsOf (count + 1) (λ _. []) (rows_of (rows ++ row ∷ []))

@@ -10,7 +10,7 @@ use Rattle.tangle_plans.specs.declared.nodes.NodeBody.{NodeBody}
 use Rattle.tangle_plans.specs.declared.nodes.Node.{Node}
 use Rattle.tangle_plans.specs.declared.nodes.Node.TheVariants.{Program, Name}
 use Rattle.tangle_graph.specs.Nodes.{title_at, title_of_name, title_of_node, IsNodeOf, node_at, number_in, entry, entry_if, shape_of_name, shape_of_node}
-use Rattle.tangle_graph.specs.Stores.{StoreRead, IsNodeIn, IsStoreOf, KeepsBodies, is_filled, has_piece_at, body_at, shape_in_store, title_in_store}
+use Rattle.tangle_graph.specs.Stores.{StoreRead, IsNodeIn, IsStoreOf, KeepsBodies, row_has_piece, has_piece_at, body_at, shape_in_store, title_in_store}
 use Rattle.tangle_graph.proofs.NodeLemmas.{node_is, number_at, numbered, title-node}
 use Rattle.tangle_plans.proofs.ShapeLemmas.{names_decide}
 
@@ -37,7 +37,7 @@ same_none : {X : Type 0} (o : Option X) (x : X) → o ≡ None → o ≡ Some x 
 same_none o x none some = absurd (let both : None ≡ Some x = sym none ∙ some in cc)
 
 module _ (shapes : Shapes) (store : StoreRead) (is : IsStoreOf shapes store) where
-  -- what is kept of a node determines its shape
+  -- the body of a node determines its shape
   pub body_decides : (a : Node) (body : NodeBody) → Some body ≡ body_at store a → HoldsShape store.names (shape_in_store store shapes a) body
   body_decides a body e = elim (is_known store.names a) [
     | known h ↦ (let reported = is.shape_held a h in
@@ -60,7 +60,7 @@ module _ (shapes : Shapes) (store : StoreRead) (is : IsStoreOf shapes store) whe
       λ e none. (is.has_piece a h).0 e (sym (shape_inside shapes store.names a h) ∙ none),
       λ some. (is.has_piece a h).1 (λ none. some (shape_inside shapes store.names a h ∙ none)),
     )
-    | unknown none empty ↦ (let off : has_piece_at store a ≡ false = ap (λ o. is_filled (entry [] store.pieces o)) none in (
+    | unknown none empty ↦ (let off : has_piece_at store a ≡ false = ap (λ o. row_has_piece (entry [] store.pieces o)) none in (
       λ e. absurd (let both : true ≡ false = sym e ∙ off in cc),
       λ some. absurd (some (empty shapes)),
     ))
@@ -94,7 +94,7 @@ module _ (shapes : Shapes) (store : StoreRead) (is : IsStoreOf shapes store) whe
 some_same : {X : Type 0} (x y : X) → Some x ≡ Some y → x ≡ y
 some_same x y e = cc
 
--- a node that has the body of before, and uses names as before, has the shape of before
+-- a node that has the old body, and uses names as before, has the old shape
 pub shape_kept : (old new : StoreRead) (flags : List Bool) (node : Node) → KeepsBodies old new flags → entry false flags (number_in (length new.names) node) ≡ true
     → (old_shapes new_shapes : Shapes) → IsStoreOf old_shapes old → IsStoreOf new_shapes new → IsNodeIn new node
     → new_shapes (title_in_store new node) ≡ old_shapes (title_in_store new node)

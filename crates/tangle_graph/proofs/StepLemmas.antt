@@ -36,8 +36,8 @@ module _ (web : WebRead) (table : TableRead) (rows uses : Graph) (order : List �
       → UsesTitle (shapes web table) (title_at table.names (get_or order i 0)) t
       → (m : ℕ) × HasUse uses (get_or order i 0) m × (m < length uses) × (title_at table.names m ≡ t) × (get_or values m 0 ≡ value t)
   used_found value other values t sofar u =
-      let found = graph.titled.complete (get_or order i 0) t (is.placed.nodes i h) u in
-      let c : Contains (take i order) found.0 = is.placed.after i found.0 h found.1 in
+      let found = graph.titled.complete (get_or order i 0) t (is.after_uses.nodes i h) u in
+      let c : Contains (take i order) found.0 = is.after_uses.after i found.0 h found.1 in
       (found.0, found.1, found.2, found.3, sofar.listed found.0 c ∙ ap value found.3)
 
   pub weight_step : (weights row : List ℕ) (result : ℕ) → ResolvesInside table
@@ -49,7 +49,7 @@ module _ (web : WebRead) (table : TableRead) (rows uses : Graph) (order : List �
       → result ≡ weight_of (shapes web table) (title_at table.names (get_or order i 0))
   weight_step weights row result inside sofar read law e =
       let n = get_or order i 0 in
-      let low : n < length rows = omega (arith, is.placed.nodes i h, graph.rows_size, graph.uses_size) in
+      let low : n < length rows = omega (arith, is.after_uses.nodes i h, graph.rows_size, graph.uses_size) in
       let pieces : pieces_at web.pieces row ≡ pieces_of web table (title_at table.names n) = ap (pieces_at web.pieces) read ∙ graph.pieces n low in
       e ∙ ap (λ ps. min weight_cap (weight_of_pieces web.texts table (λ id. get_or weights id 0) ps)) pieces
       ∙ pieces_weigh web.texts table inside weight_cap (λ id. get_or weights id 0) (λ name. min weight_cap (weight weight_cap (shapes web table) (Named name)))
@@ -80,7 +80,7 @@ module _ (web : WebRead) (table : TableRead) (rows uses : Graph) (order : List �
       f name = depth levels (shapes web table) (Named name)
 
       pieces : pieces_at web.pieces row ≡ pieces_of web table (title_at table.names n)
-      pieces = ap (pieces_at web.pieces) read ∙ graph.pieces n (let low = is.placed.nodes i h in omega (arith, low, graph.rows_size, graph.uses_size))
+      pieces = ap (pieces_at web.pieces) read ∙ graph.pieces n (let low = is.after_uses.nodes i h in omega (arith, low, graph.rows_size, graph.uses_size))
 
       shape_of : (s : Shape) → shapes web table (title_at table.names n) ≡ s → depth_of (shapes web table) (title_at table.names n) ≡ min levels (pieces_depth f s)
       shape_of s e = law (title_at table.names n) ∙ ap (λ t. min levels (pieces_depth f t)) e
@@ -95,7 +95,7 @@ module _ (web : WebRead) (table : TableRead) (rows uses : Graph) (order : List �
       upper items rest e (inr (m, c, met)) =
           let used_by : HasUse uses n m = subst (λ r. Contains r m) uses_read c in
           let u = named_use (title_at table.names m) (graph.titled.sound n m used_by) in
-          let value : get_or depths m 0 ≡ f u.0 = sofar.listed m (is.placed.after i m h used_by) ∙ ap (depth levels (shapes web table)) u.1 in
+          let value : get_or depths m 0 ≡ f u.0 = sofar.listed m (is.after_uses.after i m h used_by) ∙ ap (depth levels (shapes web table)) u.1 in
           let deep : suc (f u.0) ≤ pieces_depth f (items ∷ rest) = pieces_depth-use f (items ∷ rest) u.0 (subst (λ s. UsesInShape s u.0) e u.2) in
           omega (arith, met, value, deep)
 

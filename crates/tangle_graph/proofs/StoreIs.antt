@@ -12,7 +12,7 @@ use Rattle.tangle_scan.specs.Web.{WebRead, PieceRead}
 use Rattle.tangle_names.specs.NameTable.{TableRead}
 use Rattle.tangle_plans.specs.Shapes.{Title, Named, Uses, ContainsItself}
 use Rattle.tangle_plans.specs.Flat.{Symbol, flat, depth}
-use Rattle.tangle_plans.specs.ItemTags.{pieces_names, shape_of}
+use Rattle.tangle_plans.specs.ItemTags.{pieces_uses, shape_of}
 use Rattle.tangle_plans.specs.NodeBodies.{HoldsShape}
 use Rattle.tangle_plans.specs.Slots.{Slot, filled}
 use Rattle.tangle_plans.specs.ItemSlots.{pieces_at, pieces_slots}
@@ -24,29 +24,29 @@ use Rattle.tangle_plans.specs.declared.nodes.Node.TheVariants.{Name}
 use Rattle.digraph.specs.Flags.{FlagsJust}
 use Rattle.digraph.specs.Graph.{Graph, HasUse, rows_of, row_at}
 use Rattle.digraph.specs.Reach as graph
-use Rattle.digraph.specs.Rows.{IsConverse}
+use Rattle.digraph.specs.Rows.{IsReversed}
 use Rattle.digraph.proofs.GraphLemmas.{use_in, rows_size, node_in}
 use Rattle.digraph.proofs.TitleLemmas.{contains_alike}
 use Rattle.tangle_graph.specs.Groups.{IsGraphOf}
 use Rattle.tangle_graph.specs.Nodes.{title_at, title_of_node, IsNodeOf, node_at, number_in, entry, entry_if, UsesTitle}
 use Rattle.tangle_expansion.specs.Outputs.{OutputRead}
 use Rattle.tangle_graph.specs.Outputs.{is_expandable}
-use Rattle.tangle_graph.specs.Stores.{StoreRead, IsStoreOf, UsesPiece, is_filled}
+use Rattle.tangle_graph.specs.Stores.{StoreRead, IsStoreOf, UsesPiece, row_has_piece}
 use Rattle.tangle_graph.specs.Plans.{ArePlans, AreBodies}
 use Rattle.tangle_graph.proofs.PlanLemmas.{UsesWithPiece, plan_uses_pieces, symbols_fit}
 use Rattle.tangle_graph.proofs.NodeLemmas.{numbered, title-node, node_is, once_titled, title_inside}
 use Rattle.tangle_graph.proofs.LimitLemmas.{shape_size}
-use Rattle.tangle_graph.proofs.StoreLemmas.{same_number, contains_mapped, mapped_contains, filled_row, there, expandable_is}
+use Rattle.tangle_graph.proofs.StoreLemmas.{same_number, contains_mapped, mapped_contains, piece_of_row, there, expandable_is}
 use Rattle.tangle_graph.proofs.ReachLemmas.{contains_by_titles}
 
 module _ (web : WebRead) (table : TableRead) (rows uses users : Graph) (flags : List Bool) (weights depths : List ℕ) (expandable : List Bool) (outputs : List OutputRead) (faults : List FaultRead) (slots : List (List Slot)) (plan_uses : List (List ℕ)) (bodies : List NodeBody) (has : ℕ → Bool)
-    (distinct : IsDistinct bytes_eq table.names) (inside : ResolvesInside table) (is : IsGraphOf web table rows uses) (converse : IsConverse uses users)
+    (distinct : IsDistinct bytes_eq table.names) (inside : ResolvesInside table) (is : IsGraphOf web table rows uses) (reversed : IsReversed uses users)
     (increasing : (n : ℕ) → IsStrictlyIncreasing (row_at (rows_of uses) n)) (same_size : length users ≡ length uses)
     (flagged : FlagsJust uses flags (graph.ContainsItself (HasUse uses)))
     (weighed : (n : ℕ) → n < length uses → get_or weights n 0 ≡ weight_of (shapes web table) (title_at table.names n))
     (measured : (n : ℕ) → n < length uses → get_or depths n 0 ≡ depth_of (shapes web table) (title_at table.names n))
     (limited : (n : ℕ) → n < length uses → get_or expandable n false ≡ is_expandable (shapes web table) (title_at table.names n))
-    (has_is : (id : ℕ) → id < length table.names → has id ≡ is_filled (row_at (rows_of rows) id))
+    (has_is : (id : ℕ) → id < length table.names → has id ≡ row_has_piece (row_at (rows_of rows) id))
     (planned : ArePlans web table has (rows_of rows) slots plan_uses) (shaped : AreBodies web table (rows_of rows) bodies)
     (law : (symbols : ℕ → List Symbol) (node : Title) → depth levels (shapes web table) node < levels
     → ((id : ℕ) → id < length table.names → Uses (shapes web table) node (get_or table.names id [])
@@ -164,18 +164,18 @@ module _ (web : WebRead) (table : TableRead) (rows uses users : Graph) (flags : 
   IsUsedBy a b = UsesTitle (shapes web table) b a
 
   users_sound : (n m : ℕ) → HasUse users n m → (m < length uses) × IsUsedBy (title_at table.names n) (title_at table.names m)
-  users_sound n m u = (let turned : HasUse uses m n = (converse.turned m n).0 u in (node_in uses m n turned, is.titled.sound m n turned))
+  users_sound n m u = (let used : HasUse uses m n = (reversed.reversed m n).0 u in (node_in uses m n used, is.titled.sound m n used))
 
   users_complete : (n m : ℕ) → n < length uses → m < length uses → IsUsedBy (title_at table.names n) (title_at table.names m) → HasUse users n m
-  users_complete n m hn hm u = (converse.turned m n).1 (used_complete m n hm hn u)
+  users_complete n m hn hm u = (reversed.reversed m n).1 (used_complete m n hm hn u)
 
   piece_is : (a : Node) → IsNodeOf table.names a
-      → (is_filled (entry [] (rows_of rows) (number_in (length table.names) a)) ≡ true) ↔ (shapes web table (title_of_node table.names a) ≢ [])
+      → (row_has_piece (entry [] (rows_of rows) (number_in (length table.names) a)) ≡ true) ↔ (shapes web table (title_of_node table.names a) ≢ [])
   piece_is a ha =
       let m = number_of_node a ha in
-      let by = filled_row (row_at (rows_of rows) m.n) (shapes web table (title_at table.names m.n)) (shape_size web table rows uses is m.n m.here) in (
-        λ e none. by.0 (ap is_filled (sym (entry_is [] (rows_of rows) a m)) ∙ e) (ap (shapes web table) (sym m.titled) ∙ none),
-        λ h. ap is_filled (entry_is [] (rows_of rows) a m) ∙ by.1 (λ none. h (ap (shapes web table) m.titled ∙ none)),
+      let by = piece_of_row (row_at (rows_of rows) m.n) (shapes web table (title_at table.names m.n)) (shape_size web table rows uses is m.n m.here) in (
+        λ e none. by.0 (ap row_has_piece (sym (entry_is [] (rows_of rows) a m)) ∙ e) (ap (shapes web table) (sym m.titled) ∙ none),
+        λ h. ap row_has_piece (entry_is [] (rows_of rows) a m) ∙ by.1 (λ none. h (ap (shapes web table) m.titled ∙ none)),
       )
 
   contains_is : (a : Node) → IsNodeOf table.names a
@@ -229,8 +229,8 @@ module _ (web : WebRead) (table : TableRead) (rows uses users : Graph) (flags : 
   plan_uses_is : (a : Node) (id : ℕ) → IsNodeOf table.names a → Contains (entry [] plan_uses (number_in (length table.names) a)) id → UsesPiece (shapes web table) made a id
   plan_uses_is a id ha c =
       let m = number_of_node a ha in
-      let row : entry [] plan_uses (number_in (length table.names) a) ≡ filter has (pieces_names table (pieces_of web table (title_at table.names m.n))) =
-      entry_is [] plan_uses a m ∙ planned.uses_right m.n (omega (arith, m.here, is.uses_size, is.rows_size, rows_size rows)) ∙ ap (λ ps. filter has (pieces_names table ps)) (pieces_are m.n m.here) in
+      let row : entry [] plan_uses (number_in (length table.names) a) ≡ filter has (pieces_uses table (pieces_of web table (title_at table.names m.n))) =
+      entry_is [] plan_uses a m ∙ planned.uses_right m.n (omega (arith, m.here, is.uses_size, is.rows_size, rows_size rows)) ∙ ap (λ ps. filter has (pieces_uses table ps)) (pieces_are m.n m.here) in
       used_piece a m id (plan_uses_pieces web table rows uses is inside has has_is m.n id (subst (λ l. Contains l id) row c))
 
   plans_are : (a : Node) (symbols : ℕ → List Symbol) → IsNodeOf table.names a → depth_of (shapes web table) (title_of_node table.names a) < levels
@@ -270,9 +270,9 @@ module _ (web : WebRead) (table : TableRead) (rows uses users : Graph) (flags : 
     used = known_used;
     has_piece = piece_is;
     uses = related uses refl (UsesTitle (shapes web table)) used_sound used_complete increasing;
-    users = related users same_size IsUsedBy users_sound users_complete converse.increasing;
+    users = related users same_size IsUsedBy users_sound users_complete reversed.increasing;
     uses_once = apart uses refl (UsesTitle (shapes web table)) used_sound used_complete increasing;
-    users_once = apart users same_size IsUsedBy users_sound users_complete converse.increasing;
+    users_once = apart users same_size IsUsedBy users_sound users_complete reversed.increasing;
     contains_itself = contains_is;
     weights = weight_is;
     depths = depth_is;

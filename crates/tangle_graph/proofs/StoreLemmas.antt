@@ -13,10 +13,10 @@ use Rattle.tangle_scan.specs.Web.{PieceRead}
 use Rattle.tangle_names.specs.declared.Resolved.{Resolved}
 use Rattle.tangle_names.specs.declared.Resolved.TheVariants as resolved
 use Rattle.tangle_names.specs.NameTable.{TableRead}
-use Rattle.tangle_plans.specs.WebShapes.{resolved_at, node_of, node_of_name, is_node, is_piece_of, IsNameBelow, ResolvesInside, shapes}
+use Rattle.tangle_plans.specs.WebShapes.{resolved_at, node_of, node_of_occurrence, is_node, is_piece_of, IsNameBelow, ResolvesInside, shapes}
 use Rattle.tangle_graph.specs.Nodes.{node_at}
-use Rattle.tangle_graph.specs.Outputs.{has_pieces, is_expandable}
-use Rattle.tangle_graph.specs.Stores.{is_filled}
+use Rattle.tangle_graph.specs.Outputs.{shape_has_piece, is_expandable}
+use Rattle.tangle_graph.specs.Stores.{row_has_piece}
 use Rattle.tangle_graph.proofs.MeasureLemmas.{weight-settles}
 use Rattle.tangle_graph.proofs.NodeLemmas.{node_below, node_past}
 
@@ -57,33 +57,33 @@ light_of : (cap most w v : ℕ) → cap ≡ most + 1 → v ≡ w → min cap v �
 light_of cap most w v e same h = omega (arith, e, same, h)
 
 -- a shape is empty where there is no number of a piece
-pub filled_row : (row : List ℕ) (s : Shape) → length s ≡ length row → (is_filled row ≡ true) ↔ (s ≢ [])
-filled_row [] [] e = (λ t. absurd (let no : false ≡ true = t in cc), λ h. absurd (h refl))
-filled_row [] (x ∷ s) e = absurd (omega (arith, e))
-filled_row (k ∷ row) [] e = absurd (omega (arith, e))
-filled_row (k ∷ row) (x ∷ s) e = (λ t none. (let no : x ∷ s ≡ [] = none in cc), λ h. refl)
+pub piece_of_row : (row : List ℕ) (s : Shape) → length s ≡ length row → (row_has_piece row ≡ true) ↔ (s ≢ [])
+piece_of_row [] [] e = (λ t. absurd (let no : false ≡ true = t in cc), λ h. absurd (h refl))
+piece_of_row [] (x ∷ s) e = absurd (omega (arith, e))
+piece_of_row (k ∷ row) [] e = absurd (omega (arith, e))
+piece_of_row (k ∷ row) (x ∷ s) e = (λ t none. (let no : x ∷ s ≡ [] = none in cc), λ h. refl)
 
-both_true : (a b : Bool) → (a && b) ≡ true → (a ≡ true) × (b ≡ true)
+pub both_true : (a b : Bool) → (a && b) ≡ true → (a ≡ true) × (b ≡ true)
 both_true true b e = (refl, e)
 both_true false b e = absurd (let no : false ≡ true = e in cc)
 
 joined : (a b c : Bool) → a ≡ true → b ≡ true → c ≡ true → (a && (b && c)) ≡ true
 joined a b c p q r = rw (p, q, r) refl
 
-filled_shape : (s : Shape) → (has_pieces s ≡ true) ↔ (s ≢ [])
-filled_shape [] = (λ t. absurd (let no : false ≡ true = t in cc), λ h. absurd (h refl))
-filled_shape (x ∷ s) = (λ t none. (let no : x ∷ s ≡ [] = none in cc), λ h. refl)
+piece_of_shape : (s : Shape) → (shape_has_piece s ≡ true) ↔ (s ≢ [])
+piece_of_shape [] = (λ t. absurd (let no : false ≡ true = t in cc), λ h. absurd (h refl))
+piece_of_shape (x ∷ s) = (λ t none. (let no : x ∷ s ≡ [] = none in cc), λ h. refl)
 
 -- the test of a node is the property
 pub expandable_is : (shapes : Shapes) (node : Title) → (is_expandable shapes node ≡ true) ↔ IsExpandableNode shapes node
 expandable_is shapes node = (
-  λ e. (let first = both_true (has_pieces (shapes node)) (nat_lt (depth levels shapes node) levels && nat_le (weight levels shapes node) heaviest) e in
+  λ e. (let first = both_true (shape_has_piece (shapes node)) (nat_lt (depth levels shapes node) levels && nat_le (weight levels shapes node) heaviest) e in
       let rest = both_true (nat_lt (depth levels shapes node) levels) (nat_le (weight levels shapes node) heaviest) first.1 in
       let low : depth levels shapes node < levels = (let t = rest.0 in grind (arith, nat_tests)) in
       let few : weight levels shapes node ≤ heaviest = (let t = rest.1 in grind (arith, nat_tests)) in
-      record { has_piece = (filled_shape (shapes node)).0 first.0; shallow = low; light = few }),
-  λ x. joined (has_pieces (shapes node)) (nat_lt (depth levels shapes node) levels) (nat_le (weight levels shapes node) heaviest)
-      ((filled_shape (shapes node)).1 x.has_piece)
+      record { has_piece = (piece_of_shape (shapes node)).0 first.0; shallow = low; light = few }),
+  λ x. joined (shape_has_piece (shapes node)) (nat_lt (depth levels shapes node) levels) (nat_le (weight levels shapes node) heaviest)
+      ((piece_of_shape (shapes node)).1 x.has_piece)
       (let h = x.shallow in grind (arith, nat_tests)) (let h = x.light in grind (arith, nat_tests)),
 )
 
@@ -94,20 +94,20 @@ same_bool false false f g = refl
 
 -- so is the test of the capped weight and depth
 pub expandable_by_limits : (shapes : Shapes) (node : Title) (row : List ℕ) (w d : ℕ) → length (shapes node) ≡ length row → w ≡ weight_of shapes node → d ≡ depth_of shapes node
-    → (is_filled row && (nat_lt d levels && nat_le w heaviest)) ≡ is_expandable shapes node
+    → (row_has_piece row && (nat_lt d levels && nat_le w heaviest)) ≡ is_expandable shapes node
 expandable_by_limits shapes node row w d size weighed measured =
-    same_bool (is_filled row && (nat_lt d levels && nat_le w heaviest)) (is_expandable shapes node)
-    (λ e. (let first = both_true (is_filled row) (nat_lt d levels && nat_le w heaviest) e in
+    same_bool (row_has_piece row && (nat_lt d levels && nat_le w heaviest)) (is_expandable shapes node)
+    (λ e. (let first = both_true (row_has_piece row) (nat_lt d levels && nat_le w heaviest) e in
     let rest = both_true (nat_lt d levels) (nat_le w heaviest) first.1 in
     let low : depth levels shapes node < levels = (let t = rest.0 in let below : d < levels = grind (arith, nat_tests) in omega (arith, below, measured)) in
     let few : weight_of shapes node ≤ heaviest = (let t = rest.1 in let below : w ≤ heaviest = grind (arith, nat_tests) in omega (arith, below, weighed)) in
     (expandable_is shapes node).1 (record {
-      has_piece = (filled_row row (shapes node) size).0 first.0;
+      has_piece = (piece_of_row row (shapes node) size).0 first.0;
       shallow = low;
       light = light_of weight_cap heaviest (weight levels shapes node) (weight weight_cap shapes node) one_more (weight_same shapes node low) few;
     })))
     (λ e. (let x = (expandable_is shapes node).0 e in
-    joined (is_filled row) (nat_lt d levels) (nat_le w heaviest) ((filled_row row (shapes node) size).1 x.has_piece)
+    joined (row_has_piece row) (nat_lt d levels) (nat_le w heaviest) ((piece_of_row row (shapes node) size).1 x.has_piece)
     (let h = x.shallow in let below : d < levels = omega (arith, h, measured) in grind (arith, nat_tests))
     (let h = x.light in let low = x.shallow in let same = weight_same shapes node low in let below : w ≤ heaviest = omega (arith, h, same, weighed) in grind (arith, nat_tests))))
 
@@ -121,7 +121,7 @@ module _ (table : TableRead) (inside : ResolvesInside table) (name : List ℕ) w
   there_resolved resolved.NoFullName h e = absurd (let no : false ≡ true = e in cc)
   there_resolved resolved.Ambiguous h e = absurd (let no : false ≡ true = e in cc)
 
-  there_named : (o : Option ℕ) → is_node table (Named name) (node_of_name table o) ≡ true → IsThere
+  there_named : (o : Option ℕ) → is_node table (Named name) (node_of_occurrence table o) ≡ true → IsThere
   there_named None e = absurd (let no : false ≡ true = e in cc)
   there_named (Some occurrence) e = there_resolved (resolved_at table occurrence) (inside occurrence) e
 

@@ -9,9 +9,9 @@ use Rattle.digraph.specs.Rows.{IsRowsOf}
 use Rattle.digraph.proofs.GraphLemmas.{rows_size}
 use Rattle.tangle_scan.specs.Web.{PieceRead, WebRead}
 use Rattle.tangle_names.specs.NameTable.{TableRead}
-use Rattle.tangle_plans.specs.ItemTags.{pieces_names}
+use Rattle.tangle_plans.specs.ItemTags.{pieces_uses}
 use Rattle.tangle_plans.specs.ItemSlots.{pieces_at, no_piece}
-use Rattle.tangle_plans.specs.NodeBodies.{node_uses}
+use Rattle.tangle_plans.specs.NodeBodies.{body_uses}
 use Rattle.tangle_plans.specs.declared.nodes.NodeBody.{NodeBody}
 use Rattle.tangle_graph.specs.Grouping.{positions_of, used_numbers, is_piece_of_number}
 use Rattle.tangle_graph.specs.Plans.{ArePiecesInside, AreBodies}
@@ -19,17 +19,17 @@ use Rattle.tangle_graph.proofs.PlanLemmas.{names_same}
 use Rattle.tangle_graph.proofs.RowLemmas.{positions_below, positions_read}
 
 pub uses_collected : (web : WebRead) (table : TableRead) (pieces : List (List ℕ)) (bodies : List NodeBody) (uses : List (List ℕ))
-    → IsRowsOf (length table.names + 1) (positions_of table web.pieces) pieces → AreBodies web table pieces bodies → uses ≡ map node_uses bodies
+    → IsRowsOf (length table.names + 1) (positions_of table web.pieces) pieces → AreBodies web table pieces bodies → uses ≡ map body_uses bodies
     → IsRowsOf (length table.names + 1) (used_numbers table web.pieces) uses
 uses_collected web table pieces bodies uses grouped are e = rw e (record {
-  size = length-map bodies node_uses ∙ are.size ∙ grouped.size;
+  size = length-map bodies body_uses ∙ are.size ∙ grouped.size;
   row = λ n low. (
       let reported = are.each n (omega (arith, low, grouped.size)) in
-      get_or-map node_uses bodies n reported.0 [] (omega (arith, low, are.size, grouped.size))
-      ∙ ap node_uses (get_or_from_slice_get bodies n reported.0 reported.0 reported.1)
+      get_or-map body_uses bodies n reported.0 [] (omega (arith, low, are.size, grouped.size))
+      ∙ ap body_uses (get_or_from_slice_get bodies n reported.0 reported.0 reported.1)
       ∙ reported.2.names
-      ∙ ap (λ r. pieces_names table (pieces_at web.pieces r)) (grouped.row n low)
-      ∙ ap (pieces_names table) (positions_read (is_piece_of_number table n) [] web.pieces no_piece)
+      ∙ ap (λ r. pieces_uses table (pieces_at web.pieces r)) (grouped.row n low)
+      ∙ ap (pieces_uses table) (positions_read (is_piece_of_number table n) [] web.pieces no_piece)
       ∙ names_same table (filter (is_piece_of_number table n) web.pieces));
 })
 

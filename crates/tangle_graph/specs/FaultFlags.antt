@@ -1,31 +1,31 @@
--- What is reported of each node by its number, for the faults. These definitions are cited by private contracts alone.
+-- What flags say of each node by its number, for the faults. These definitions are cited by private contracts alone.
 use Rattle.std.specs.Prelude.{◌≡◌, ◌≤◌, ◌↔◌, ℕ, ◌+◌, Bool, true, false, List, flat_map, length, slice_index_or}
 use Rattle.tangle_scan.specs.Web.{WebRead}
 use Rattle.tangle_names.specs.NameTable.{TableRead}
 use Rattle.tangle_plans.specs.Shapes.{ContainsItself}
 use Rattle.tangle_plans.specs.WebShapes.{shapes}
 use Rattle.tangle_faults.specs.declared.faults.FaultKind.{FaultKind}
-use Rattle.tangle_graph.specs.Faults.{is_defined, fault_of, fault_occurrence, faults_of_names, ReachesCycle}
+use Rattle.tangle_graph.specs.Faults.{has_piece_by_number, fault_of, fault_occurrence, faults_of_names, ReachesCycle}
 use Rattle.tangle_graph.specs.Nodes.{title_at}
 use Rattle.tangle_graph.specs.Outputs.{is_expandable}
 use Rattle.tangle_graph.specs.declared.faults.NodeFlags.{NodeFlags}
 
-abbrev pub flag_at : List Bool → ℕ → Bool
-flag_at flags n = slice_index_or flags n false
+abbrev pub flag_of_number : List Bool → ℕ → Bool
+flag_of_number flags n = slice_index_or flags n false
 
--- the flags report each node whether it has a piece, contains itself, reaches a name that does, and is expandable
+-- the flags say of each node whether it has a piece, contains itself, reaches a name that does, and is expandable
 pub record AreNodeFlags (web : WebRead) (table : TableRead) (flags : NodeFlags) : Type 0 where
-  pub defined_size : length flags.defined.now ≡ length table.names + 1
+  pub has_piece_size : length flags.has_piece.now ≡ length table.names + 1
   pub containing_size : length flags.self_containing.now ≡ length table.names + 1
-  pub reaching_size : length flags.reaching.now ≡ length table.names + 1
+  pub reaching_size : length flags.reaching_cycles.now ≡ length table.names + 1
   pub expandable_size : length flags.expandable.now ≡ length table.names + 1
-  pub defined : (n : ℕ) → n ≤ length table.names → flag_at flags.defined.now n ≡ is_defined web table n
-  pub containing : (n : ℕ) → n ≤ length table.names → (flag_at flags.self_containing.now n ≡ true) ↔ ContainsItself (shapes web table) (title_at table.names n)
-  pub reaching : (n : ℕ) → n ≤ length table.names → (flag_at flags.reaching.now n ≡ true) ↔ ReachesCycle (shapes web table) (title_at table.names n)
-  pub expandable : (n : ℕ) → n ≤ length table.names → flag_at flags.expandable.now n ≡ is_expandable (shapes web table) (title_at table.names n)
+  pub has_piece : (n : ℕ) → n ≤ length table.names → flag_of_number flags.has_piece.now n ≡ has_piece_by_number web table n
+  pub containing : (n : ℕ) → n ≤ length table.names → (flag_of_number flags.self_containing.now n ≡ true) ↔ ContainsItself (shapes web table) (title_at table.names n)
+  pub reaching : (n : ℕ) → n ≤ length table.names → (flag_of_number flags.reaching_cycles.now n ≡ true) ↔ ReachesCycle (shapes web table) (title_at table.names n)
+  pub expandable : (n : ℕ) → n ≤ length table.names → flag_of_number flags.expandable.now n ≡ is_expandable (shapes web table) (title_at table.names n)
 
 -- the faults of these names are those of all names, of whatever kind
 abbrev pub HaveTheFaults : WebRead → TableRead → NodeFlags → List ℕ → Type 0
 HaveTheFaults web table flags names = (out : List ℕ) (kind : FaultKind)
-    → flat_map (λ id. fault_of web table kind id (fault_occurrence web table out (flag_at flags.self_containing.now) (flag_at flags.reaching.now) kind id)) names
-    ≡ faults_of_names web table out (flag_at flags.self_containing.now) (flag_at flags.reaching.now) kind
+    → flat_map (λ id. fault_of web table kind id (fault_occurrence web table out (flag_of_number flags.self_containing.now) (flag_of_number flags.reaching_cycles.now) kind id)) names
+    ≡ faults_of_names web table out (flag_of_number flags.self_containing.now) (flag_of_number flags.reaching_cycles.now) kind

@@ -13,11 +13,11 @@ use Rattle.tangle_names.specs.Resolving.{resolve}
 use Rattle.tangle_plans.specs.Shapes.{Title, Shapes, Reaches, ContainsItself}
 use Rattle.tangle_plans.specs.WebShapes.{shapes}
 use Rattle.tangle_graph.specs.Nodes.{title_at}
-use Rattle.tangle_graph.specs.Outputs.{has_pieces, is_expandable, name_with_number}
+use Rattle.tangle_graph.specs.Outputs.{shape_has_piece, is_expandable, name_with_number}
 
--- the node reaches a name that contains itself, in no step or more
+-- the node with this title reaches a name that contains itself, in no step or more
 abbrev pub ReachesCycle : Shapes → Title → Type 0
-ReachesCycle shapes node = (other : Title) × Reaches shapes node other × ContainsItself shapes other
+ReachesCycle shapes title = (other : Title) × Reaches shapes title other × ContainsItself shapes other
 
 -- a fault about a name, at the occurrence with this number if there is one
 module _ (web : WebRead) (table : TableRead) where
@@ -30,8 +30,8 @@ module _ (web : WebRead) (table : TableRead) where
   fault_of kind id (Some number) = fault_at_number kind id number
 
   -- the node with this number has a piece
-  abbrev pub is_defined : ℕ → Bool
-  is_defined n = has_pieces (shapes web table (title_at table.names n))
+  abbrev pub has_piece_by_number : ℕ → Bool
+  has_piece_by_number n = shape_has_piece (shapes web table (title_at table.names n))
 
   -- the numbers of a name's first occurrence, of its first one with `@(`, and of the first use that resolves to it
   abbrev pub first_occurrence_number : ℕ → Option ℕ
@@ -43,35 +43,35 @@ module _ (web : WebRead) (table : TableRead) where
   abbrev pub first_use : ℕ → Option ℕ
   first_use id = position (λ o. is_use o.role && is_number id (resolve web.occurrences o)) web.occurrences
 
--- The node has a piece, reaches no name that contains itself, and is beyond a limit, where this reports each node whether it reaches such a name.
+-- The node has a piece, reaches no name that contains itself, and is beyond a limit, given, for each number, whether that node reaches such a name.
 abbrev pub is_too_large : WebRead → TableRead → (ℕ → Bool) → ℕ → Bool
-is_too_large web table reaches_cycle n = is_defined web table n && (not (reaches_cycle n) && not (is_expandable (shapes web table) (title_at table.names n)))
+is_too_large web table reaches_cycle n = has_piece_by_number web table n && (not (reaches_cycle n) && not (is_expandable (shapes web table) (title_at table.names n)))
 
--- The faults, where these report each node by its number whether it contains itself, and whether it reaches a name that does: the names in
--- their order, and then the program.
+-- The faults, given for each number whether that node contains itself and whether it reaches a name that does: the names in their order,
+-- and then the program.
 module _ (web : WebRead) (table : TableRead) (out : List ℕ) (contains_itself reaches_cycle : ℕ → Bool) where
   -- whether the name has a fault of this kind, and at which occurrence
   abbrev pub fault_occurrence : FaultKind → ℕ → Option ℕ
-  fault_occurrence kind.Undefined id = if is_defined web table id then None else first_use web table id
+  fault_occurrence kind.Undefined id = if has_piece_by_number web table id then None else first_use web table id
   fault_occurrence kind.Unused id =
-      if is_defined web table id && (not (is_some (first_file_occurrence web table id)) && not (is_some (first_use web table id)))
+      if has_piece_by_number web table id && (not (is_some (first_file_occurrence web table id)) && not (is_some (first_use web table id)))
       then first_occurrence_number web table id
       else None
   fault_occurrence kind.SelfContaining id = if contains_itself id then first_occurrence_number web table id else None
   fault_occurrence kind.TooLarge id = if is_too_large web table reaches_cycle id then first_occurrence_number web table id else None
-  fault_occurrence kind.FileClash id = if is_defined web table id && bytes_eq (name_with_number table id) out then first_file_occurrence web table id else None
+  fault_occurrence kind.FileClash id = if has_piece_by_number web table id && bytes_eq (name_with_number table id) out then first_file_occurrence web table id else None
   fault_occurrence _ id = None
 
   -- the faults of this kind, in the order of the names
   abbrev pub faults_of_names : FaultKind → List FaultRead
   faults_of_names kind = flat_map (λ id. fault_of web table kind id (fault_occurrence kind id)) (range_with_len 0 (length table.names))
 
-  -- the program is too large, or has no text
+  -- the program is too large, or has no piece
   abbrev pub large_program : List FaultRead
   large_program = if is_too_large web table reaches_cycle (length table.names) then fault_unplaced kind.TooLarge ∷ [] else []
 
   abbrev pub no_program : List FaultRead
-  no_program = if is_defined web table (length table.names) then [] else fault_unplaced kind.NoProgram ∷ []
+  no_program = if has_piece_by_number web table (length table.names) then [] else fault_unplaced kind.NoProgram ∷ []
 
   abbrev pub graph_faults : List FaultRead
   graph_faults = faults_of_names kind.Undefined ++ (faults_of_names kind.Unused ++ (faults_of_names kind.SelfContaining
@@ -82,5 +82,5 @@ pub record AreGraphFaults (web : WebRead) (table : TableRead) (out : List ℕ) (
   pub contains_itself : ℕ → Bool
   pub reaches_cycle : ℕ → Bool
   pub self_containing : (n : ℕ) → n ≤ length table.names → (contains_itself n ≡ true) ↔ ContainsItself (shapes web table) (title_at table.names n)
-  pub cyclic : (n : ℕ) → n ≤ length table.names → (reaches_cycle n ≡ true) ↔ ReachesCycle (shapes web table) (title_at table.names n)
+  pub reaching_cycles : (n : ℕ) → n ≤ length table.names → (reaches_cycle n ≡ true) ↔ ReachesCycle (shapes web table) (title_at table.names n)
   pub list : faults ≡ graph_faults web table out contains_itself reaches_cycle

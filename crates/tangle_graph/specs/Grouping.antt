@@ -11,28 +11,29 @@ use Rattle.digraph.specs.Graph.{row_at}
 use Rattle.digraph.specs.Users.{positions}
 
 -- the number of the name that is resolved to
-abbrev pub number_of_name : Resolved → Option ℕ
-number_of_name (Name id) = Some id
-number_of_name NoFullName = None
-number_of_name Ambiguous = None
+abbrev pub resolved_number : Resolved → Option ℕ
+resolved_number (Name id) = Some id
+resolved_number NoFullName = None
+resolved_number Ambiguous = None
 
 module _ (table : TableRead) where
-  -- the number of the node that has the pieces with this name; a piece whose name is not resolved has none
-  abbrev pub number_of : Option ℕ → Option ℕ
-  number_of None = Some (length table.names)
-  number_of (Some occurrence) = number_of_name (resolved_at table occurrence)
+  -- The number of the node that a piece belongs to, by the occurrence that defines it. A piece of the program has none; a piece whose
+  -- occurrence is not resolved belongs to no node.
+  abbrev pub number_of_piece : Option ℕ → Option ℕ
+  number_of_piece None = Some (length table.names)
+  number_of_piece (Some occurrence) = resolved_number (resolved_at table occurrence)
 
   -- the names that an item uses
   abbrev pub used_by : Item → List ℕ
-  used_by (item.UseOf occurrence) = option_to_list (number_of_name (resolved_at table occurrence))
+  used_by (item.UseOf occurrence) = option_to_list (resolved_number (resolved_at table occurrence))
   used_by _ = []
 
   abbrev pub used_in : PieceRead → List ℕ
   used_in piece = flat_map used_by piece.items
 
-abbrev pub is_number : ℕ → Option ℕ → Bool
-is_number n None = false
-is_number n (Some m) = m == n
+abbrev pub has_number_in : ℕ → Option ℕ → Bool
+has_number_in n None = false
+has_number_in n (Some m) = m == n
 
 -- the first numbers of a row, as many as were passed
 abbrev pub passed_of : List (List ℕ) → List ℕ → ℕ → List ℕ
@@ -41,7 +42,7 @@ passed_of rows passed n = take (slice_index_or passed n 0) (row_at rows n)
 module _ (table : TableRead) where
   -- the piece is one of the node with this number
   abbrev pub is_piece_of_number : ℕ → PieceRead → Bool
-  is_piece_of_number n piece = is_number n (number_of table piece.occurrence)
+  is_piece_of_number n piece = has_number_in n (number_of_piece table piece.occurrence)
 
   -- where the pieces of the node are
   abbrev pub positions_of : List PieceRead → ℕ → List ℕ

@@ -6,9 +6,9 @@ pub mod Outputs
 pub mod Rows
 pub mod Stores
 pub mod Ordering
-pub mod StoreKept
+pub mod StoreView
 pub mod Plans
 pub mod Faults
 pub mod FaultFlags
-pub mod Skeletons
+pub mod NameGraphs
 pub mod WebStores

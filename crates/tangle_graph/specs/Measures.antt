@@ -6,7 +6,7 @@ use Rattle.tangle_scan.specs.Web.{PieceRead}
 use Rattle.tangle_names.specs.NameTable.{TableRead}
 use Rattle.tangle_plans.specs.Flat.{item_weight}
 use Rattle.tangle_plans.specs.WebShapes.{resolved_at, shape_item}
-use Rattle.tangle_graph.specs.Grouping.{number_of_name}
+use Rattle.tangle_graph.specs.Grouping.{resolved_number}
 
 -- what a use weighs: 1, and the weight of its name if it has one
 abbrev pub use_weight : (ℕ → ℕ) → Option ℕ → ℕ
@@ -15,7 +15,7 @@ use_weight used (Some id) = 1 + used id
 
 module _ (texts : List (List ℕ)) (table : TableRead) (used : ℕ → ℕ) where
   abbrev pub weight_of_item : Item → ℕ
-  weight_of_item (item.UseOf occurrence) = use_weight used (number_of_name (resolved_at table occurrence))
+  weight_of_item (item.UseOf occurrence) = use_weight used (resolved_number (resolved_at table occurrence))
   weight_of_item x = item_weight (λ name. 0) (shape_item texts table x)
 
   abbrev pub weight_of_piece : PieceRead → ℕ

@@ -7,7 +7,7 @@ use Rattle.tangle_plans.specs.declared.nodes.Node.TheVariants.{Program, Name}
 
 abbrev pub title_of_name : Option (List ℕ) → Title
 title_of_name None = title.Program
-title_of_name (Some text) = Named text
+title_of_name (Some name) = Named name
 
 -- the title of the node with this number
 abbrev pub title_at : List (List ℕ) → ℕ → Title
@@ -31,25 +31,25 @@ abbrev pub number_in : ℕ → Node → Option ℕ
 number_in names Program = Some names
 number_in names (Name id) = if nat_lt id names then Some id else None
 
--- what a list with an entry for each node says of the node with this number; of another node it says this
+-- the entry with this number; `none`, where there is no number or no such entry
 abbrev pub entry : {X : Type 0} → X → List X → Option ℕ → X
 entry none entries None = none
 entry none entries (Some n) = slice_index_or entries n none
 
--- the entry for the node with this number, if there is one
+-- the entry with this number, if there is one
 abbrev pub entry_if : {X : Type 0} → List X → Option ℕ → Option X
 entry_if entries None = None
 entry_if entries (Some n) = slice_get entries n
 
--- the list with this entry for the node with this number, if there is one
+-- the list with this entry at this number, if there is a number
 abbrev pub with_entry : {X : Type 0} → List X → Option ℕ → X → List X
 with_entry entries None x = entries
 with_entry entries (Some n) x = set entries n x
 
--- the shape of the name with this text; without a text there is no piece
+-- the shape of a name; where there is no name it has no piece
 abbrev pub shape_of_name : Shapes → Option (List ℕ) → Shape
 shape_of_name shapes None = []
-shape_of_name shapes (Some text) = shapes (Named text)
+shape_of_name shapes (Some name) = shapes (Named name)
 
 -- the shape of a node; a node beyond the names has no piece
 abbrev pub shape_of_node : Shapes → List (List ℕ) → Node → Shape
@@ -58,5 +58,5 @@ shape_of_node shapes names (Name id) = shape_of_name shapes (slice_get names id)
 
 -- one title uses another; the program is used by none
 abbrev pub UsesTitle : Shapes → Title → Title → Type 0
-UsesTitle shapes node title.Program = ⊥
-UsesTitle shapes node (Named name) = Uses shapes node name
+UsesTitle shapes user title.Program = ⊥
+UsesTitle shapes user (Named name) = Uses shapes user name

@@ -10,16 +10,16 @@ use Rattle.tangle_expansion.specs.Outputs.{OutputRead}
 use Rattle.tangle_plans.specs.WebShapes.{shapes, resolved_at}
 use Rattle.tangle_plans.specs.declared.nodes.Node.TheVariants as node
 use Rattle.digraph.specs.Users.{positions}
-use Rattle.tangle_graph.specs.Grouping.{number_of_name}
+use Rattle.tangle_graph.specs.Grouping.{resolved_number}
 
--- the shape of a node with a piece
-abbrev pub has_pieces : Shape → Bool
-has_pieces [] = false
-has_pieces (piece ∷ pieces) = true
+-- the node with this shape has a piece
+abbrev pub shape_has_piece : Shape → Bool
+shape_has_piece [] = false
+shape_has_piece (piece ∷ pieces) = true
 
--- the node has a piece and is within both limits
+-- the node with this title has a piece and is within both limits
 abbrev pub is_expandable : Shapes → Title → Bool
-is_expandable shapes node = has_pieces (shapes node) && (nat_lt (depth levels shapes node) levels && nat_le (weight levels shapes node) heaviest)
+is_expandable shapes title = shape_has_piece (shapes title) && (nat_lt (depth levels shapes title) levels && nat_le (weight levels shapes title) heaviest)
 
 -- each number where it comes first
 abbrev pub firsts : List ℕ → List ℕ
@@ -27,13 +27,13 @@ firsts [] = []
 firsts (n ∷ ns) = n ∷ filter (λ m. not (m == n)) (firsts ns)
 
 module _ (web : WebRead) (table : TableRead) where
-  -- the numbers of the occurrences that are marked as a file, in the order of the source
+  -- the numbers of the occurrences that begin with `@(`, in the order of the source
   abbrev pub file_occurrences : List ℕ
   file_occurrences = positions (λ o. o.is_file) 0 web.occurrences
 
   -- the names that these resolve to, each where it comes first
   abbrev pub file_names : List ℕ
-  file_names = firsts (flat_map (λ occurrence. option_to_list (number_of_name (resolved_at table occurrence))) file_occurrences)
+  file_names = firsts (flat_map (λ occurrence. option_to_list (resolved_number (resolved_at table occurrence))) file_occurrences)
 
 abbrev pub name_with_number : TableRead → ℕ → List ℕ
 name_with_number table id = slice_index_or table.names id []
@@ -45,8 +45,8 @@ module _ (web : WebRead) (table : TableRead) (out : List ℕ) where
   -- the main file, unless the program has a piece and is not expandable
   abbrev pub main_file : List OutputRead
   main_file =
-      if not (has_pieces (shapes web table Program)) || is_expandable (shapes web table) Program
-      then record { name = out; node = node.Program; has_macros = not web.has_defs_code; has_piece = has_pieces (shapes web table Program) } ∷ []
+      if not (shape_has_piece (shapes web table Program)) || is_expandable (shapes web table) Program
+      then record { name = out; node = node.Program; has_macros = not web.has_all_macros; has_piece = shape_has_piece (shapes web table Program) } ∷ []
       else []
 
   -- the name has a file of its own

@@ -4,7 +4,7 @@ use Rattle.tangle_faults.specs.Faults.{FaultRead}
 use Rattle.tangle_plans.specs.Shapes.{Title, Named, Shape, Shapes, Uses, ContainsItself}
 use Rattle.tangle_plans.specs.Flat.{Symbol}
 use Rattle.tangle_expansion.specs.Kept.{kept_at}
-use Rattle.tangle_plans.specs.NodeBodies.{HoldsShape, node_uses, texts_at}
+use Rattle.tangle_plans.specs.NodeBodies.{HoldsShape, body_uses, names_at}
 use Rattle.tangle_plans.specs.Slots.{Slot, filled}
 use Rattle.tangle_expansion.specs.Limits.{levels, heaviest, flat_of, weight_of, depth_of, IsExpandableNode}
 use Rattle.tangle_expansion.specs.Outputs.{OutputRead}
@@ -30,19 +30,20 @@ pub record StoreRead : Type 0 where
   -- its own symbols and where it uses which names, and the names with a piece that this uses
   pub slots : List (List Slot)
   pub plan_uses : List (List ℕ)
-  -- what is kept of it
+  -- its body
   pub bodies : List NodeBody
 
-abbrev pub is_filled : List ℕ → Bool
-is_filled [] = false
-is_filled (n ∷ ns) = true
+-- the node with this row of pieces has one
+abbrev pub row_has_piece : List ℕ → Bool
+row_has_piece [] = false
+row_has_piece (n ∷ ns) = true
 
 module _ (store : StoreRead) where
   abbrev pub pieces_of_node : Node → List ℕ
   pieces_of_node node = entry [] store.pieces (number_in (length store.names) node)
 
   abbrev pub has_piece_at : Node → Bool
-  has_piece_at node = is_filled (pieces_of_node node)
+  has_piece_at node = row_has_piece (pieces_of_node node)
 
   abbrev pub uses_at : Node → List Node
   uses_at node = entry [] store.uses (number_in (length store.names) node)
@@ -95,7 +96,7 @@ pub record UsesPiece (shapes : Shapes) (store : StoreRead) (node : Node) (id : �
   pub uses : Uses shapes (title_in_store store node) (slice_index_or store.names id [])
   pub has_piece : shapes (Named (slice_index_or store.names id [])) ≢ []
 
--- what is kept of each name with a piece that the node uses is what the name expands to
+-- of each name with a piece that the node uses, the expansion that is kept is what the name expands to
 abbrev pub KeepsUsed : Shapes → StoreRead → Kept → Node → Type 0
 KeepsUsed shapes store kept node =
     (id : ℕ) → UsesPiece shapes store node id → kept_at kept (node_kind.Name id) ≡ Some (flat_of shapes (Named (slice_index_or store.names id [])))
@@ -121,14 +122,14 @@ pub record IsStoreOf (shapes : Shapes) (store : StoreRead) : Type 0 where
   pub plans : (a : Node) (symbols : ℕ → List Symbol) → IsNodeIn store a → depth_of shapes (title_in_store store a) < levels
       → ((id : ℕ) → UsesPiece shapes store a id → symbols id ≡ flat_of shapes (Named (slice_index_or store.names id [])))
       → filled symbols (slots_at store a) ≡ flat_of shapes (title_in_store store a)
-  -- what is kept of a node determines its shape
+  -- the body of a node determines its shape
   pub shape_held : (a : Node) → IsNodeIn store a → (body : NodeBody) × (body_at store a ≡ Some body) × HoldsShape store.names (shapes (title_in_store store a)) body
 
 -- a flag for each node: whether it has a piece, and its weight and depth are within the limits
 pub record AreWithin (pieces : List (List ℕ)) (weights depths : List ℕ) (flags : List Bool) : Type 0 where
   pub size : length flags ≡ length pieces
   pub flag : (n : ℕ) → n < length pieces
-      → slice_index_or flags n false ≡ (is_filled (slice_index_or pieces n []) && (nat_lt (slice_index depths n) levels && nat_le (slice_index weights n) heaviest))
+      → slice_index_or flags n false ≡ (row_has_piece (slice_index_or pieces n []) && (nat_lt (slice_index depths n) levels && nat_le (slice_index weights n) heaviest))
 
 -- the node with this number has the body that the node with its title had, and the names that it uses are as before
 pub record KeepsBody (old new : StoreRead) (n : ℕ) : Type 0 where
@@ -138,7 +139,7 @@ pub record KeepsBody (old new : StoreRead) (n : ℕ) : Type 0 where
   pub body : NodeBody
   pub had : slice_get old.bodies before ≡ Some body
   pub has : slice_get new.bodies n ≡ Some body
-  pub uses : texts_at old.names (node_uses body) ≡ texts_at new.names (node_uses body)
+  pub uses : names_at old.names (body_uses body) ≡ names_at new.names (body_uses body)
 
 -- so it is of each node with a flag
 abbrev pub KeepsBodies : StoreRead → StoreRead → List Bool → Type 0

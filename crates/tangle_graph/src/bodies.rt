@@ -4,31 +4,31 @@ ghost use Rattle.std.specs.Prelude.{slice_get, slice_index_or, true, false, Matc
 ghost use Rattle.digraph.specs.Graph.{rows_of};
 ghost use Rattle.tangle_plans.specs.Comparing.{IsPlanned};
 ghost use Rattle.tangle_plans.specs.Meaning.{title_of};
-ghost use Rattle.tangle_plans.specs.Shapes.{Named};
-ghost use Rattle.tangle_plans.specs.NodeBodies.{node_title, node_uses};
+ghost use Rattle.tangle_plans.specs.NodeBodies.{body_title, body_uses};
 ghost use Rattle.tangle_graph.specs.Nodes.{title_at};
-ghost use Rattle.tangle_graph.specs.Plans.{ArePlanned, ArePlans, ArePiecesInside, AreFilled};
-ghost use Rattle.tangle_graph.specs.Plans.{AreAsBefore, AreBodies, AreBodiesBefore, AreInPlace};
+ghost use Rattle.tangle_graph.specs.Plans.{ArePlanned, ArePlans, ArePiecesInside, ArePieceFlags};
+ghost use Rattle.tangle_graph.specs.Plans.{AreAsBefore, AreBodies, AreBodiesBefore};
+ghost use Rattle.tangle_graph.specs.Plans.{HaveSameNamesAndFlags};
 ghost use Rattle.tangle_graph.specs.Plans.{IsBodyAt, IsBodyOfBefore};
 ghost use Rattle.tangle_graph.specs.Plans.{node_bodies};
 ghost use Rattle.tangle_graph.specs.Plans.{slots_of, uses_of_plans};
 
-use crate::measures::is_filled;
+use crate::measures::row_has_piece;
 use crate::nodes::entry;
 use std::alloc::{AllocError, Global};
 use std::rc::Rc;
 use tangle_lines::NoMemory;
 use tangle_names::{NameTable, Names};
-use tangle_plans::{NodeBody, Planning, is_same_node, plan_node};
+use tangle_plans::{NodeBody, Planning, has_items_of, plan_node};
 use tangle_scan::Web;
 
-/// A flag for each row: whether it has a number.
-pub(crate) fn filled_rows(alloc: Global, rows: &[Vec<usize>]) -> Result<Vec<bool>, AllocError>
-    ensures { IfOk result (λ flags. AreFilled (rows_of rows.now) flags.items) }
+/// A flag for each node, by the row of its pieces: whether it has a piece.
+pub(crate) fn piece_flags(alloc: Global, rows: &[Vec<usize>]) -> Result<Vec<bool>, AllocError>
+    ensures { IfOk result (λ flags. ArePieceFlags (rows_of rows.now) flags.items) }
 {
     let mut flags = Vec::new(alloc);
     for row in rows {
-        flags.push(is_filled(row))?;
+        flags.push(row_has_piece(row))?;
     }
     Ok(flags)
 }
@@ -69,30 +69,30 @@ fn body_of_node(
     }
 }
 
-/// The bodies of the nodes of a store, the texts of its names, and a flag for each node: whether it
-/// has a piece.
+/// The names of a store, a flag for each node: whether it has a piece, and the bodies of the nodes.
 #[derive(Clone, Copy)]
 pub(crate) struct OldBodies<'s> {
     pub(crate) names: &'s Names,
-    pub(crate) filled: &'s [bool],
+    pub(crate) has_piece: &'s [bool],
     pub(crate) bodies: &'s [Rc<NodeBody>],
 }
 
-/// No bodies, in place under these names and flags.
-pub(crate) fn no_bodies<'s>(names: &'s Names, filled: &'s [bool]) -> OldBodies<'s>
+/// No bodies, for these names and flags.
+pub(crate) fn no_bodies<'s>(names: &'s Names, has_piece: &'s [bool]) -> OldBodies<'s>
     ensures before { AreBodiesBefore result }
-    ensures in_place { AreInPlace result names.now filled.now }
+    ensures same_names_and_flags { HaveSameNamesAndFlags result names.now has_piece.now }
 {
     OldBodies {
         names,
-        filled,
+        has_piece,
         bodies: &[],
     }
 }
 
-/// The number that the node with this number had, if it is the program, or one of the names.
+/// The number, among these names, of the node that has number `n` in the table: found by its name,
+/// and the last for the program.
 #[tactic(auto, using(crate::proofs::NodeLemmas::title_inside, crate::proofs::NodeLemmas::title_past))]
-fn node_before(names: &Names, table: &NameTable, n: usize) -> Option<usize>
+fn number_before(names: &Names, table: &NameTable, n: usize) -> Option<usize>
     ensures title { IfSome result (λ m. title_at names.now m
         ≡ title_at table.now.names n) }
     ensures within { IfSome result (λ m. m ≤ length names.now) }
@@ -132,19 +132,24 @@ pub(crate) fn are_same_flags(flags: &[bool], others: &[bool]) -> bool
     flags == others
 }
 
-/// The body that was at this number, if as before those names have a piece that it uses.
-fn body_at<'s>(old: OldBodies<'s>, n: usize, has_piece: &[bool]) -> Option<&'s Rc<NodeBody>>
+/// The body that had this number, if of the names that it uses the same ones have a piece as
+/// before.
+fn body_if_same_flags<'s>(
+    old: OldBodies<'s>,
+    n: usize,
+    has_piece: &[bool],
+) -> Option<&'s Rc<NodeBody>>
     requires { AreBodiesBefore old }
-    ensures title { IfSome result (λ body. node_title body.now.value
+    ensures title { IfSome result (λ body. body_title body.now.value
         ≡ title_at old.entry.names.now n) }
     ensures planned { IfSome result
         (λ body. IsPlanned (λ id. slice_index_or has_piece.now id false) body.now.value) }
-    ensures place { IfSome result
+    ensures before { IfSome result
         (λ body. slice_get (node_bodies old.entry.bodies.now) n ≡ Some body.now.value) }
 {
     match old.bodies.get(n) {
         Some(body) => {
-            if agree_on(old.filled, has_piece, body.uses()) {
+            if agree_on(old.has_piece, has_piece, body.uses()) {
                 Some(body)
             } else {
                 None
@@ -154,20 +159,20 @@ fn body_at<'s>(old: OldBodies<'s>, n: usize, has_piece: &[bool]) -> Option<&'s R
     }
 }
 
-/// The body that was at this number, where the names and what has a piece are as before.
-fn body_in_place<'s>(
+/// The body that had this number, where the names, and which of them have a piece, are as before.
+fn body_at_same_number<'s>(
     old: OldBodies<'s>,
     table: &NameTable,
     has_piece: &[bool],
     n: usize,
 ) -> Option<&'s Rc<NodeBody>>
     requires old { AreBodiesBefore old }
-    requires in_place { AreInPlace old table.now.names has_piece.now }
+    requires same_names_and_flags { HaveSameNamesAndFlags old table.now.names has_piece.now }
     ensures title { IfSome result
-        (λ body. node_title body.now.value ≡ title_at table.now.names n) }
+        (λ body. body_title body.now.value ≡ title_at table.now.names n) }
     ensures planned { IfSome result
         (λ body. IsPlanned (λ id. slice_index_or has_piece.now id false) body.now.value) }
-    ensures place { IfSome result
+    ensures before { IfSome result
         (λ body. IsBodyOfBefore old.entry table.now.names n body.now.value) }
 {
     if n > old.names.count() {
@@ -176,38 +181,39 @@ fn body_in_place<'s>(
     old.bodies.get(n)
 }
 
-/// The body that the node with this number had, if it may be kept. Where names came or went, it is
-/// looked for by the name of the node.
+/// The old body of the node with this number, if it may be shared. Where names came or went, it is
+/// found by the name of the node.
 fn body_before<'s>(
     old: OldBodies<'s>,
-    are_in_place: bool,
+    same_names_and_flags: bool,
     table: &NameTable,
     has_piece: &[bool],
     n: usize,
 ) -> Option<&'s Rc<NodeBody>>
     requires old { AreBodiesBefore old }
-    requires in_place { are_in_place ≡ true → AreInPlace old table.now.names has_piece.now }
+    requires same_names_and_flags { same_names_and_flags ≡ true
+        → HaveSameNamesAndFlags old table.now.names has_piece.now }
     ensures title { IfSome result
-        (λ body. node_title body.now.value ≡ title_at table.now.names n) }
+        (λ body. body_title body.now.value ≡ title_at table.now.names n) }
     ensures planned { IfSome result
         (λ body. IsPlanned (λ id. slice_index_or has_piece.now id false) body.now.value) }
-    ensures place { IfSome result
+    ensures before { IfSome result
         (λ body. IsBodyOfBefore old.entry table.now.names n body.now.value) }
 {
-    if are_in_place {
-        return body_in_place(old, table, has_piece, n);
+    if same_names_and_flags {
+        return body_at_same_number(old, table, has_piece, n);
     }
-    body_at(old, node_before(old.names, table, n)?, has_piece)
+    body_if_same_flags(old, number_before(old.names, table, n)?, has_piece)
 }
 
-/// The body of a node, and whether it is that of before.
+/// The body of a node, and whether it is the old one.
 #[derive(Drop)]
 struct BodyAfter {
     body: Rc<NodeBody>,
-    is_kept: bool,
+    is_old: bool,
 }
 
-/// The body of the node with this number, which has the pieces with these numbers: that of before,
+/// The body of the node with this number, which has the pieces with these numbers: the old one,
 /// where it is the same.
 fn body_after(
     alloc: Global,
@@ -222,21 +228,18 @@ fn body_after(
     requires numbers { All (λ i. i < length web.now.pieces) numbers.now }
     requires ours { length table.now.resolved ≡ length web.now.occurrences }
     requires title { IfSome before
-        (λ body. node_title body.now.value ≡ title_at table.now.names n) }
+        (λ body. body_title body.now.value ≡ title_at table.now.names n) }
     requires planned { IfSome before
         (λ body. IsPlanned (λ id. slice_index_or has_piece.now id false) body.now.value) }
     ensures body { IfOk result (λ made. IsBodyAt web.now table.now
         (λ id. slice_index_or has_piece.now id false) n numbers.now made.body.value) }
-    ensures kept { IfOk result (λ made. made.is_kept ≡ true
+    ensures old { IfOk result (λ made. made.is_old ≡ true
         → MatchOption before.entry ⊥ (λ body. made.body.value ≡ body.now.value)) }
 {
     if let Some(body) = before {
-        if is_same_node(body, web, table, numbers) {
+        if has_items_of(body, web, table, numbers) {
             return match body.clone() {
-                Ok(body) => Ok(BodyAfter {
-                    body,
-                    is_kept: true,
-                }),
+                Ok(body) => Ok(BodyAfter { body, is_old: true }),
                 Err(_) => Err(NoMemory),
             };
         }
@@ -244,27 +247,28 @@ fn body_after(
     let body = body_of_node(alloc, planning, web, table, has_piece, n, numbers)?;
     Ok(BodyAfter {
         body,
-        is_kept: false,
+        is_old: false,
     })
 }
 
 /// Whether the names that a body uses are as before: all are, or it uses none.
-fn uses_as_before(are_in_place: bool, body: &NodeBody) -> bool
-    ensures { result ≡ true → (are_in_place ≡ true) ⊎ (node_uses body.now ≡ []) }
+fn uses_as_before(same_names_and_flags: bool, body: &NodeBody) -> bool
+    ensures { result ≡ true → (same_names_and_flags ≡ true) ⊎ (body_uses body.now ≡ []) }
 {
-    are_in_place || body.uses().is_empty()
+    same_names_and_flags || body.uses().is_empty()
 }
 
-/// The body of each node, and a flag for each: whether it is that of before, and the names that it
+/// The body of each node, and a flag for each: whether it is the old one, and the names that it
 /// uses are as before.
 #[derive(Drop)]
 pub(crate) struct Bodies {
     pub(crate) bodies: Vec<Rc<NodeBody>>,
-    pub(crate) are_kept: Vec<bool>,
+    pub(crate) are_as_before: Vec<bool>,
 }
 
-/// The body of each node, by the numbers of its pieces. Where that of before is the same, it is
-/// shared. The bodies of before are in place where the names and what has a piece are as before.
+/// The body of each node, by the numbers of its pieces. An old body that is the same is shared.
+/// Where the names, and which of them have a piece, are as before, the old bodies have the numbers
+/// of now.
 pub(crate) fn bodies_by_node(
     alloc: Global,
     web: &Web,
@@ -272,12 +276,13 @@ pub(crate) fn bodies_by_node(
     has_piece: &[bool],
     pieces: &[Vec<usize>],
     old: OldBodies,
-    are_in_place: bool,
+    same_names_and_flags: bool,
 ) -> Result<Bodies, NoMemory>
     requires inside { ArePiecesInside (length web.now.pieces) pieces.now }
     requires ours { length table.now.resolved ≡ length web.now.occurrences }
     requires old { AreBodiesBefore old }
-    requires in_place { are_in_place ≡ true → AreInPlace old table.now.names has_piece.now }
+    requires same_names_and_flags { same_names_and_flags ≡ true
+        → HaveSameNamesAndFlags old table.now.names has_piece.now }
     ensures bodies { IfOk result (λ made.
         AreBodies web.now table.now (rows_of pieces.now) (node_bodies made.bodies.items)) }
     ensures plans { IfOk result
@@ -286,28 +291,31 @@ pub(crate) fn bodies_by_node(
     ensures planned { IfOk result
         (λ made. ArePlanned table.now.names (λ id. slice_index_or has_piece.now id false)
         (node_bodies made.bodies.items)) }
-    ensures kept { IfOk result
+    ensures as_before { IfOk result
         (λ made. AreAsBefore old.entry table.now.names (node_bodies made.bodies.items)
-        made.are_kept.items) }
+        made.are_as_before.items) }
 {
     let mut planning = Planning::new(alloc);
     let mut bodies = Vec::with_capacity(alloc, pieces.len())?;
-    let mut are_kept = Vec::with_capacity(alloc, pieces.len())?;
+    let mut are_as_before = Vec::with_capacity(alloc, pieces.len())?;
     for (n, row) in pieces.iter().enumerate() {
-        let before = body_before(old, are_in_place, table, has_piece, n);
+        let before = body_before(old, same_names_and_flags, table, has_piece, n);
         let made = body_after(alloc, &mut planning, web, table, has_piece, n, row, before)?;
-        are_kept.push(made.is_kept && uses_as_before(are_in_place, &made.body))?;
+        are_as_before.push(made.is_old && uses_as_before(same_names_and_flags, &made.body))?;
         bodies.push(made.body)?;
     }
-    Ok(Bodies { bodies, are_kept })
+    Ok(Bodies {
+        bodies,
+        are_as_before,
+    })
 }
 
-/// The names that the items of each node use, each as often as it is used.
+/// The names that the items of each node use, by number, each as often as it is used.
 pub(crate) fn uses_of_bodies(
     alloc: Global,
     bodies: &[Rc<NodeBody>],
 ) -> Result<Vec<Vec<usize>>, AllocError>
-    ensures { IfOk result (λ rows. rows_of rows.items ≡ map node_uses (node_bodies bodies.now)) }
+    ensures { IfOk result (λ rows. rows_of rows.items ≡ map body_uses (node_bodies bodies.now)) }
 {
     let mut rows = Vec::with_capacity(alloc, bodies.len())?;
     for body in bodies {

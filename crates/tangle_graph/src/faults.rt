@@ -1,13 +1,13 @@
 //! The faults of the graph of names: what is undefined, never used, contains itself, is too large
 //! or has the main file's name.
-ghost use Rattle.std.specs.Prelude.{◌≡◌, ◌<◌, ◌≤◌, ◌++◌, ◌+◌, ◌∷◌, [], ℕ, List, false, None, All};
+ghost use Rattle.std.specs.Prelude.{◌≡◌, ◌<◌, ◌≤◌, ◌++◌, ◌∷◌, [], ℕ, List, false, None, All};
 ghost use Rattle.std.specs.Prelude.{IfOk, OnOk, length, slice_index_or, if◌then◌else◌};
 ghost use Rattle.tangle_faults.specs.Faults.{fault_unplaced};
 ghost use Rattle.tangle_names.specs.declared.first_numbers.Counted.TheVariants.{Uses};
 ghost use Rattle.tangle_names.specs.NameTable.{table_of};
 ghost use Rattle.tangle_names.specs.Numbers.{first_by_number};
 ghost use Rattle.tangle_names.specs.Resolving.{resolve};
-ghost use Rattle.tangle_graph.specs.FaultFlags.{AreNodeFlags, HaveTheFaults, flag_at};
+ghost use Rattle.tangle_graph.specs.FaultFlags.{AreNodeFlags, HaveTheFaults, flag_of_number};
 ghost use Rattle.tangle_graph.specs.Faults.{AreGraphFaults, fault_of, fault_occurrence};
 ghost use Rattle.tangle_graph.specs.Faults.{faults_of_names};
 ghost use Rattle.tangle_graph.specs.Faults.{first_use, is_too_large};
@@ -18,13 +18,13 @@ use tangle_lines::{Fault, FaultKind, NoMemory};
 use tangle_names::{Counted, NameTable};
 use tangle_scan::Web;
 
-/// A flag for each node: whether it has a piece, contains itself, reaches a name that does, and is
+/// Flags of the nodes: which have a piece, contain themselves, reach a name that does, and are
 /// expandable.
 #[derive(Drop)]
 pub(crate) struct NodeFlags<'f> {
-    pub(crate) defined: &'f [bool],
+    pub(crate) has_piece: &'f [bool],
     pub(crate) self_containing: &'f [bool],
-    pub(crate) reaching: &'f [bool],
+    pub(crate) reaching_cycles: &'f [bool],
     pub(crate) expandable: &'f [bool],
 }
 
@@ -47,16 +47,17 @@ fn first_use(web: &Web, table: &NameTable, first_uses: &[usize], id: usize) -> O
 fn is_too_large(web: &Web, table: &NameTable, flags: &NodeFlags, n: usize) -> bool
     requires node { n ≤ length table.now.names }
     requires flags { AreNodeFlags web.now table.now flags.now }
-    ensures { result ≡ is_too_large web.now table.now (flag_at flags.now.reaching.now) n }
+    ensures { result ≡ is_too_large web.now table.now
+        (flag_of_number flags.now.reaching_cycles.now) n }
 {
-    flags.defined[n] && (!flags.reaching[n] && !flags.expandable[n])
+    flags.has_piece[n] && (!flags.reaching_cycles[n] && !flags.expandable[n])
 }
 
-/// The number, if it is needed.
-fn where_needed(needed: bool, number: Option<usize>) -> Option<usize>
-    ensures { result ≡ (if needed then number else None) }
+/// The number of the occurrence of a fault, if there is a fault.
+fn number_if(has_fault: bool, number: Option<usize>) -> Option<usize>
+    ensures { result ≡ (if has_fault then number else None) }
 {
-    if needed { number } else { None }
+    if has_fault { number } else { None }
 }
 
 /// At which occurrence the name has a fault of this kind, if it has one.
@@ -73,30 +74,30 @@ fn fault_occurrence(
     requires flags { AreNodeFlags web.now table.now flags.now }
     requires used { use_number ≡ first_use web.now table.now id }
     ensures { result ≡ fault_occurrence web.now table.now out.now
-        (flag_at flags.now.self_containing.now)
-        (flag_at flags.now.reaching.now) kind id }
+        (flag_of_number flags.now.self_containing.now)
+        (flag_of_number flags.now.reaching_cycles.now) kind id }
 {
     let first = Some(table.first_occurrence(id));
-    let is_defined = flags.defined[id];
+    let has_piece = flags.has_piece[id];
     match kind {
-        FaultKind::Undefined => where_needed(!is_defined, use_number),
+        FaultKind::Undefined => number_if(!has_piece, use_number),
         FaultKind::Unused => {
-            where_needed(
-                is_defined && (!table.is_file(id) && !use_number.is_some()),
+            number_if(
+                has_piece && (!table.is_file(id) && !use_number.is_some()),
                 first,
             )
         }
-        FaultKind::SelfContaining => where_needed(flags.self_containing[id], first),
-        FaultKind::TooLarge => where_needed(is_too_large(web, table, flags, id), first),
-        FaultKind::FileClash => where_needed(
-            is_defined && table.text(id) == out,
+        FaultKind::SelfContaining => number_if(flags.self_containing[id], first),
+        FaultKind::TooLarge => number_if(is_too_large(web, table, flags, id), first),
+        FaultKind::FileClash => number_if(
+            has_piece && table.text(id) == out,
             table.first_file_occurrence(id),
         ),
         _ => None,
     }
 }
 
-/// Puts a fault about the name last, at the occurrence with this number if there is one.
+/// Adds a fault about the name, at the occurrence with this number if there is one.
 fn add_fault(
     alloc: Global,
     faults: &mut Vec<Fault>,
@@ -120,7 +121,7 @@ fn add_fault(
     Ok(())
 }
 
-/// Whether the name may have a fault. One that is expandable and used, and has no file, has none.
+/// Whether the name may have a fault. A name that is expandable, used and no file has none.
 fn may_have_fault(
     web: &Web,
     table: &NameTable,
@@ -132,15 +133,15 @@ fn may_have_fault(
     requires flags { AreNodeFlags web.now table.now flags.now }
     requires used { use_number ≡ first_use web.now table.now id }
     ensures { result ≡ false → (out : List ℕ) (kind : FaultKind)
-        → fault_occurrence web.now table.now out (flag_at flags.now.self_containing.now)
-        (flag_at flags.now.reaching.now) kind id ≡ None }
+        → fault_occurrence web.now table.now out (flag_of_number flags.now.self_containing.now)
+        (flag_of_number flags.now.reaching_cycles.now) kind id ≡ None }
 {
     !flags.expandable[id]
         || (flags.self_containing[id] || (!use_number.is_some() || table.is_file(id)))
 }
 
 /// The names that may have a fault, in their order.
-fn suspects(
+fn candidates(
     alloc: Global,
     web: &Web,
     table: &NameTable,
@@ -164,7 +165,7 @@ fn suspects(
     Ok(names)
 }
 
-/// Puts the faults of this kind about these names last.
+/// Adds the faults of this kind about these names.
 fn add_faults(
     alloc: Global,
     faults: &mut Vec<Fault>,
@@ -184,8 +185,8 @@ fn add_faults(
     requires names { All (λ id. id < length table.now.names) names.now }
     requires faults { HaveTheFaults web.now table.now flags.now names.now }
     ensures { OnOk result (faults.new.items ≡ faults.old.items
-        ++ faults_of_names web.now table.now out.now (flag_at flags.now.self_containing.now)
-        (flag_at flags.now.reaching.now) kind) }
+        ++ faults_of_names web.now table.now out.now (flag_of_number flags.now.self_containing.now)
+        (flag_of_number flags.now.reaching_cycles.now) kind) }
 {
     for id in names {
         let use_number = first_use(web, table, first_uses, *id);
@@ -195,17 +196,17 @@ fn add_faults(
     Ok(())
 }
 
-/// Puts a fault without a place last, if there is one.
+/// Adds a fault without a place, if there is one.
 fn add_unplaced(
     alloc: Global,
     faults: &mut Vec<Fault>,
     kind: FaultKind,
-    is_there: bool,
+    has_fault: bool,
 ) -> Result<(), NoMemory>
     ensures { OnOk result (faults.new.items ≡ faults.old.items
-        ++ (if is_there then fault_unplaced kind ∷ [] else [])) }
+        ++ (if has_fault then fault_unplaced kind ∷ [] else [])) }
 {
-    if is_there {
+    if has_fault {
         faults.push(Fault::unplaced(alloc, kind))?;
     }
     Ok(())
@@ -223,11 +224,11 @@ pub(crate) fn faults(
     requires flags { AreNodeFlags web.now table.now flags.now }
     ensures { IfOk result (λ faults. AreGraphFaults web.now table.now out.now faults.items) }
 {
-    let uses = table.first_numbers(alloc, web.occurrences(), Counted::Uses)?;
-    let names = suspects(alloc, web, table, flags, &uses)?;
+    let first_uses = table.first_numbers(alloc, web.occurrences(), Counted::Uses)?;
+    let names = candidates(alloc, web, table, flags, &first_uses)?;
     let program = table.count();
     let is_large = is_too_large(web, table, flags, program);
-    let has_body = flags.defined[program];
+    let has_piece = flags.has_piece[program];
     let mut faults = Vec::new(alloc);
     let kinds = [
         FaultKind::Undefined,
@@ -244,7 +245,7 @@ pub(crate) fn faults(
             table,
             out,
             flags,
-            &uses,
+            &first_uses,
             &names,
         )?;
     }
@@ -258,9 +259,9 @@ pub(crate) fn faults(
         table,
         out,
         flags,
-        &uses,
+        &first_uses,
         &names,
     )?;
-    add_unplaced(alloc, &mut faults, FaultKind::NoProgram, !has_body)?;
+    add_unplaced(alloc, &mut faults, FaultKind::NoProgram, !has_piece)?;
     Ok(faults)
 }

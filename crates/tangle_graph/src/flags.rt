@@ -1,5 +1,5 @@
 //! Flags of the nodes of a store: a list with one for each node.
-ghost use Rattle.std.specs.Prelude.{◌≡◌, ◌+◌, ℕ, IfOk, false, length};
+ghost use Rattle.std.specs.Prelude.{◌≡◌, ◌+◌, IfOk, false, length};
 ghost use Rattle.tangle_graph.specs.Stores.{flag_at, with_flag};
 
 use crate::nodes::entry;

@@ -1,5 +1,5 @@
 //! The graph of names: which node uses which, how heavy and deep each is, which can be expanded,
-//! and the output files.
+//! and the output files and faults.
 #![tactic(auto)]
 
 mod bodies;
@@ -7,11 +7,11 @@ mod faults;
 mod flags;
 mod laws;
 mod measures;
+mod name_graph;
 mod nodes;
 mod outputs;
 mod pieces;
 mod shapes;
-mod skeleton;
 mod store;
 
 pub use laws::graph_faults_are_one_list;

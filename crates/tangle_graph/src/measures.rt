@@ -1,17 +1,17 @@
 //! The weight and the depth of each node.
-ghost use Rattle.std.specs.Prelude.{◌≡◌, ◌<◌, ◌≤◌, ◌+◌, ◌-◌, ◌⊎◌, ℕ, IfOk, length, vec_len, min};
+ghost use Rattle.std.specs.Prelude.{◌≡◌, ◌<◌, ◌≤◌, ◌+◌, ◌⊎◌, ℕ, IfOk, length, vec_len, min};
 ghost use Rattle.std.specs.Prelude.{sum_by, slice_index, slice_index_or, All, Contains};
 ghost use Rattle.std.specs.Prelude.{false, ◌&&◌, nat_lt, nat_le};
 ghost use Rattle.digraph.specs.Graph.{rows_of};
 ghost use Rattle.digraph.specs.Order.{IsOrder};
-ghost use Rattle.tangle_plans.specs.NodeBodies.{node_uses, plan_slots};
+ghost use Rattle.tangle_plans.specs.NodeBodies.{body_uses, plan_slots};
 ghost use Rattle.tangle_expansion.specs.Limits.{weight_cap, levels, heaviest, weight_of, depth_of};
 ghost use Rattle.tangle_plans.specs.WebShapes.{shapes, ResolvesInside};
 ghost use Rattle.tangle_graph.specs.Groups.{IsGraphOf};
 ghost use Rattle.tangle_graph.specs.Nodes.{title_at};
 ghost use Rattle.tangle_graph.specs.Outputs.{is_expandable};
 ghost use Rattle.tangle_graph.specs.Plans.{AreBodies, node_bodies};
-ghost use Rattle.tangle_graph.specs.Stores.{is_filled, AreWithin};
+ghost use Rattle.tangle_graph.specs.Stores.{row_has_piece, AreWithin};
 
 use std::alloc::{AllocError, Global};
 use std::rc::Rc;
@@ -32,11 +32,11 @@ const LEVELS: u16 = 1001;
 /// The weight of the node with this body, by the weights of the names that it uses.
 #[tactic(auto, unfolding(tangle_expansion::specs::Limits::weight_cap))]
 fn weight_of_node(weights: &[u32], body: &NodeBody) -> u32
-    requires inside { All (λ id. id < length weights.now) (node_uses body.now) }
+    requires inside { All (λ id. id < length weights.now) (body_uses body.now) }
     requires capped { All (λ weight. weight ≤ weight_cap) weights.now }
     ensures { result ≡ min weight_cap
         (length (plan_slots body.now) + sum_by (λ id. slice_index weights.now id)
-        (node_uses body.now)) }
+        (body_uses body.now)) }
 {
     let mut weight = body.symbol_count().min(WEIGHT_CAP as usize) as u32;
     for id in body.uses() {
@@ -131,9 +131,9 @@ fn depths(
     Ok(depths)
 }
 
-/// Whether the row has a number.
-pub(crate) fn is_filled(row: &[usize]) -> bool
-    ensures { result ≡ is_filled row.now }
+/// Whether a node with this row of pieces has one.
+pub(crate) fn row_has_piece(row: &[usize]) -> bool
+    ensures { result ≡ row_has_piece row.now }
 {
     !row.is_empty()
 }
@@ -142,9 +142,10 @@ pub(crate) fn is_filled(row: &[usize]) -> bool
 /// limits.
 #[tactic(auto, unfolding(tangle_expansion::specs::Limits::levels, tangle_expansion::specs::Limits::heaviest))]
 fn is_within(pieces: &[usize], weight: u32, depth: u16) -> bool
-    ensures { result ≡ (is_filled pieces.now && (nat_lt depth levels && nat_le weight heaviest)) }
+    ensures { result ≡ (row_has_piece pieces.now
+        && (nat_lt depth levels && nat_le weight heaviest)) }
 {
-    is_filled(pieces) && depth < LEVELS && weight <= HEAVIEST
+    row_has_piece(pieces) && depth < LEVELS && weight <= HEAVIEST
 }
 
 /// Whether each node is expandable.
@@ -177,7 +178,7 @@ pub(crate) struct Measures {
 impl Measures {
     /// The measures of nodes with these pieces, uses and bodies; the order is one of the nodes that
     /// reach no cycle.
-    pub(crate) fn take(
+    pub(crate) fn build(
         alloc: Global,
         web: &Web,
         table: &NameTable,

@@ -1,5 +1,5 @@
 //! Nodes by number: the names in their order, and then the program.
-ghost use Rattle.std.specs.Prelude.{◌≡◌, ◌<◌, [], IfOk, map};
+ghost use Rattle.std.specs.Prelude.{◌≡◌, [], IfOk, map};
 ghost use Rattle.digraph.specs.Graph.{rows_of};
 ghost use Rattle.tangle_graph.specs.Nodes.{entry, node_at, number_in};
 ghost use Rattle.tangle_graph.specs.Rows.{node_rows};
@@ -8,7 +8,7 @@ use std::alloc::{AllocError, Global};
 use tangle_plans::Node;
 
 /// The node with this number, where so many names come before the program.
-pub(crate) fn node_of(names: usize, n: usize) -> Node
+pub(crate) fn node_at(names: usize, n: usize) -> Node
     ensures { result ≡ node_at names n }
 {
     if n < names {
@@ -19,7 +19,7 @@ pub(crate) fn node_of(names: usize, n: usize) -> Node
 }
 
 /// The number of the node, if it is one of so many names or the program.
-pub(crate) fn number_of(names: usize, node: Node) -> Option<usize>
+pub(crate) fn number_in(names: usize, node: Node) -> Option<usize>
     ensures { result ≡ number_in names node }
 {
     match node {
@@ -38,7 +38,7 @@ pub(crate) fn nodes_of(
 {
     let mut nodes = Vec::with_capacity(alloc, numbers.len())?;
     for n in numbers {
-        nodes.push(node_of(names, *n))?;
+        nodes.push(node_at(names, *n))?;
     }
     Ok(nodes)
 }
@@ -59,8 +59,7 @@ pub(crate) fn nodes_by_node(
     Ok(nodes)
 }
 
-/// What a list with an entry for each node says of the node with this number. Of no node, and of a
-/// node that the list does not have, it says this.
+/// The entry with this number; `none`, where there is no number or no such entry.
 pub(crate) fn entry<T: Copy>(entries: &[T], number: Option<usize>, none: T) -> T
     ensures { result ≡ entry none entries.now number }
 {
@@ -73,8 +72,7 @@ pub(crate) fn entry<T: Copy>(entries: &[T], number: Option<usize>, none: T) -> T
     }
 }
 
-/// The row of the node with this number, of rows with one for each node. It is empty for no node,
-/// and for one that is not among them.
+/// The row with this number; an empty one, where there is no number or no such row.
 pub(crate) fn row<T>(rows: &[Vec<T>], number: Option<usize>) -> &[T]
     ensures { result.now ≡ entry [] (map (λ row. row.items) rows.now) number }
 {

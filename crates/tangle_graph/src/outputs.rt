@@ -7,19 +7,19 @@ ghost use Rattle.digraph.specs.Users.{positions};
 ghost use Rattle.tangle_plans.specs.Shapes.{Program};
 ghost use Rattle.tangle_plans.specs.declared.nodes.Node.TheVariants as node_kind;
 ghost use Rattle.tangle_plans.specs.WebShapes.{ResolvesInside, resolved_at, shapes};
-ghost use Rattle.tangle_graph.specs.Grouping.{number_of_name};
+ghost use Rattle.tangle_graph.specs.Grouping.{resolved_number};
 ghost use Rattle.tangle_graph.specs.Nodes.{title_at};
-ghost use Rattle.tangle_graph.specs.Outputs.{firsts, file_names, has_pieces, is_expandable};
+ghost use Rattle.tangle_graph.specs.Outputs.{firsts, file_names, shape_has_piece, is_expandable};
 ghost use Rattle.tangle_graph.specs.Outputs.{name_with_number, named_file, outputs};
 
-use crate::pieces::number_of_name;
+use crate::pieces::resolved_number;
 use std::alloc::{AllocError, Global};
 use tangle_expansion::Output;
 use tangle_names::NameTable;
 use tangle_plans::Node;
 use tangle_scan::{Occurrence, Web};
 
-/// Puts the number last if the flag says so.
+/// Adds the number at the end, if the flag says so.
 pub(crate) fn push_where(numbers: &mut Vec<usize>, flag: bool, n: usize) -> Result<(), AllocError>
     ensures { OnOk result (numbers.new.items ≡ numbers.old.items ++ (if flag then n ∷ [] else [])) }
 {
@@ -29,7 +29,7 @@ pub(crate) fn push_where(numbers: &mut Vec<usize>, flag: bool, n: usize) -> Resu
     Ok(())
 }
 
-/// The numbers of the occurrences that are marked as a file.
+/// The numbers of the occurrences that begin with `@(`.
 fn file_occurrences(alloc: Global, occurrences: &[Occurrence]) -> Result<Vec<usize>, AllocError>
     ensures { IfOk result (λ numbers. numbers.items
         ≡ positions (λ o. o.is_file) 0 occurrences.now) }
@@ -52,14 +52,14 @@ fn names_of(
         occurrences.now }
     ensures names { IfOk result
         (λ names. names.items ≡ flat_map
-        (λ occurrence. option_to_list (number_of_name (resolved_at table.now occurrence)))
+        (λ occurrence. option_to_list (resolved_number (resolved_at table.now occurrence)))
         occurrences.now) }
     ensures inside { IfOk result (λ names. All (λ id. id < length table.now.names) names.items) }
 {
     let mut names = Vec::new(alloc);
     for occurrence in occurrences {
-        if let Some(name) = number_of_name(table.resolve(*occurrence)) {
-            names.push(name)?;
+        if let Some(id) = resolved_number(table.resolve(*occurrence)) {
+            names.push(id)?;
         }
     }
     Ok(names)
@@ -80,7 +80,7 @@ fn firsts(alloc: Global, count: usize, numbers: &[usize]) -> Result<Vec<usize>, 
     Ok(firsts)
 }
 
-/// The names that are marked as a file, in the order of their first marks.
+/// The names with an occurrence that begins with `@(`, in the order of the first such one.
 pub(crate) fn file_names(
     alloc: Global,
     web: &Web,
@@ -110,7 +110,7 @@ fn main_file(
           name = out.now;
           node = node_kind.Program;
           has_macros =
-              not web.now.has_defs_code;
+              not web.now.has_all_macros;
           has_piece = has_piece;
         } ∷ [] else [])) }
 {
@@ -122,7 +122,7 @@ fn main_file(
     Ok(files)
 }
 
-/// Puts the file of a name last, if it has one of its own.
+/// Adds the file of a name, if it has one of its own.
 fn add_named_file(
     alloc: Global,
     table: &NameTable,
@@ -156,7 +156,7 @@ pub(crate) fn outputs(
     requires inside { ResolvesInside table.now }
     requires ours { length table.now.resolved ≡ length web.now.occurrences }
     requires size { length expandable.now ≡ length table.now.names + 1 }
-    requires program { has_piece ≡ has_pieces (shapes web.now table.now Program) }
+    requires program { has_piece ≡ shape_has_piece (shapes web.now table.now Program) }
     requires flags { (n : ℕ) → n < length expandable.now → slice_index_or expandable.now n false
         ≡ is_expandable (shapes web.now table.now) (title_at table.now.names n) }
     ensures { IfOk result (λ files. files.items ≡ outputs web.now table.now out.now) }

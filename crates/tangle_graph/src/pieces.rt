@@ -1,20 +1,20 @@
-//! The pieces of each node, and the names that it uses.
+//! The pieces of each node.
 ghost use Rattle.std.specs.Prelude.{◌≡◌, ◌<◌, ◌+◌, ◌∷◌, [], IfOk, OnOk, IfSome};
 ghost use Rattle.std.specs.Prelude.{◌++◌, ℕ, length, if◌then◌else◌, All, true};
 ghost use Rattle.digraph.specs.Graph.{row_at, rows_of};
 ghost use Rattle.digraph.specs.Rows.{IsRowsOf, GrowsBy};
 ghost use Rattle.tangle_plans.specs.WebShapes.{ResolvesInside};
-ghost use Rattle.tangle_graph.specs.Grouping.{number_of_name, number_of, is_number};
+ghost use Rattle.tangle_graph.specs.Grouping.{resolved_number, number_of_piece, has_number_in};
 ghost use Rattle.tangle_graph.specs.Grouping.{passed_of, positions_of};
 
 use digraph::{empty_rows, push_to};
 use std::alloc::{AllocError, Global};
 use tangle_names::{NameTable, Resolved};
-use tangle_scan::{Item, Piece};
+use tangle_scan::Piece;
 
 /// The number of the name that is resolved to.
-pub(crate) fn number_of_name(resolved: Resolved) -> Option<usize>
-    ensures { result ≡ number_of_name resolved }
+pub(crate) fn resolved_number(resolved: Resolved) -> Option<usize>
+    ensures { result ≡ resolved_number resolved }
 {
     match resolved {
         Resolved::Name(id) => Some(id),
@@ -22,70 +22,76 @@ pub(crate) fn number_of_name(resolved: Resolved) -> Option<usize>
     }
 }
 
-/// The number of the node that has the pieces with this name.
-fn number_of(table: &NameTable, name: Option<usize>) -> Option<usize>
+/// The number of the node that a piece belongs to, by the occurrence that defines it; a piece of
+/// the program has none.
+fn number_of_piece(table: &NameTable, occurrence: Option<usize>) -> Option<usize>
     requires inside { ResolvesInside table.now }
-    requires name { IfSome name (λ occurrence. occurrence < length table.now.resolved) }
-    ensures node { result ≡ number_of table.now name }
+    requires occurrence { IfSome occurrence (λ n. n < length table.now.resolved) }
+    ensures number { result ≡ number_of_piece table.now occurrence }
     ensures within { IfSome result (λ n. n < length table.now.names + 1) }
 {
-    match name {
+    match occurrence {
         None => Some(table.count()),
-        Some(occurrence) => number_of_name(table.resolve(occurrence)),
+        Some(occurrence) => resolved_number(table.resolve(occurrence)),
     }
 }
 
-/// Puts a number last in the row of the node, if there is one.
-fn push_at(rows: &mut Vec<Vec<usize>>, node: Option<usize>, x: usize) -> Result<(), AllocError>
-    requires { IfSome node (λ n. n < length rows.old.items) }
-    ensures { OnOk result (GrowsBy (λ n. if is_number n node then x ∷ [] else [])
+/// Adds the piece at the end of the row with this number, if there is one.
+fn push_at(
+    rows: &mut Vec<Vec<usize>>,
+    number: Option<usize>,
+    piece: usize,
+) -> Result<(), AllocError>
+    requires { IfSome number (λ n. n < length rows.old.items) }
+    ensures { OnOk result (GrowsBy (λ n. if has_number_in n number then piece ∷ [] else [])
         (rows_of rows.old.items) (rows_of rows.new.items)) }
 {
-    match node {
+    match number {
         None => Ok(()),
-        Some(n) => push_to(rows, n, x),
+        Some(n) => push_to(rows, n, piece),
     }
 }
 
-/// Where the pieces of each node are, in the order of the source.
+/// The positions of the pieces of each node, in the order of the source.
 pub(crate) fn pieces_by_node(
     alloc: Global,
     pieces: &[Piece],
     table: &NameTable,
 ) -> Result<Vec<Vec<usize>>, AllocError>
     requires inside { ResolvesInside table.now }
-    requires names { All (λ p. IfSome p.occurrence
+    requires occurrences { All (λ p. IfSome p.occurrence
         (λ occurrence. occurrence < length table.now.resolved)) pieces.now }
     ensures { IfOk result (λ rows. IsRowsOf (length table.now.names + 1)
         (positions_of table.now pieces.now) (rows_of rows.items)) }
 {
     let mut rows = rows_for(alloc, table)?;
     for (i, piece) in pieces.iter().enumerate() {
-        push_at(&mut rows, number_of(table, piece.occurrence()), i)?;
+        push_at(&mut rows, number_of_piece(table, piece.occurrence()), i)?;
     }
     Ok(rows)
 }
 
-/// Passes a number in the row of the node, if there is one: whether it comes next there.
+/// Whether this piece is the next in the row with this number, of which `passed` says how many were
+/// passed; then it is passed too. A piece of no node always is.
 fn pass_next(
     rows: &[Vec<usize>],
     passed: &mut Vec<usize>,
-    node: Option<usize>,
-    number: usize,
+    number: Option<usize>,
+    piece: usize,
 ) -> bool
-    requires node { IfSome node (λ n. n < length rows.now) }
+    requires number { IfSome number (λ n. n < length rows.now) }
     requires size { length passed.old.items ≡ length rows.now }
     ensures size { length passed.new.items ≡ length rows.now }
     ensures rows { result ≡ true → (n : ℕ) → n < length rows.now
         → passed_of (rows_of rows.now) passed.new.items n
         ≡ passed_of (rows_of rows.now) passed.old.items n
-        ++ (if is_number n node then number ∷ [] else []) }
+        ++ (if has_number_in n number then piece ∷ [] else []) }
 {
-    match node {
+    match number {
         None => true,
         Some(n) => {
             let at = passed[n];
-            if rows[n].get(at) != Some(&number) {
+            if rows[n].get(at) != Some(&piece) {
                 return false;
             }
             passed[n] = at + 1;
@@ -94,7 +100,7 @@ fn pass_next(
     }
 }
 
-/// Whether all numbers of each row were passed.
+/// Whether all pieces of each row were passed.
 fn are_passed(rows: &[Vec<usize>], passed: &[usize]) -> bool
     requires { length passed.now ≡ length rows.now }
     ensures { result ≡ true → (n : ℕ) → n < length rows.now
@@ -117,7 +123,7 @@ pub(crate) fn are_rows_of(
     table: &NameTable,
 ) -> Result<bool, AllocError>
     requires inside { ResolvesInside table.now }
-    requires names { All (λ p. IfSome p.occurrence
+    requires occurrences { All (λ p. IfSome p.occurrence
         (λ occurrence. occurrence < length table.now.resolved)) pieces.now }
     ensures { IfOk result (λ are. are ≡ true → IsRowsOf (length table.now.names + 1)
         (positions_of table.now pieces.now) (rows_of rows.now)) }
@@ -128,7 +134,12 @@ pub(crate) fn are_rows_of(
     }
     let mut passed = vec![in alloc; 0; rows.len()]?;
     for (i, piece) in pieces.iter().enumerate() {
-        if !pass_next(rows, &mut passed, number_of(table, piece.occurrence()), i) {
+        if !pass_next(
+            rows,
+            &mut passed,
+            number_of_piece(table, piece.occurrence()),
+            i,
+        ) {
             return Ok(false);
         }
     }

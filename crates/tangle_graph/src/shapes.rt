@@ -8,8 +8,8 @@ use crate::store::Store;
 use tangle_plans::Node;
 
 /// Whether the two nodes have the same shape: the same pieces, with section numbers, file names and
-/// line numbers struck out and each use as the name that it resolves to. What names have no piece,
-/// and what a store doesn't have, is alike.
+/// line numbers struck out and each use as the name that it resolves to. Nodes without a piece have
+/// the same shape, and a node that a store doesn't have counts as one.
 pub fn same_shape(old: &Store, old_node: Node, new: &Store, new_node: Node) -> bool
     ensures { (old_shapes new_shapes : Shapes) → IsStoreOf old_shapes old.now
         → IsStoreOf new_shapes new.now
@@ -25,14 +25,14 @@ pub fn same_shape(old: &Store, old_node: Node, new: &Store, new_node: Node) -> b
     }
 }
 
-/// Whether a node has a flag: then it has the shape of before. The flags say which nodes have the
-/// bodies of before, and use names as before.
-pub fn keeps_shape(old: &Store, new: &Store, are_kept: &[bool], node: Node) -> bool
-    requires { KeepsBodies old.now new.now are_kept.now }
-    ensures flag { result ≡ flag_at new.now are_kept.now node }
+/// Whether a node has a flag: then it has the old shape. The flags say which nodes have the old
+/// body, and use names as before.
+pub fn keeps_shape(old: &Store, new: &Store, are_as_before: &[bool], node: Node) -> bool
+    requires { KeepsBodies old.now new.now are_as_before.now }
+    ensures flag { result ≡ flag_at new.now are_as_before.now node }
     ensures shape { (old_shapes new_shapes : Shapes) → IsStoreOf old_shapes old.now
         → IsStoreOf new_shapes new.now → IsNodeIn new.now node → result ≡ true
         → new_shapes (title_in_store new.now node) ≡ old_shapes (title_in_store new.now node) }
 {
-    new.is_flagged(are_kept, node)
+    new.is_flagged(are_as_before, node)
 }

@@ -6,18 +6,18 @@ ghost use Rattle.std.specs.Option.{option_copied};
 ghost use Rattle.tangle_names.specs.NameTable.{table_of};
 ghost use Rattle.tangle_expansion.specs.Kept.{kept_at, used_symbols};
 ghost use Rattle.tangle_expansion.specs.Limits.{flat_of};
-ghost use Rattle.tangle_plans.specs.NodeBodies.{node_uses};
+ghost use Rattle.tangle_plans.specs.NodeBodies.{body_uses};
 ghost use Rattle.tangle_plans.specs.Shapes.{Shapes};
 ghost use Rattle.tangle_plans.specs.Slots.{filled};
 ghost use Rattle.tangle_plans.specs.declared.nodes.Node.TheVariants as node_kind;
 ghost use Rattle.digraph.specs.Graph.{rows_of};
 ghost use Rattle.digraph.specs.Rows.{IsRowsOf};
 ghost use Rattle.tangle_graph.specs.Grouping.{positions_of};
+ghost use Rattle.tangle_graph.specs.NameGraphs.{IsNameGraphOf};
 ghost use Rattle.tangle_graph.specs.Nodes.{number_in};
 ghost use Rattle.tangle_graph.specs.Ordering.{IsOrderIn};
-ghost use Rattle.tangle_graph.specs.Plans.{AreBodies, AreBodiesBefore, AreFilled, ArePlanned};
+ghost use Rattle.tangle_graph.specs.Plans.{AreBodies, AreBodiesBefore, ArePieceFlags, ArePlanned};
 ghost use Rattle.tangle_graph.specs.Plans.{ArePlans, node_bodies, slots_of, uses_of_plans};
-ghost use Rattle.tangle_graph.specs.Skeletons.{IsSkeletonOf};
 ghost use Rattle.tangle_graph.specs.Stores.{IsStoreOf, KeepsBodies, KeepsUsed, plan_uses_at};
 ghost use Rattle.tangle_graph.specs.Stores.{slots_at};
 ghost use Rattle.tangle_graph.specs.Stores.{title_in_store, contains_itself_at, is_expandable_at};
@@ -25,13 +25,13 @@ ghost use Rattle.tangle_graph.specs.Stores.{weight_at, depth_at, uses_at, users_
 ghost use Rattle.tangle_graph.specs.Stores.{body_at};
 ghost use Rattle.tangle_graph.specs.WebStores.{IsStoreOfWeb};
 
-use crate::bodies::{OldBodies, are_same_flags, bodies_by_node, filled_rows, no_bodies};
+use crate::bodies::{OldBodies, are_same_flags, bodies_by_node, no_bodies, piece_flags};
 use crate::faults::{NodeFlags, faults};
 use crate::measures::Measures;
-use crate::nodes::{entry, number_of, row};
+use crate::name_graph::{NameGraph, are_names_of, have_same_uses};
+use crate::nodes::{entry, number_in, row};
 use crate::outputs::outputs;
 use crate::pieces::{are_rows_of, pieces_by_node};
-use crate::skeleton::{Skeleton, are_names_of, have_same_uses};
 use std::alloc::Global;
 use std::marker::Model;
 use std::mem::replace;
@@ -49,9 +49,9 @@ use tangle_scan::Web;
 /// resolves to the name. A node beyond a store's names counts there as one without a piece.
 #[derive(Drop)]
 pub struct Store {
-    skeleton: Rc<Skeleton>,
+    name_graph: Rc<NameGraph>,
     pieces: Rc<Vec<Vec<usize>>>,
-    filled: Vec<bool>,
+    has_piece: Vec<bool>,
     weights: Vec<u32>,
     depths: Vec<u16>,
     expandable: Vec<bool>,
@@ -61,14 +61,14 @@ pub struct Store {
 }
 
 impl Model for Store {
-    ghost use Rattle.tangle_graph.specs.StoreKept.{IsWellKept, store_read};
+    ghost use Rattle.tangle_graph.specs.StoreView.{StoreInvariant, store_read};
     ghost use Rattle.tangle_graph.specs.Stores.{StoreRead};
 
     ghost Value = { StoreRead };
 
     ghost view = { store_read };
 
-    ghost invariant = { λ s. IsWellKept s };
+    ghost invariant = { λ s. StoreInvariant s };
 }
 
 /// A store that was built over another one, and a flag for each of its nodes: whether it has the
@@ -76,7 +76,7 @@ impl Model for Store {
 #[derive(Drop)]
 pub struct Rebuilt {
     pub store: Store,
-    pub are_kept: Vec<bool>,
+    pub are_as_before: Vec<bool>,
 }
 
 impl Store {
@@ -94,19 +94,21 @@ impl Store {
         let pieces = shared_pieces(alloc, web, table)?;
         let all: &Vec<Vec<usize>> = &pieces;
         let rows: &[Vec<usize>] = all;
-        let filled = filled_rows(alloc, rows)?;
-        let flags: &[bool] = &filled;
+        let has_piece = piece_flags(alloc, rows)?;
+        let flags: &[bool] = &has_piece;
         let names = table.names()?;
         let none = no_bodies(&names, flags);
         let made = bodies_by_node(alloc, web, table, flags, rows, none, true)?;
         let bodies = made.bodies;
-        let skeleton = Skeleton::shared(alloc, table, &bodies)?;
-        Store::over(alloc, web, table, out, pieces, filled, bodies, skeleton)
+        let name_graph = NameGraph::shared(alloc, table, &bodies)?;
+        Store::over(
+            alloc, web, table, out, pieces, has_piece, bodies, name_graph,
+        )
     }
 
     /// The same store, for a web that comes after another one: what the edit did not change is
-    /// shared with the store of the web before. The flags say which nodes have the bodies of
-    /// before, and use names as before.
+    /// shared with the old store. The flags say which nodes have the old body, and use names as
+    /// before.
     ///
     /// # Errors
     ///
@@ -120,45 +122,51 @@ impl Store {
     ) -> Result<Rebuilt, NoMemory>
         requires { table.now ≡ record (table_of web.now) { faults = table.now.faults } }
         ensures store { IfOk result (λ made. IsStoreOfWeb web.now table.now out.now made.store) }
-        ensures kept { IfOk result (λ made. KeepsBodies old.now made.store made.are_kept.items) }
+        ensures bodies { IfOk result
+            (λ made. KeepsBodies old.now made.store made.are_as_before.items) }
     {
         names_resolve_inside();
         let pieces = old.pieces_for(alloc, web, table)?;
         let all: &Vec<Vec<usize>> = &pieces;
         let rows: &[Vec<usize>] = all;
-        let filled = filled_rows(alloc, rows)?;
-        let flags: &[bool] = &filled;
+        let has_piece = piece_flags(alloc, rows)?;
+        let flags: &[bool] = &has_piece;
         let before = old.bodies();
         let same_names = old.has_names_of(table);
-        let in_place = same_names && are_same_flags(before.filled, flags);
-        let made = bodies_by_node(alloc, web, table, flags, rows, before, in_place)?;
-        let are_kept = made.are_kept;
+        let same_names_and_flags = same_names && are_same_flags(before.has_piece, flags);
+        let made = bodies_by_node(alloc, web, table, flags, rows, before, same_names_and_flags)?;
+        let are_as_before = made.are_as_before;
         let bodies = made.bodies;
-        let skeleton = old.skeleton_for(alloc, table, same_names, &bodies)?;
-        let store = Store::over(alloc, web, table, out, pieces, filled, bodies, skeleton)?;
-        Ok(Rebuilt { store, are_kept })
+        let name_graph = old.name_graph_for(alloc, table, same_names, &bodies)?;
+        let store = Store::over(
+            alloc, web, table, out, pieces, has_piece, bodies, name_graph,
+        )?;
+        Ok(Rebuilt {
+            store,
+            are_as_before,
+        })
     }
 
     /// Whether the names are those of the table, each under its number.
     fn has_names_of(&self, table: &NameTable) -> bool
         ensures { result ≡ true → self.now.names ≡ table.now.names }
     {
-        are_names_of(&self.skeleton.names, table)
+        are_names_of(&self.name_graph.names, table)
     }
 
-    /// The bodies of the nodes, with what they were planned under.
+    /// The bodies of the nodes, with the names and flags that their plans depend on.
     fn bodies(&self) -> OldBodies<'_>
         ensures planned { AreBodiesBefore result }
         ensures names { result.names.now ≡ self.now.names }
         ensures bodies { node_bodies result.bodies.now ≡ self.now.bodies }
     {
-        let skeleton: &Skeleton = &self.skeleton;
-        let names: &Names = &skeleton.names;
-        let filled: &[bool] = &self.filled;
+        let name_graph: &NameGraph = &self.name_graph;
+        let names: &Names = &name_graph.names;
+        let has_piece: &[bool] = &self.has_piece;
         let bodies: &[Rc<NodeBody>] = &self.bodies;
         OldBodies {
             names,
-            filled,
+            has_piece,
             bodies,
         }
     }
@@ -193,34 +201,35 @@ impl Store {
         shared_pieces(alloc, web, table)
     }
 
-    /// The skeleton of the table's names and these bodies: the store's own, where it is the same.
-    fn skeleton_for(
+    /// The graph of the table's names and these bodies: the store's own, where it is the same.
+    fn name_graph_for(
         &self,
         alloc: Global,
         table: &NameTable,
         same_names: bool,
         bodies: &[Rc<NodeBody>],
-    ) -> Result<Rc<Skeleton>, NoMemory>
+    ) -> Result<Rc<NameGraph>, NoMemory>
         requires same_names { same_names ≡ true → self.now.names ≡ table.now.names }
         requires size { length bodies.now ≡ length table.now.names + 1 }
         requires inside { All (λ row. All (λ id. id < length table.now.names) row)
-            (map node_uses (node_bodies bodies.now)) }
+            (map body_uses (node_bodies bodies.now)) }
         ensures names { IfOk result
-            (λ skeleton. skeleton.value.names ≡ table.now.names) }
-        ensures skeleton { IfOk result
-            (λ skeleton. IsSkeletonOf (map node_uses (node_bodies bodies.now)) skeleton.value) }
+            (λ name_graph. name_graph.value.names ≡ table.now.names) }
+        ensures name_graph { IfOk result
+            (λ name_graph. IsNameGraphOf (map body_uses (node_bodies bodies.now))
+            name_graph.value) }
     {
         if same_names && have_same_uses(&self.bodies, bodies) {
-            match self.skeleton.clone() {
-                Ok(skeleton) => Ok(skeleton),
+            match self.name_graph.clone() {
+                Ok(name_graph) => Ok(name_graph),
                 Err(_) => Err(NoMemory),
             }
         } else {
-            Skeleton::shared(alloc, table, bodies)
+            NameGraph::shared(alloc, table, bodies)
         }
     }
 
-    /// The store over the pieces, the bodies and the skeleton of a web's nodes, where the flags say
+    /// The store over the pieces, the bodies and the graph of a web's nodes, where the flags say
     /// which nodes have a piece.
     fn over(
         alloc: Global,
@@ -228,48 +237,49 @@ impl Store {
         table: &NameTable,
         out: &[u8],
         pieces: Rc<Vec<Vec<usize>>>,
-        filled: Vec<bool>,
+        has_piece: Vec<bool>,
         bodies: Vec<Rc<NodeBody>>,
-        skeleton: Rc<Skeleton>,
+        name_graph: Rc<NameGraph>,
     ) -> Result<Store, NoMemory>
         requires table { table.now ≡ record (table_of web.now) { faults = table.now.faults } }
         requires grouped { IsRowsOf (length table.now.names + 1)
             (positions_of table.now web.now.pieces) (rows_of pieces.value.items) }
-        requires filled { AreFilled (rows_of pieces.value.items) filled.items }
+        requires has_piece { ArePieceFlags (rows_of pieces.value.items) has_piece.items }
         requires bodies { AreBodies web.now table.now (rows_of pieces.value.items)
             (node_bodies bodies.items) }
-        requires plans { ArePlans web.now table.now (λ id. slice_index_or filled.items id false)
+        requires plans { ArePlans web.now table.now (λ id. slice_index_or has_piece.items id false)
             (rows_of pieces.value.items) (slots_of bodies.items) (uses_of_plans bodies.items) }
-        requires planned { ArePlanned table.now.names (λ id. slice_index_or filled.items id false)
-            (node_bodies bodies.items) }
-        requires names { skeleton.value.names ≡ table.now.names }
-        requires skeleton { IsSkeletonOf (map node_uses (node_bodies bodies.items)) skeleton.value }
+        requires planned { ArePlanned table.now.names
+            (λ id. slice_index_or has_piece.items id false) (node_bodies bodies.items) }
+        requires names { name_graph.value.names ≡ table.now.names }
+        requires name_graph { IsNameGraphOf (map body_uses (node_bodies bodies.items))
+            name_graph.value }
         ensures store { IfOk result (IsStoreOfWeb web.now table.now out.now) }
         ensures bodies { IfOk result (λ store. store.bodies ≡ node_bodies bodies.items) }
     {
         names_resolve_inside();
         names_are_the_full_names();
         filled_plans_are_right();
-        let shared: &Skeleton = &skeleton;
-        let defined: &[bool] = &filled;
+        let shared: &NameGraph = &name_graph;
+        let has_piece_by_node: &[bool] = &has_piece;
         let all: &Vec<Vec<usize>> = &pieces;
         let rows: &[Vec<usize>] = all;
         let uses: &[Vec<usize>] = &shared.uses;
         let order: &[usize] = &shared.order;
-        let measures = Measures::take(alloc, web, table, rows, uses, order, &bodies)?;
+        let measures = Measures::build(alloc, web, table, rows, uses, order, &bodies)?;
         let flags = NodeFlags {
-            defined,
+            has_piece: has_piece_by_node,
             self_containing: &shared.self_containing,
-            reaching: &shared.reaching_cycles,
+            reaching_cycles: &shared.reaching_cycles,
             expandable: &measures.expandable,
         };
-        let has_piece = defined[table.count()];
-        let outputs = outputs(alloc, web, table, out, has_piece, flags.expandable)?;
+        let program_has_piece = has_piece_by_node[table.count()];
+        let outputs = outputs(alloc, web, table, out, program_has_piece, flags.expandable)?;
         let faults = faults(alloc, web, table, out, &flags)?;
         Ok(Store {
-            skeleton,
+            name_graph,
             pieces,
-            filled,
+            has_piece,
             weights: measures.weights,
             depths: measures.depths,
             expandable: measures.expandable,
@@ -283,14 +293,14 @@ impl Store {
     pub(crate) fn number(&self, node: Node) -> Option<usize>
         ensures { result ≡ number_in (length self.now.names) node }
     {
-        number_of(self.skeleton.names.count(), node)
+        number_in(self.name_graph.names.count(), node)
     }
 
-    /// What is kept of the node, if the store has it.
+    /// The body of the node, if the store has it.
     pub(crate) fn body(&self, node: Node) -> Option<&NodeBody>
         ensures body { option_copied result ≡ body_at self.now node }
         ensures uses { IfSome result
-            (λ body. All (λ id. id < length self.now.names) (node_uses body.now)) }
+            (λ body. All (λ id. id < length self.now.names) (body_uses body.now)) }
     {
         match self.number(node) {
             Some(n) => match self.bodies.get(n) {
@@ -315,7 +325,7 @@ impl Store {
     pub fn self_containing(&self, node: Node) -> bool
         ensures { result ≡ contains_itself_at self.now node }
     {
-        entry(&self.skeleton.self_containing, self.number(node), false)
+        entry(&self.name_graph.self_containing, self.number(node), false)
     }
 
     /// Whether the node is expandable: it has a piece, reaches no name that contains itself, weighs
@@ -327,7 +337,7 @@ impl Store {
     }
 
     /// The weight of the node: each byte of an item counts 1, and so do an opening, a closing, a
-    /// mark, a use and the macros; a use counts the weight of its name besides. What weighs more
+    /// line mark, a use and the macros; a use counts the weight of its name too. What weighs more
     /// than 16,777,216, or reaches a name that contains itself, has 16,777,217.
     pub fn weight(&self, node: Node) -> u32
         ensures { result ≡ weight_at self.now node }
@@ -348,19 +358,19 @@ impl Store {
     pub fn uses(&self, node: Node) -> &[Node]
         ensures { result.now ≡ uses_at self.now node }
     {
-        row(&self.skeleton.used_nodes, self.number(node))
+        row(&self.name_graph.used_nodes, self.number(node))
     }
 
     /// The nodes that use this one, each once.
     pub fn users(&self, node: Node) -> &[Node]
         ensures { result.now ≡ users_at self.now node }
     {
-        row(&self.skeleton.user_nodes, self.number(node))
+        row(&self.name_graph.user_nodes, self.number(node))
     }
 
     /// The output files: the main file first, if the program has no piece or is expandable, and
-    /// then each other file name with a piece that is expandable, in the order of the first
-    /// occurrences that are marked `@(`.
+    /// then each other file name with a piece that is expandable, in the order of their first
+    /// occurrences that begin with `@(`.
     pub fn outputs(&self) -> &[Output]
         ensures { result.now ≡ self.now.outputs }
     {
@@ -377,8 +387,7 @@ impl Store {
         self.faults.as_slice()
     }
 
-    /// The faults of the graph, for one who keeps them with others. The store has none from then
-    /// on.
+    /// Takes the faults out of the store, which has none from then on.
     pub fn take_faults(&mut self) -> Vec<Fault>
         ensures taken { result.items ≡ self.old.faults }
         ensures others { self.new ≡ record self.old { faults = [] } }
@@ -392,7 +401,7 @@ impl Store {
     pub fn order(&self) -> &[Node]
         ensures { IsOrderIn self.now result.now }
     {
-        self.skeleton.node_order.as_slice()
+        self.name_graph.node_order.as_slice()
     }
 }
 
@@ -424,7 +433,7 @@ impl PiecesByNode for Store {
     ghost bodies = { body_at };
 
     fn full_names(&self) -> &Names {
-        &self.skeleton.names
+        &self.name_graph.names
     }
 
     fn piece_numbers(&self, node: Node) -> &[usize] {
@@ -436,12 +445,12 @@ impl PiecesByNode for Store {
     }
 }
 
-/// Expands a node: its own symbols, with the expansions that are kept of the names with a piece
-/// that it uses where it uses them. The node goes last in the work's list.
+/// Expands a node: its own symbols and, at each use of a name with a piece, the kept expansion of
+/// that name. The node goes last in the work's list.
 ///
 /// # Errors
 ///
-/// `NoMemory`, and then the work stays.
+/// `NoMemory`, where an allocation failed; the work is then as before.
 pub fn expand_one(
     alloc: Global,
     store: &Store,
@@ -460,7 +469,7 @@ pub fn expand_one(
     ensures listed { OnOk result (work.new ≡ work.old ++ node ∷ []) }
     ensures err { OnErr result (work.new ≡ work.old) }
 {
-    // The proof looks at what is kept.
+    // Reading a field makes the store's invariant known to the proof.
     let _ = &store.bodies;
     expand(alloc, store, node, kept, work)
 }

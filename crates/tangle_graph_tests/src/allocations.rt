@@ -9,7 +9,7 @@ use std::test::Fail;
 use tangle_lines::{MarkMode, NoMemory};
 use tangle_names::NameTable;
 use tangle_scan::{Web, scan};
-use tangle_test_support::{end_refusals, fail_allocation, files_with, read};
+use tangle_test_support::{end_failures, fail_allocation, files_with, read};
 
 fn count_outputs(
     alloc: Global,
@@ -28,8 +28,8 @@ fn count_outputs(
 }
 
 // Builds the store and the numbers of a web of two outputs and a fault, and keeps the expansions of
-// its three nodes, with this allocation refused, and says whether none was.
-fn tangling_is_spared(
+// its three nodes, with this allocation failing, and says whether none did.
+fn tangling_without_failure(
     rt: &impl Abort,
     alloc: Global,
     web: &Web,
@@ -38,11 +38,11 @@ fn tangling_is_spared(
 ) -> bool
     requires { table.now ≡ table_of web.now }
 {
-    let is_harnessed = fail_allocation(alloc, nth);
+    let has_library = fail_allocation(alloc, nth);
     let counts = count_outputs(alloc, web, table);
-    let was_spared = end_refusals(alloc, is_harnessed);
-    assert_eq!(rt; matches!(counts, Ok((2, 1, 3))), was_spared);
-    was_spared
+    let none_failed = end_failures(alloc, has_library);
+    assert_eq!(rt; matches!(counts, Ok((2, 1, 3))), none_failed);
+    none_failed
 }
 
 #[test]
@@ -53,7 +53,7 @@ fn each_allocation_of_tangling_failing(rt: HostRuntime) -> Result<(), Fail> {
     let web = scan(rt.alloc(), &source)?;
     let table = NameTable::build(rt.alloc(), &web)?;
     for nth in 1..1000 {
-        if tangling_is_spared(&rt, rt.alloc(), &web, &table, nth) {
+        if tangling_without_failure(&rt, rt.alloc(), &web, &table, nth) {
             return Ok(());
         }
     }

@@ -4,12 +4,11 @@ use std::alloc::Global;
 use std::process::Abort;
 use std::test::Fail;
 use tangle_affected::affected;
-use tangle_graph::Store;
+use tangle_graph::{Node, Store};
 use tangle_lines::NoMemory;
 use tangle_names::NameTable;
-use tangle_plans::Node;
 use tangle_scan::{Web, scan};
-use tangle_test_support::{end_refusals, fail_allocation, files_with, read};
+use tangle_test_support::{end_failures, fail_allocation, files_with, read};
 
 const TWO_BRANCHES: &[u8] =
     b"@ P.\n@c\n@<A@>@<S@>\n@ @<A@>=\n@<B@>\n@ @<B@>=\n@<C@>\n@ @<C@>=\n1\n@ @<S@>=\n2\n";
@@ -26,7 +25,7 @@ const C_USES_A: &[u8] =
 const S_WITHOUT_A_PIECE: &[u8] =
     b"@ P.\n@c\n@<A@>@<S@>\n@ @<A@>=\n@<B@>\n@ @<B@>=\n@<C@>\n@ @<C@>=\n1\n";
 
-// Webs before and after an edit, and the nodes that it affects, each behind those that it uses: a
+// Webs before and after an edit, and the nodes that it affects, each after those that it uses: a
 // line below one of two branches is replaced, and replaced by itself; a use becomes one of another
 // name with as long a text; a name comes to contain itself, and no longer does; and a name loses
 // its only piece. The names are A, S, B and C, in the order of their first occurrences.
@@ -52,8 +51,8 @@ const EDITS: [(&[u8], &[u8], &[Node]); 6] = [
 ];
 
 // The nodes that the edit from one web to the other affects, reported with this allocation failing,
-// and whether none was.
-fn affected_without(
+// and whether none did.
+fn affected_with_failure(
     alloc: Global,
     old_web: &Web,
     new_web: &Web,
@@ -63,14 +62,14 @@ fn affected_without(
     let new_names = NameTable::build(alloc, new_web)?;
     let old = Store::build(alloc, old_web, &old_names, b"a.c")?;
     let new = Store::rebuild(alloc, new_web, &new_names, b"a.c", &old)?;
-    let is_harnessed = fail_allocation(alloc, nth);
+    let has_library = fail_allocation(alloc, nth);
     let nodes = affected(alloc, &old, &new.store);
-    Ok((nodes, end_refusals(alloc, is_harnessed)))
+    Ok((nodes, end_failures(alloc, has_library)))
 }
 
-// Whether the store of the web behind an edit is made over the one of the web before it, where this
-// allocation fails: then none does.
-fn rebuilding_is_spared(
+// Builds the store of the web after an edit over the one of the web before it, with this allocation
+// failing, and says whether none did.
+fn rebuilding_without_failure(
     rt: &impl Abort,
     alloc: Global,
     old_web: &Web,
@@ -80,53 +79,53 @@ fn rebuilding_is_spared(
     let old_names = NameTable::build(alloc, old_web)?;
     let new_names = NameTable::build(alloc, new_web)?;
     let old = Store::build(alloc, old_web, &old_names, b"a.c")?;
-    let is_harnessed = fail_allocation(alloc, nth);
+    let has_library = fail_allocation(alloc, nth);
     let new = Store::rebuild(alloc, new_web, &new_names, b"a.c", &old);
-    let was_spared = end_refusals(alloc, is_harnessed);
-    assert_eq!(rt; new.is_ok(), was_spared);
-    Ok(was_spared)
+    let none_failed = end_failures(alloc, has_library);
+    assert_eq!(rt; new.is_ok(), none_failed);
+    Ok(none_failed)
 }
 
-// Whether no allocation failed: then the edit affects these nodes, and else it is not reported.
-fn affected_is_spared(
+// Whether no allocation failed: then the edit affects these nodes, and else `NoMemory` is returned.
+fn affected_without_failure(
     rt: &impl Abort,
     alloc: Global,
     webs: (&Web, &Web),
     nodes: &[Node],
     nth: u32,
 ) -> Result<bool, NoMemory> {
-    let (reported, was_spared) = affected_without(alloc, webs.0, webs.1, nth)?;
-    assert_eq!(rt; reported.is_ok(), was_spared);
+    let (reported, none_failed) = affected_with_failure(alloc, webs.0, webs.1, nth)?;
+    assert_eq!(rt; reported.is_ok(), none_failed);
     if let Ok(reported) = &reported {
         assert!(rt; reported.as_slice() == nodes);
     }
-    Ok(was_spared)
+    Ok(none_failed)
 }
 
 // Fails the first allocation, the second and so on, until none fails.
-fn refuse_each(
+fn fail_each_allocation(
     rt: &impl Abort,
     alloc: Global,
     webs: (&Web, &Web),
     nodes: &[Node],
 ) -> Result<(), Fail> {
     for nth in 1..100 {
-        if affected_is_spared(rt, alloc, webs, nodes, nth)? {
+        if affected_without_failure(rt, alloc, webs, nodes, nth)? {
             return Ok(());
         }
     }
     Err(Fail::from("never reported"))
 }
 
-// The same of the store of the web behind the edit.
-fn refuse_each_of_rebuilding(
+// The same of the store of the web after the edit.
+fn fail_each_of_rebuilding(
     rt: &impl Abort,
     alloc: Global,
     old_web: &Web,
     new_web: &Web,
 ) -> Result<(), Fail> {
     for nth in 1..1000 {
-        if rebuilding_is_spared(rt, alloc, old_web, new_web, nth)? {
+        if rebuilding_without_failure(rt, alloc, old_web, new_web, nth)? {
             return Ok(());
         }
     }
@@ -147,8 +146,8 @@ fn check_affected(
     let new_source = read(alloc, &new_files, None)?;
     let old_web = scan(alloc, &old_source)?;
     let new_web = scan(alloc, &new_source)?;
-    refuse_each_of_rebuilding(rt, alloc, &old_web, &new_web)?;
-    refuse_each(rt, alloc, (&old_web, &new_web), nodes)
+    fail_each_of_rebuilding(rt, alloc, &old_web, &new_web)?;
+    fail_each_allocation(rt, alloc, (&old_web, &new_web), nodes)
 }
 
 #[test]

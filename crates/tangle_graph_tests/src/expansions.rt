@@ -2,9 +2,8 @@
 use crate::tangling::tangle;
 use std::alloc::Global;
 use std::test::Fail;
-use tangle_expansion::Expansion;
 use tangle_folders::MemorySink;
-use tangle_plans::Node;
+use tangle_graph::{Expansion, Node};
 use tangle_test_support::chain;
 
 // A share of the expansion of a node; those of the others are dropped.
@@ -22,7 +21,7 @@ fn written_size(alloc: Global, text: &[u8], node: Node) -> Result<(u128, usize),
     // Of a web without pieces: each section has the number 0, and each mark is at line 0 of a.w.
     let empty = tangle(alloc, b"")?;
     let mut sink = MemorySink::new(alloc, 1_000_000);
-    match expansion.put_text(&empty.numbers, &mut sink, Ok(0)) {
+    match expansion.write_text_after(&empty.numbers, &mut sink, Ok(0)) {
         Ok(size) => Ok((size, sink.bytes().len())),
         Err(_) => Err(Fail::from("the text is not written")),
     }
@@ -30,7 +29,7 @@ fn written_size(alloc: Global, text: &[u8], node: Node) -> Result<(u128, usize),
 
 // As deep as a node can be that is expanded: of the last node 30 bytes, and of each other one 45.
 #[test]
-fn a_chain_of_1000_nodes_is_expanded_shared_written_and_let_go(
+fn a_chain_of_1000_nodes_is_expanded_shared_written_and_dropped(
     rt: HostRuntime,
 ) -> Result<(), Fail> {
     let alloc = rt.alloc();

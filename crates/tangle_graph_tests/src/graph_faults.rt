@@ -3,7 +3,7 @@ use crate::tangling::tangle;
 use std::alloc::Global;
 use std::process::Abort;
 use std::test::Fail;
-use tangle_test_support::{doubling, lines_of};
+use tangle_test_support::{doubling, lines_of_faults};
 
 // Webs, and the lines of the faults of their graphs: an empty one, a name that only reaches a
 // cycle, undefined names, which are reported once and at their first use, a use in a piece that is
@@ -34,7 +34,7 @@ const WEBS: [(&[u8], &[u8]); 6] = [
 // The faults of the graph of the web with this text have these lines.
 fn check_faults(rt: &impl Abort, alloc: Global, text: &[u8], lines: &[u8]) -> Result<(), Fail> {
     let tangled = tangle(alloc, text)?;
-    assert!(rt; lines_of(alloc, tangled.store.faults())?.bytes() == lines);
+    assert!(rt; lines_of_faults(alloc, tangled.store.faults())?.bytes() == lines);
     Ok(())
 }
 

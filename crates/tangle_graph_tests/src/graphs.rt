@@ -2,8 +2,7 @@
 use crate::outputs::assert_nodes;
 use crate::tangling::tangle;
 use std::test::Fail;
-use tangle_graph::Store;
-use tangle_plans::Node;
+use tangle_graph::{Node, Store};
 use tangle_test_support::{chain, doubling};
 
 const NAME_AND_USE: &[u8] = b"@ A.\n@c\nint x=@<v@>;\n@ @<v@>=\n1\n";
@@ -77,7 +76,7 @@ const NODES: [(&[u8], Node, Measures, &[Node], &[Node]); 9] = [
     (MAIN_FILES_NAME, Node::Program, NO_PIECE, &[], &[]),
 ];
 
-// What the store reports a node.
+// What the store says of a node.
 fn measures(store: &Store, node: Node) -> Measures {
     (
         store.weight(node),

@@ -6,11 +6,10 @@ use std::alloc::Global;
 use std::io::{self, Write};
 use std::process::Abort;
 use std::test::Fail;
-use tangle_expansion::Output;
 use tangle_folders::MemorySink;
-use tangle_lines::{IoSink, MarkMode, WriteFault, put};
-use tangle_plans::Node;
-use tangle_test_support::{DOUBLING_FILE, doubling, lines_of};
+use tangle_graph::{Node, Output};
+use tangle_lines::{IoSink, MarkMode, WriteFault, write_after};
+use tangle_test_support::{DOUBLING_FILE, doubling, lines_of_faults};
 
 // Capacity for all that a test writes.
 const AMPLE: usize = 1_000_000;
@@ -19,7 +18,7 @@ const AMPLE: usize = 1_000_000;
 // line and its bytes; their nodes, and whether the macros begin them; and the number of the nodes
 // that are expanded: a piece alone, a name and the program that uses it, the same below a line and
 // below a section more, an abbreviation of one name and of two, macros where a piece that nothing
-// uses asks for them and where the program does, names that use each other, a name in place of the
+// uses asks for them and where the program does, names that use each other, a name instead of the
 // cycle, a file with the main file's name, and a name over four levels.
 const WEBS: [(&[u8], &[u8], &[u8], &[(Node, bool)], u64); 12] = [
     (
@@ -121,8 +120,8 @@ const WEBS: [(&[u8], &[u8], &[u8], &[(Node, bool)], u64); 12] = [
 fn add_output(tangled: &TangledWeb, output: &Output, list: &mut MemorySink) -> Result<(), Fail>
     requires { KeepsWritable tangled.now.store tangled.now.kept }
 {
-    put(list, Ok(0), output.name())?;
-    put(list, Ok(0), b"\n")?;
+    write_after(list, Ok(0), output.name())?;
+    write_after(list, Ok(0), b"\n")?;
     let (size, written) = write_output(tangled, output, list)?;
     if written != Ok(size) {
         return Err(Fail::from("another size than was written"));
@@ -162,7 +161,7 @@ fn check_outputs(
     made: u64,
 ) -> Result<(), Fail> {
     let tangled = tangle(alloc, text)?;
-    assert!(rt; lines_of(alloc, tangled.store.faults())?.bytes() == faults);
+    assert!(rt; lines_of_faults(alloc, tangled.store.faults())?.bytes() == faults);
     assert!(rt; list_outputs(alloc, &tangled)?.bytes() == files);
     assert_nodes(rt, tangled.store.outputs(), nodes);
     assert_eq!(rt; tangled.work.made(), made);
@@ -177,8 +176,8 @@ fn outputs_of_webs(rt: HostRuntime) -> Result<(), Fail> {
     Ok(())
 }
 
-// Webs, with their output files where each mark is a line feed: marks of a piece and behind a use,
-// behind a join, and behind macros.
+// Webs, with their output files where each mark is a line feed: marks of a piece and after a use,
+// after a join, and after macros.
 const BARE: [(&[u8], &[u8]); 3] = [
     (
         b"@ A.\n@c\nint x=@<v@>;\n@ @<v@>=\n1\n",
@@ -247,14 +246,14 @@ fn check_cut_off(
     alloc: Global,
     tangled: &TangledWeb,
     output: &Output,
-    room: usize,
+    capacity: usize,
 ) -> Result<(), Fail>
     requires { KeepsWritable tangled.now.store tangled.now.kept }
 {
-    let mut sink = MemorySink::new(alloc, room);
+    let mut sink = MemorySink::new(alloc, capacity);
     let (_, written) = write_output(tangled, output, &mut sink)?;
-    assert_eq!(rt; written, Err(WriteFault(room as u128)));
-    assert!(rt; sink.bytes().len() == room && DOUBLING_FILE.starts_with(sink.bytes()));
+    assert_eq!(rt; written, Err(WriteFault(capacity as u128)));
+    assert!(rt; sink.bytes().len() == capacity && DOUBLING_FILE.starts_with(sink.bytes()));
     Ok(())
 }
 
@@ -262,8 +261,8 @@ fn check_cut_off(
 fn a_writer_that_fails_after_each_byte(rt: HostRuntime) -> Result<(), Fail> {
     let tangled = tangle(rt.alloc(), doubling(rt.alloc())?.as_slice())?;
     let output = tangled.store.outputs().first().ok_or("an output")?;
-    for room in 0..DOUBLING_FILE.len() {
-        check_cut_off(&rt, rt.alloc(), &tangled, output, room)?;
+    for capacity in 0..DOUBLING_FILE.len() {
+        check_cut_off(&rt, rt.alloc(), &tangled, output, capacity)?;
     }
     Ok(())
 }

@@ -9,10 +9,8 @@ ghost use Rattle.tangle_graph_tests.specs.Keeping.{KeepsWritable};
 use std::alloc::Global;
 use std::test::Fail;
 use tangle_affected::expand_all;
-use tangle_expansion::{
-    Kept, Numbers, Output, Work, expandable_nodes_are_light, file_size, write_file,
-};
-use tangle_graph::Store;
+use tangle_expansion::expandable_nodes_are_light;
+use tangle_graph::{Kept, Numbers, Output, Store, Work, file_size, write_file};
 use tangle_lines::{MarkMode, NoMemory, Sink, Source, WriteFault};
 use tangle_names::NameTable;
 use tangle_scan::{Web, scan};
@@ -105,7 +103,7 @@ fn write_ready<S: Sink>(
     (size, written)
 }
 
-/// Writes an output file. It answers how many bytes the file has, and how many were written.
+/// Writes an output file. It returns how many bytes the file has, and how many were written.
 pub(crate) fn write_output<S: Sink>(
     tangled: &TangledWeb,
     output: &Output,

@@ -8,6 +8,6 @@ pub mod Points
 pub mod QuotedOrder
 pub mod RegionOrder
 pub mod SegmentPoints
-pub mod SegmentFates
+pub mod SegmentKinds
 pub mod TokenOrder
 pub mod WhiteOrder

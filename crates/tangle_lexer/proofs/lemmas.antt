@@ -3,9 +3,9 @@ pub mod CutLemmas
 pub mod HeadLemmas
 pub mod LexemeLemmas
 pub mod NameLemmas
-pub mod NamesKept
+pub mod OccurrencesCounted
 pub mod OrdinaryLemmas
-pub mod QuietTokens
+pub mod PlainTokens
 pub mod OpenedRegions
 pub mod SimpleLemmas
 pub mod StepLemmas

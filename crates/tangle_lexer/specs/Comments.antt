@@ -5,10 +5,10 @@ use Rattle.tangle_faults.specs.declared.faults.FaultKind.TheVariants as fault
 use Rattle.tangle_text.specs.declared.regions.Region.{Region}
 use Rattle.tangle_text.specs.declared.regions.Region.TheVariants as region
 use Rattle.tangle_text.specs.declared.regions.Unit.{Unit as Unit-of}
-use Rattle.tangle_lexer.specs.declared.modes.ScanState.{ScanState}
+use Rattle.tangle_lexer.specs.declared.modes.LexerState.{LexerState}
 use Rattle.tangle_lexer.specs.declared.tokens.Token.{Token}
-use Rattle.tangle_text.specs.Bytes.{asterisk, slash, are, is_section_start, is_end_code}
-use Rattle.tangle_text.specs.Text.{Cell, byte_at, line_at}
+use Rattle.tangle_text.specs.Bytes.{asterisk, slash, are_bytes, is_section_start, is_end_code}
+use Rattle.tangle_text.specs.Text.{Cell, byte_at, front_line}
 use Rattle.tangle_text.specs.Regions.{count_before, from_units}
 use Rattle.tangle_lexer.specs.Lexemes.{Lexeme, white_lexeme, fault_if, line_end_by}
 
@@ -22,7 +22,7 @@ line_ends r text = from_units unit_line_end r 0 text
 
 -- */ is at the front
 abbrev pub ends_comment : List Cell → Bool
-ends_comment text = are asterisk slash (byte_at 0 text) (byte_at 1 text)
+ends_comment text = are_bytes asterisk slash (byte_at 0 text) (byte_at 1 text)
 
 -- @> is at the front
 abbrev pub has_end_code : List Cell → Bool
@@ -36,30 +36,30 @@ starts_section text = is_section_start (byte_at 0 text) (byte_at 1 text)
 abbrev pub two_if : Bool → ℕ
 two_if b = if b then 2 else 0
 
--- what ends a comment over lines, or else a control text, is at the front
+-- what ends a block comment, or else a control text, is at the front
 abbrev pub ends_region : Region → List Cell → Bool
-ends_region region.Comment text = ends_comment text
+ends_region region.BlockComment text = ends_comment text
 ends_region _ text = has_end_code text
 
--- the opening of a comment over lines or a control text, and what is up to its end: it is a fault if that isn't there
-abbrev pub text_over_lines : Region → FaultKind → ScanState → List Cell → Lexeme
-text_over_lines r kind s text =
+-- the opening of a block comment or a control text, and what is up to its end: it is a fault if that isn't there
+abbrev pub comment_or_control_text : Region → FaultKind → LexerState → List Cell → Lexeme
+comment_or_control_text r kind s text =
     let inside : ℕ = count_before r 0 (drop 2 text) in
-    let behind : List Cell = drop inside (drop 2 text) in
-    white_lexeme (line_ends r (drop 2 text)) (fault_if (not (ends_region r behind)) kind (line_at s.last behind))
-    (1 + inside + two_if (ends_region r behind)) s
+    let after : List Cell = drop inside (drop 2 text) in
+    white_lexeme (line_ends r (drop 2 text)) (fault_if (not (ends_region r after)) kind (front_line s.last_line after))
+    (1 + inside + two_if (ends_region r after)) s
 
 -- /* up to */; a section start or the end of the source before that is a fault
-abbrev pub block_comment : ScanState → List Cell → Lexeme
-block_comment = text_over_lines region.Comment fault.CommentEnd
+abbrev pub block_comment : LexerState → List Cell → Lexeme
+block_comment = comment_or_control_text region.BlockComment fault.CommentEnd
 
 -- @^, @., @:, @t, @q up to @>; another control code but @@, or the end of the source, before that is a fault
-abbrev pub control_text : ScanState → List Cell → Lexeme
-control_text = text_over_lines region.ControlText fault.ControlText
+abbrev pub control_text : LexerState → List Cell → Lexeme
+control_text = comment_or_control_text region.ControlText fault.ControlText
 
 -- // up to the line end, which is no part of it; a section start before that is a fault
-abbrev pub line_comment : ScanState → List Cell → Lexeme
+abbrev pub line_comment : LexerState → List Cell → Lexeme
 line_comment s text =
     let inside : ℕ = count_before region.LineComment 0 (drop 2 text) in
-    let behind : List Cell = drop inside (drop 2 text) in
-    white_lexeme [] (fault_if (starts_section behind) fault.CommentEnd (line_at s.last behind)) (1 + inside) s
+    let after : List Cell = drop inside (drop 2 text) in
+    white_lexeme [] (fault_if (starts_section after) fault.CommentEnd (front_line s.last_line after)) (1 + inside) s

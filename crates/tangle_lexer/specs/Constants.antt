@@ -3,15 +3,16 @@ use Rattle.std.specs.Prelude.{ℕ, ◌+◌, ◌-◌, ◌*◌, ◌==◌, nat_le, 
 use Rattle.tangle_lexer.specs.declared.constants.AsciiConstant.{AsciiConstant}
 use Rattle.tangle_faults.specs.declared.faults.FaultKind.TheVariants as fault
 use Rattle.tangle_text.specs.declared.regions.Region.TheVariants as region
-use Rattle.tangle_lexer.specs.declared.modes.ScanState.{ScanState}
+use Rattle.tangle_lexer.specs.declared.modes.LexerState.{LexerState}
 use Rattle.tangle_lexer.specs.declared.tokens.Token.TheVariants as token
-use Rattle.tangle_text.specs.Bytes.{at_sign, backslash, apostrophe, double_quote, holds, is_octal}
-use Rattle.tangle_text.specs.Text.{Cell, byte_at, line_at}
+use Rattle.tangle_lines.specs.Bytes.{at_sign, double_quote}
+use Rattle.tangle_text.specs.Bytes.{backslash, apostrophe, holds, is_octal}
+use Rattle.tangle_text.specs.Text.{Cell, byte_at, front_line}
 use Rattle.tangle_text.specs.Regions.{count_before}
 use Rattle.tangle_lexer.specs.Quoted.{one_if}
 use Rattle.tangle_lexer.specs.Lexemes.{Lexeme, lexeme_of, elsewhere, white_lexeme}
 
--- a backslash and this byte
+-- the value of a backslash and this byte, if they are a character
 abbrev pub escape_of : ℕ → Option ℕ
 escape_of b =
     if b == 97 then Some 7 else  -- \a
@@ -61,22 +62,22 @@ constant_by (Some b) text =
     if b == backslash then escaped_constant text else
     if b == apostrophe then None else if_closed (Some b) 1 text
 
--- the constant behind @'
+-- the constant after @'
 abbrev pub constant_at : List Cell → Option AsciiConstant
 constant_at text = constant_by (byte_at 0 text) text
 
 -- What is no constant is white space up to and with the first apostrophe of the line, or up to its end.
-abbrev pub bad_constant : ScanState → List Cell → Lexeme
+abbrev pub bad_constant : LexerState → List Cell → Lexeme
 bad_constant s text =
     let inside : ℕ = count_before region.BadConstant 0 (drop 2 text) in
-    white_lexeme [] (token.Fault fault.AsciiBad (line_at s.last text) ∷ [])
+    white_lexeme [] (token.Fault fault.AsciiBad (front_line s.last_line text) ∷ [])
     (1 + inside + one_if (holds apostrophe (byte_at 0 (drop inside (drop 2 text))))) s
 
-abbrev pub constant_lexeme : Option AsciiConstant → ScanState → List Cell → Lexeme
+abbrev pub constant_lexeme : Option AsciiConstant → LexerState → List Cell → Lexeme
 constant_lexeme None s text = bad_constant s text
 constant_lexeme (Some constant) s text =
-    lexeme_of (token.AsciiConstant constant.value (line_at s.last text) ∷ []) (2 + constant.count) (elsewhere s)
+    lexeme_of (token.AsciiConstant constant.value (front_line s.last_line text) ∷ []) (2 + constant.count) (elsewhere s)
 
 -- @'
-abbrev pub ascii_constant : ScanState → List Cell → Lexeme
+abbrev pub ascii_constant : LexerState → List Cell → Lexeme
 ascii_constant s text = constant_lexeme (constant_at (drop 2 text)) s text

@@ -1,5 +1,5 @@
 -- Heads among tokens.
-use Rattle.std.specs.Prelude.{◌≡◌, ◌⊎◌, Bool, true, false, List, [], ◌∷◌, ◌++◌, Option, None, Some}
+use Rattle.std.specs.Prelude.{◌≡◌, Bool, true, false, List, [], ◌∷◌, ◌++◌, Option, None, Some}
 use Rattle.std.specs.List.{list_any}
 use Rattle.tangle_lexer.specs.declared.tokens.Token.{Token}
 use Rattle.tangle_lexer.specs.declared.tokens.Token.TheVariants as token
@@ -9,18 +9,14 @@ abbrev pub is_head : Token → Bool
 is_head token.Section = true
 is_head (token.MacroStart line) = true
 is_head (token.UnnamedPart line) = true
-is_head (token.NamedPart name line) = true
+is_head (token.NamedPart occurrence line) = true
 is_head _ = false
 
 -- no head is among these tokens
 abbrev pub HasNoHead : List Token → Type 0
-HasNoHead es = list_any is_head es ≡ false
-
--- a head is alone
-abbrev pub IsHeadAlone : List Token → Type 0
-IsHeadAlone es = HasNoHead es ⊎ ((head : Token) × (es ≡ head ∷ []) × (is_head head ≡ true))
+HasNoHead ts = list_any is_head ts ≡ false
 
 -- the last token was taken off if it was a head, and nothing else
 abbrev pub PopsHead : List Token → List Token → Option Token → Type 0
-PopsHead old new None = (new ≡ old) × ((es : List Token) (head : Token) → old ≡ es ++ head ∷ [] → is_head head ≡ false)
+PopsHead old new None = (new ≡ old) × ((ts : List Token) (head : Token) → old ≡ ts ++ head ∷ [] → is_head head ≡ false)
 PopsHead old new (Some head) = (old ≡ new ++ head ∷ []) × (is_head head ≡ true)

@@ -1,43 +1,43 @@
--- What is at the front of the text, and what is known there.
+-- What is at the front of the text, and the state there.
 use Rattle.std.specs.Prelude.{ℕ, Bool, List, [], ◌∷◌, ◌++◌, if◌then◌else◌, Option, None}
 use Rattle.tangle_faults.specs.declared.faults.FaultKind.{FaultKind}
 use Rattle.tangle_lexer.specs.declared.occurrences.OccurrenceRole.{OccurrenceRole}
 use Rattle.tangle_lexer.specs.declared.modes.Mode.{Mode}
 use Rattle.tangle_lexer.specs.declared.modes.IncludeState.{IncludeState}
 use Rattle.tangle_lexer.specs.declared.modes.IncludeState.TheVariants as include
-use Rattle.tangle_lexer.specs.declared.modes.ScanState.{ScanState}
+use Rattle.tangle_lexer.specs.declared.modes.LexerState.{LexerState}
 use Rattle.tangle_lexer.specs.declared.tokens.Token.{Token}
 use Rattle.tangle_lexer.specs.declared.tokens.Token.TheVariants as token
 use Rattle.tangle_text.specs.Bytes.{is_line_end}
 
 -- an occurrence of a section name as it is read: the text of the name, whether it is opened by @(, and the line of its first byte
-pub record ReadOccurrence : Type 0 where
+pub record OccurrenceOnLine : Type 0 where
   pub text : List ℕ
   pub is_file : Bool
   pub role : OccurrenceRole
   pub line : ℕ
 
 -- What is at the front of the text: its tokens, the occurrence of a name if it is one, how many cells it has after its first, and
--- what is known behind it.
+-- the state after it.
 pub record Lexeme : Type 0 where
   pub tokens : List Token
-  pub name : Option ReadOccurrence
+  pub occurrence : Option OccurrenceOnLine
   pub more : ℕ
-  pub after : ScanState
+  pub after : LexerState
 
 -- a lexeme that is no name
-abbrev pub lexeme_of : List Token → ℕ → ScanState → Lexeme
-lexeme_of tokens more after = record { tokens = tokens; name = None; more = more; after = after }
+abbrev pub lexeme_of : List Token → ℕ → LexerState → Lexeme
+lexeme_of tokens more after = record { tokens = tokens; occurrence = None; more = more; after = after }
 
 -- a part in this mode begins: #include may be the first thing in it
-abbrev pub in_mode : Mode → ScanState → ScanState
+abbrev pub in_mode : Mode → LexerState → LexerState
 in_mode mode s = record s { mode = mode; include = include.AtStart }
 
-abbrev pub with_include : IncludeState → ScanState → ScanState
+abbrev pub with_include : IncludeState → LexerState → LexerState
 with_include inc s = record s { include = inc }
 
 -- something that is no white space was read, and no part of #include
-abbrev pub elsewhere : ScanState → ScanState
+abbrev pub elsewhere : LexerState → LexerState
 elsewhere s = with_include include.Elsewhere s
 
 abbrev pub fault_if : Bool → FaultKind → ℕ → List Token
@@ -47,12 +47,12 @@ fault_if b kind line = if b then token.Fault kind line ∷ [] else []
 abbrev pub line_end_by : Option ℕ → ℕ → List Token
 line_end_by b line = if is_line_end b then token.LineEnd line ∷ [] else []
 
--- white space with these line ends in it: behind a line end #include may begin
+-- white space with these line ends in it: after a line end #include may begin
 abbrev pub include_over : List Token → IncludeState → IncludeState
 include_over [] inc = inc
-include_over (e ∷ es) inc = include.AtStart
+include_over (t ∷ ts) inc = include.AtStart
 
 -- white space, with its line ends and its faults
-abbrev pub white_lexeme : List Token → List Token → ℕ → ScanState → Lexeme
+abbrev pub white_lexeme : List Token → List Token → ℕ → LexerState → Lexeme
 white_lexeme line_ends faults more s =
     lexeme_of (token.White ∷ line_ends ++ faults) more (with_include (include_over line_ends s.include) s)

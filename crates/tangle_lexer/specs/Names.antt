@@ -10,19 +10,19 @@ use Rattle.tangle_lexer.specs.declared.names.Equals.TheVariants as equals
 use Rattle.tangle_lexer.specs.declared.names.Name.{Name}
 use Rattle.tangle_text.specs.declared.regions.Region.TheVariants as region
 use Rattle.tangle_lexer.specs.declared.modes.Mode.TheVariants as mode
-use Rattle.tangle_lexer.specs.declared.modes.ScanState.{ScanState}
+use Rattle.tangle_lexer.specs.declared.modes.LexerState.{LexerState}
 use Rattle.tangle_lexer.specs.declared.tokens.Token.{Token}
 use Rattle.tangle_lexer.specs.declared.tokens.Token.TheVariants as token
 use Rattle.tangle_text.specs.Bytes.{left_parenthesis, plus_sign, equals_sign, holds}
-use Rattle.tangle_text.specs.Text.{Cell, byte_at, line_at}
+use Rattle.tangle_text.specs.Text.{Cell, byte_at, front_line}
 use Rattle.tangle_text.specs.Regions.{count_before, from_units}
-use Rattle.tangle_lexer.specs.Lexemes.{ReadOccurrence, Lexeme, fault_if, in_mode, elsewhere}
+use Rattle.tangle_lexer.specs.Lexemes.{OccurrenceOnLine, Lexeme, fault_if, in_mode, elsewhere}
 use Rattle.tangle_lexer.specs.Comments.{has_end_code, two_if}
 use Rattle.tangle_text.specs.NameBytes.{name_bytes}
 
 -- the text of a name
 
--- A byte that isn't white space is added, behind a space where white space is between it and a byte before. The flags say whether
+-- A byte that isn't white space is added, after a space where white space is between it and a byte before. The flags say whether
 -- such a byte is before, and whether white space is directly before.
 abbrev pub with_single_spaces : Bool → Bool → List ℕ → List ℕ
 with_single_spaces begun white [] = []
@@ -46,7 +46,7 @@ dots = codes "..."
 
 -- a name that ends in three dots is an abbreviation
 abbrev pub is_abbreviation : List ℕ → Bool
-is_abbreviation text = bytes_eq (drop (length text - 3) text) dots
+is_abbreviation name = bytes_eq (drop (length name - 3) name) dots
 
 -- where a name ends
 
@@ -61,18 +61,18 @@ name_end text = drop (name_count text) (drop 2 text)
 abbrev pub is_ended : List Cell → Bool
 is_ended text = has_end_code (name_end text)
 
--- how many cells the name at the front has after its first, @> with them
+-- how many cells the name at the front has after its first, those of @> too
 abbrev pub name_more : List Cell → ℕ
 name_more text = 1 + name_count text + two_if (is_ended text)
 
--- the text behind the name
-abbrev pub behind_name : List Cell → List Cell
-behind_name text = drop (name_more text) (drop 1 text)
+-- the text after the name
+abbrev pub after_name : List Cell → List Cell
+after_name text = drop (name_more text) (drop 1 text)
 
 abbrev pub name_faults : ℕ → List Cell → List Token
-name_faults last text = fault_if (not (is_ended text)) fault.NameEnd (line_at last (name_end text))
+name_faults last text = fault_if (not (is_ended text)) fault.NameEnd (front_line last (name_end text))
 
--- what makes a name the head of a definition
+-- what makes a name a definition
 
 -- how many cells are before the equals sign: white space, + and white space
 abbrev pub count_before_equals : List Cell → ℕ
@@ -104,47 +104,48 @@ is_single _ = false
 abbrev pub has_single_equals : List Cell → Bool
 has_single_equals text = is_single (equals_in text)
 
--- only behind @> is a name a head
-abbrev pub head_count : List Cell → Option ℕ
-head_count text = if is_ended text then equals_count (behind_name text) else None
+-- a name that @> does not end is no definition
+abbrev pub definition_count : List Cell → Option ℕ
+definition_count text = if is_ended text then equals_count (after_name text) else None
 
 -- the lexemes of names
 
 -- a name that was read, in a role
-abbrev pub in_role : OccurrenceRole → Name → ReadOccurrence
+abbrev pub in_role : OccurrenceRole → Name → OccurrenceOnLine
 in_role role name = record { text = name.text.items; is_file = name.is_file; role = role; line = name.line }
 
-abbrev pub name_read : OccurrenceRole → ℕ → List Cell → ReadOccurrence
-name_read role last text = record {
+abbrev pub occurrence_read : OccurrenceRole → ℕ → List Cell → OccurrenceOnLine
+occurrence_read role last text = record {
   text = name_text (drop 2 text);
   is_file = holds left_parenthesis (byte_at 1 text);
   role = role;
-  line = line_at last text;
+  line = front_line last text;
 }
 
--- the next name
-abbrev pub name_lexeme : OccurrenceRole → List Token → ℕ → ScanState → List Cell → Lexeme
+-- the lexeme of a name in a role, with these tokens
+abbrev pub name_lexeme : OccurrenceRole → List Token → ℕ → LexerState → List Cell → Lexeme
 name_lexeme role tokens more after text = record {
   tokens = tokens;
-  name = Some (name_read role after.last text);
+  occurrence = Some (occurrence_read role after.last_line text);
   more = more;
   after = record after { occurrences = after.occurrences + 1 };
 }
 
--- In C text a name is a use, also where it looks like the head of a definition, which is a fault. The use ends on the line of the name's end.
-abbrev pub use_of_name : ScanState → List Cell → Lexeme
+-- In C text a name is a use, also where it looks like a definition, which is a fault. The use ends on the line of the name's end.
+abbrev pub use_of_name : LexerState → List Cell → Lexeme
 use_of_name s text =
     name_lexeme role.Use
-    (token.UseOf s.occurrences (line_at s.last (name_end text))
-    ∷ name_faults s.last text ++ fault_if (has_single_equals (behind_name text)) fault.NameEquals (line_at s.last text))
+    (token.UseOf s.occurrences (front_line s.last_line (name_end text))
+    ∷ name_faults s.last_line text ++ fault_if (has_single_equals (after_name text)) fault.NameEquals (front_line s.last_line text))
     (name_more text) (elsewhere s) text
 
--- In documentation a name is a mention, or with a head, which has so many cells more, a definition: a C part of that name begins.
-abbrev pub head_or_mention : Option ℕ → ScanState → List Cell → Lexeme
-head_or_mention None s text = name_lexeme role.Mention (name_faults s.last text) (name_more text) s text
-head_or_mention (Some count) s text =
-    name_lexeme role.Definition (token.NamedPart s.occurrences (line_at s.last (drop (name_more text + count) text)) ∷ [])
+-- Where an equals sign follows, which ends after so many cells, a name of documentation is a definition, and a C part begins; else it
+-- is a mention.
+abbrev pub definition_or_mention : Option ℕ → LexerState → List Cell → Lexeme
+definition_or_mention None s text = name_lexeme role.Mention (name_faults s.last_line text) (name_more text) s text
+definition_or_mention (Some count) s text =
+    name_lexeme role.Definition (token.NamedPart s.occurrences (front_line s.last_line (drop (name_more text + count) text)) ∷ [])
     (name_more text + count) (in_mode mode.CPart s) text
 
-abbrev pub name_in_documentation : ScanState → List Cell → Lexeme
-name_in_documentation s text = head_or_mention (head_count text) s text
+abbrev pub name_in_documentation : LexerState → List Cell → Lexeme
+name_in_documentation s text = definition_or_mention (definition_count text) s text

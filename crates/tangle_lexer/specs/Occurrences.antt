@@ -1,9 +1,9 @@
 -- The occurrences of section names.
 use Rattle.std.specs.Prelude.{ℕ, Bool, List}
 use Rattle.tangle_faults.specs.declared.faults.Origin.{Origin}
-use Rattle.tangle_lines.specs.Reading.{Line, origin_at}
+use Rattle.tangle_lines.specs.Reading.{SourceLine, origin_at}
 use Rattle.tangle_lexer.specs.declared.occurrences.OccurrenceRole.{OccurrenceRole}
-use Rattle.tangle_lexer.specs.Lexemes.{ReadOccurrence}
+use Rattle.tangle_lexer.specs.Lexemes.{OccurrenceOnLine}
 use Rattle.tangle_lexer.specs.Names.{is_abbreviation}
 
 -- an occurrence of a section name: its text, an abbreviation's with its dots; whether it is abbreviated; whether it is opened by @(
@@ -14,8 +14,8 @@ pub record OccurrenceRead : Type 0 where
   pub role : OccurrenceRole
   pub origin : Origin
 
--- the occurrence that a name is which was read
-abbrev pub occurrence_of : List Line → ReadOccurrence → OccurrenceRead
+-- an occurrence that was read, with its origin
+abbrev pub occurrence_of : List SourceLine → OccurrenceOnLine → OccurrenceRead
 occurrence_of lines n = record {
   text = n.text;
   is_abbreviation = is_abbreviation n.text;

@@ -1,36 +1,37 @@
--- Quoted and verbatim texts, which are cut: behind the first @ of each @@, and at a line end inside.
-use Rattle.std.specs.Prelude.{Bool, ◌&&◌, Bool, ℕ, ◌+◌, zero, suc, ◌==◌, nat_lt, List, [], ◌∷◌, ◌++◌, drop, if◌then◌else◌, Option}
+-- Quoted and verbatim texts, which are cut: after the first @ of each @@, and at a line end inside.
+use Rattle.std.specs.Prelude.{Bool, ◌&&◌, ℕ, ◌+◌, zero, suc, ◌==◌, nat_lt, List, [], ◌∷◌, ◌++◌, drop, if◌then◌else◌, Option}
 use Rattle.tangle_faults.specs.declared.faults.FaultKind.TheVariants as fault
 use Rattle.tangle_text.specs.declared.spans.Span.{Span}
 use Rattle.tangle_text.specs.declared.regions.Region.{Region}
 use Rattle.tangle_text.specs.declared.regions.Region.TheVariants as region
 use Rattle.tangle_text.specs.declared.regions.Unit.{Unit as Unit-of}
 use Rattle.tangle_text.specs.declared.regions.Unit.TheVariants as unit
-use Rattle.tangle_lexer.specs.declared.modes.ScanState.{ScanState}
+use Rattle.tangle_lexer.specs.declared.modes.LexerState.{LexerState}
 use Rattle.tangle_lexer.specs.declared.tokens.Token.{Token}
-use Rattle.tangle_lexer.specs.declared.tokens.TextKind.{TextKind}
-use Rattle.tangle_lexer.specs.declared.tokens.TextKind.TheVariants as text_kind
+use Rattle.tangle_lexer.specs.declared.tokens.SpanKind.{SpanKind}
+use Rattle.tangle_lexer.specs.declared.tokens.SpanKind.TheVariants as span_kind
 use Rattle.tangle_lexer.specs.declared.tokens.Token.TheVariants as token
-use Rattle.tangle_text.specs.Bytes.{at_sign, backslash, holds, is_line_end}
-use Rattle.tangle_text.specs.Text.{Cell, byte_at, column_at, span_at}
+use Rattle.tangle_lines.specs.Bytes.{at_sign}
+use Rattle.tangle_text.specs.Bytes.{backslash, holds, is_line_end}
+use Rattle.tangle_text.specs.Text.{Cell, byte_at, front_column, span_at}
 use Rattle.tangle_text.specs.Regions.{unit_at, more_by, count_before}
 use Rattle.tangle_lexer.specs.Lexemes.{Lexeme, lexeme_of, elsewhere, fault_if}
 use Rattle.tangle_lexer.specs.Comments.{has_end_code, two_if}
 
--- what kind of text a region is
-abbrev pub kind_in : Region → TextKind
-kind_in region.Verbatim = text_kind.Verbatim
-kind_in _ = text_kind.Quoted
+-- what a range of a region is
+abbrev pub kind_in : Region → SpanKind
+kind_in region.Verbatim = span_kind.Verbatim
+kind_in _ = span_kind.Quoted
 
 -- a range of a region
 abbrev pub range_token : Region → Span → Token
-range_token r s = token.Text (kind_in r) s
+range_token r s = token.Span (kind_in r) s
 
 -- the bytes of a line from a column to a column; an empty rest is no item
 abbrev pub cut_range : Region → ℕ → ℕ → ℕ → List Token
 cut_range r line start end = if nat_lt start end then range_token r (record { line = line; start = start; end = end }) ∷ [] else []
 
--- What a unit inside gives: the range that ends behind the first @ of @@; the range that ends with the backslash which takes a line end
+-- What a unit inside gives: the range that ends after the first @ of @@; the range that ends with the backslash which takes a line end
 -- with it, and that break; for an @ alone its fault, for it is kept.
 abbrev pub unit_tokens : Region → Unit-of → ℕ → Cell → Option ℕ → List Token
 unit_tokens r unit.Two start c next =
@@ -38,12 +39,12 @@ unit_tokens r unit.Two start c next =
     if holds backslash c.byte && is_line_end next then cut_range r c.line start (c.column + 1) ++ token.QuoteBreak ∷ [] else []
 unit_tokens r _ start c next = fault_if (holds at_sign c.byte) fault.StringAt c.line
 
--- where the range behind a unit starts: behind the second @ of @@, and with the next line
+-- where the range after a unit starts: after the second @ of @@, and with the next line
 abbrev pub next_start : Unit-of → ℕ → Cell → Option ℕ → ℕ
 next_start unit.Two start c next = if holds at_sign c.byte then c.column + 2 else if holds backslash c.byte && is_line_end next then 0 else start
 next_start _ start c next = start
 
--- where the region ends these tokens, else others
+-- these tokens where the region ends, else the others
 abbrev pub at_stop : Unit-of → List Token → List Token → List Token
 at_stop unit.Stop ending others = ending
 at_stop _ ending others = others
@@ -71,15 +72,15 @@ abbrev pub quote_end : Region → ℕ → ℕ → ℕ → List Cell → List Tok
 quote_end r close last start [] = token.Fault fault.StringEnd last ∷ []
 quote_end r close last start (c ∷ cs) = quote_stop r close start c
 
--- the closing byte belongs to a quoted text
+-- one more cell if the closing byte is there
 abbrev pub one_if : Bool → ℕ
 one_if b = if b then 1 else 0
 
 -- A quoted text that is closed by this byte. Its opening byte belongs to the first range.
-abbrev pub quoted_text : Region → ℕ → ScanState → List Cell → Lexeme
+abbrev pub quoted_text : Region → ℕ → LexerState → List Cell → Lexeme
 quoted_text r close s text =
     let inside : ℕ = count_before r 0 (drop 1 text) in
-    lexeme_of (cut_tokens (quote_end r close s.last) r 0 (column_at text) (drop 1 text))
+    lexeme_of (cut_tokens (quote_end r close s.last_line) r 0 (front_column text) (drop 1 text))
     (inside + one_if (holds close (byte_at 0 (drop inside (drop 1 text))))) (elsewhere s)
 
 -- verbatim texts
@@ -102,14 +103,14 @@ empty_end (c ∷ cs) = fault_if (is_line_end c.byte) fault.VerbatimEnd c.line
 abbrev pub ends_at_once : Region → List Cell → Bool
 ends_at_once r text = count_before r 0 text == 0
 
--- The tokens behind @=: where the text ends at once, an empty item.
+-- The tokens after @=: where the text ends at once, an empty item.
 abbrev pub verbatim_tokens : List Cell → List Token
 verbatim_tokens text =
-    if ends_at_once region.Verbatim text then token.Text text_kind.Verbatim (span_at 0 text) ∷ empty_end text
-    else cut_tokens verbatim_end region.Verbatim 0 (column_at text) text
+    if ends_at_once region.Verbatim text then token.Span span_kind.Verbatim (span_at 0 text) ∷ empty_end text
+    else cut_tokens verbatim_end region.Verbatim 0 (front_column text) text
 
 -- @= up to @> on this line
-abbrev pub verbatim_text : ScanState → List Cell → Lexeme
+abbrev pub verbatim_text : LexerState → List Cell → Lexeme
 verbatim_text s text =
     let inside : ℕ = count_before region.Verbatim 0 (drop 2 text) in
     lexeme_of (verbatim_tokens (drop 2 text)) (1 + inside + two_if (has_end_code (drop inside (drop 2 text)))) (elsewhere s)

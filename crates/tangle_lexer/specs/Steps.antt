@@ -1,25 +1,26 @@
 -- The four modes: what begins at a position, and what is read there.
 use Rattle.std.specs.Prelude.{ℕ, zero, suc, ◌+◌, ◌-◌, Bool, ◌==◌, ◌&&◌, ◌||◌, List, [], ◌∷◌, length, flat_map, take, drop, if◌then◌else◌, Option, Some, None, option_to_list}
-use Rattle.tangle_lines.specs.Bytes.{is_white}
-use Rattle.tangle_lines.specs.Reading.{Line}
+use Rattle.tangle_lines.specs.Bytes.{at_sign, double_quote, is_white}
+use Rattle.tangle_lines.specs.Reading.{SourceLine}
+use Rattle.tangle_faults.specs.declared.faults.FaultKind.{FaultKind}
 use Rattle.tangle_faults.specs.declared.faults.FaultKind.TheVariants as fault
 use Rattle.tangle_text.specs.declared.regions.Region.TheVariants as region
 use Rattle.tangle_lexer.specs.declared.modes.Mode.{Mode}
 use Rattle.tangle_lexer.specs.declared.modes.Mode.TheVariants as mode
 use Rattle.tangle_lexer.specs.declared.modes.IncludeState.{IncludeState}
 use Rattle.tangle_lexer.specs.declared.modes.IncludeState.TheVariants as include
-use Rattle.tangle_lexer.specs.declared.modes.ScanState.{ScanState}
-use Rattle.tangle_lexer.specs.declared.token_kinds.ControlCode.{ControlCode}
-use Rattle.tangle_lexer.specs.declared.token_kinds.ControlCode.TheVariants as code
-use Rattle.tangle_lexer.specs.declared.token_kinds.TokenKind.{TokenKind}
-use Rattle.tangle_lexer.specs.declared.token_kinds.TokenKind.TheVariants as token_kind
+use Rattle.tangle_lexer.specs.declared.modes.LexerState.{LexerState}
+use Rattle.tangle_lexer.specs.declared.lexeme_kinds.ControlCode.{ControlCode}
+use Rattle.tangle_lexer.specs.declared.lexeme_kinds.ControlCode.TheVariants as code
+use Rattle.tangle_lexer.specs.declared.lexeme_kinds.LexemeKind.{LexemeKind}
+use Rattle.tangle_lexer.specs.declared.lexeme_kinds.LexemeKind.TheVariants as lexeme_kind
 use Rattle.tangle_lexer.specs.declared.tokens.Token.{Token}
-use Rattle.tangle_lexer.specs.declared.tokens.TextKind.TheVariants as text_kind
+use Rattle.tangle_lexer.specs.declared.tokens.SpanKind.TheVariants as span_kind
 use Rattle.tangle_lexer.specs.declared.tokens.Token.TheVariants as token
-use Rattle.tangle_text.specs.Bytes.{at_sign, asterisk, slash, less_sign, left_parenthesis, equals_sign, greater_sign, number_sign, double_quote, apostrophe, holds, is_word_byte, lower}
-use Rattle.tangle_text.specs.Text.{Cell, byte_at, bytes_of, line_at, span_at, text_from}
+use Rattle.tangle_text.specs.Bytes.{asterisk, slash, less_sign, left_parenthesis, equals_sign, greater_sign, number_sign, apostrophe, holds, is_word_byte, lower}
+use Rattle.tangle_text.specs.Text.{Cell, byte_at, bytes_of, front_line, span_at, text_from}
 use Rattle.tangle_text.specs.Regions.{count_before}
-use Rattle.tangle_lexer.specs.Lexemes.{ReadOccurrence, Lexeme, lexeme_of, in_mode, with_include, elsewhere, white_lexeme}
+use Rattle.tangle_lexer.specs.Lexemes.{OccurrenceOnLine, Lexeme, lexeme_of, in_mode, with_include, elsewhere, white_lexeme}
 use Rattle.tangle_lexer.specs.Comments.{block_comment, line_comment, control_text, starts_section}
 use Rattle.tangle_lexer.specs.Quoted.{quoted_text, verbatim_text}
 use Rattle.tangle_lexer.specs.Constants.{ascii_constant}
@@ -48,95 +49,95 @@ abbrev pub code_at : Option ℕ → ControlCode
 code_at None = code.SectionStart
 code_at (Some b) = code_of (lower b)
 
--- < opens a quoted text only behind #include
-abbrev pub less_kind : IncludeState → TokenKind
-less_kind include.AfterInclude = token_kind.IncludeName
-less_kind _ = token_kind.Other
+-- < opens a quoted text only after #include
+abbrev pub less_kind : IncludeState → LexemeKind
+less_kind include.AfterInclude = lexeme_kind.HeaderName
+less_kind _ = lexeme_kind.Other
 
 -- what begins with this byte, which is no @, where that cell comes next
-abbrev pub byte_kind : IncludeState → ℕ → Option ℕ → TokenKind
+abbrev pub byte_kind : IncludeState → ℕ → Option ℕ → LexemeKind
 byte_kind inc b next =
-    if b == slash && holds asterisk next then token_kind.BlockComment else
-    if b == slash && holds slash next then token_kind.LineComment else
-    if b == double_quote then token_kind.DoubleQuote else
-    if b == apostrophe then token_kind.Apostrophe else
+    if b == slash && holds asterisk next then lexeme_kind.BlockComment else
+    if b == slash && holds slash next then lexeme_kind.LineComment else
+    if b == double_quote then lexeme_kind.DoubleQuote else
+    if b == apostrophe then lexeme_kind.Apostrophe else
     if b == less_sign then less_kind inc else
-    if is_white b then token_kind.White else
-    if is_word_byte b then token_kind.Word else token_kind.Other
+    if is_white b then lexeme_kind.White else
+    if is_word_byte b then lexeme_kind.Word else lexeme_kind.Other
 
 -- what begins where these two cells are in C text
-abbrev pub kind_by : IncludeState → Option ℕ → Option ℕ → TokenKind
-kind_by inc None next = token_kind.LineEnd
-kind_by inc (Some b) next = if b == at_sign then token_kind.Control (code_at next) else byte_kind inc b next
+abbrev pub kind_by : IncludeState → Option ℕ → Option ℕ → LexemeKind
+kind_by inc None next = lexeme_kind.LineEnd
+kind_by inc (Some b) next = if b == at_sign then lexeme_kind.Control (code_at next) else byte_kind inc b next
 
-abbrev pub kind_of : IncludeState → List Cell → TokenKind
-kind_of inc text = kind_by inc (byte_at 0 text) (byte_at 1 text)
+abbrev pub kind_at : IncludeState → List Cell → LexemeKind
+kind_at inc text = kind_by inc (byte_at 0 text) (byte_at 1 text)
 
 -- words and signs
 
 -- a # that is the first thing on its line or in its part
 abbrev pub include_after_sign : Option ℕ → IncludeState → IncludeState
-include_after_sign b include.AtStart = if holds number_sign b then include.AfterSign else include.Elsewhere
+include_after_sign b include.AtStart = if holds number_sign b then include.AfterNumberSign else include.Elsewhere
 include_after_sign b _ = include.Elsewhere
 
--- the word include behind it
+-- the word include after it
 abbrev pub include_after_word : Bool → IncludeState → IncludeState
-include_after_word is_include include.AfterSign = if is_include then include.AfterInclude else include.Elsewhere
+include_after_word is_include include.AfterNumberSign = if is_include then include.AfterInclude else include.Elsewhere
 include_after_word is_include _ = include.Elsewhere
 
 -- word bytes, as many as there are
-abbrev pub word : ScanState → List Cell → Lexeme
+abbrev pub word : LexerState → List Cell → Lexeme
 word s text =
-    lexeme_of (token.Text text_kind.Word (span_at (1 + word_more text) text) ∷ []) (word_more text)
+    lexeme_of (token.Span span_kind.Word (span_at (1 + word_more text) text) ∷ []) (word_more text)
     (with_include (include_after_word (is_include_word (bytes_of (take (1 + word_more text) text))) s.include) s)
 
 -- white space, as much as there is
-abbrev pub white_space : ScanState → List Cell → Lexeme
+abbrev pub white_space : LexerState → List Cell → Lexeme
 white_space s text = lexeme_of (token.White ∷ []) (count_before region.White 0 (drop 1 text)) s
 
--- @d, @f, @s, @c and @p in C text: a fault and white space
-abbrev pub misplaced_code : ScanState → List Cell → Lexeme
-misplaced_code s text = white_lexeme [] (token.Fault fault.CodeInC (line_at s.last text) ∷ []) 1 s
+-- a control code that is this fault and white space
+abbrev pub code_fault : FaultKind → LexerState → List Cell → Lexeme
+code_fault kind s text = white_lexeme [] (token.Fault kind (front_line s.last_line text) ∷ []) 1 s
 
--- a section start: its @ is read; the byte behind it is passed over by the documentation, which begins there
-abbrev pub section_start : ScanState → Lexeme
+-- a section start: its @ is read; the byte after it is passed over by the documentation, which begins there
+abbrev pub section_start : LexerState → Lexeme
 section_start s = lexeme_of (token.Section ∷ []) 0 (in_mode mode.Documentation s)
 
 -- text up to the next @ is passed over
-abbrev pub prose : ScanState → List Cell → Lexeme
+abbrev pub prose : LexerState → List Cell → Lexeme
 prose s text = lexeme_of [] (count_before region.Prose 0 (drop 1 text)) s
 
 -- Limbo. All is passed over up to the first section start, a control code with its two bytes.
-abbrev pub limbo_lexeme : ScanState → List Cell → Lexeme
+abbrev pub limbo_lexeme : LexerState → List Cell → Lexeme
 limbo_lexeme s text =
     if starts_section text then section_start s else
     if holds at_sign (byte_at 0 text) then lexeme_of [] 1 s else prose s text
 
 -- Documentation, by the control code that is there.
-abbrev pub documentation_code : ControlCode → ScanState → List Cell → Lexeme
+abbrev pub documentation_code : ControlCode → LexerState → List Cell → Lexeme
 documentation_code code.SectionStart s text = section_start s
 -- @d begins a macro
-documentation_code code.Macro s text = lexeme_of (token.MacroStart (line_at s.last text) ∷ []) 1 (in_mode mode.Macro s)
+documentation_code code.Macro s text = lexeme_of (token.MacroStart (front_line s.last_line text) ∷ []) 1 (in_mode mode.Macro s)
 -- @c and @p begin an unnamed C part
-documentation_code code.UnnamedPart s text = lexeme_of (token.UnnamedPart (line_at s.last text) ∷ []) 1 (in_mode mode.CPart s)
+documentation_code code.UnnamedPart s text = lexeme_of (token.UnnamedPart (front_line s.last_line text) ∷ []) 1 (in_mode mode.CPart s)
 -- @< and @( begin a C part of that name where a head's = or == follows, and else mention it
 documentation_code code.Name s text = name_in_documentation s text
 -- all other control codes are passed over
 documentation_code _ s text = lexeme_of [] 1 s
 
-abbrev pub documentation_lexeme : ScanState → List Cell → Lexeme
+abbrev pub documentation_lexeme : LexerState → List Cell → Lexeme
 documentation_lexeme s text =
     if holds at_sign (byte_at 0 text) then documentation_code (code_at (byte_at 1 text)) s text else prose s text
 
 -- C text, by the control code that is there.
-abbrev pub c_code : ControlCode → ScanState → List Cell → Lexeme
+abbrev pub c_code : ControlCode → LexerState → List Cell → Lexeme
 c_code code.SectionStart s text = section_start s
 -- @@ is the sign @
-c_code code.DoubleAt s text = lexeme_of (token.Text text_kind.Sign (span_at 1 text) ∷ []) 1 (elsewhere s)
+c_code code.DoubleAt s text = lexeme_of (token.Span span_kind.Sign (span_at 1 text) ∷ []) 1 (elsewhere s)
 -- @d @f @s @c @p
-c_code code.Macro s text = misplaced_code s text
-c_code code.Format s text = misplaced_code s text
-c_code code.UnnamedPart s text = misplaced_code s text
+c_code code.Macro s text = code_fault fault.CodeInC s text
+c_code code.Format s text = code_fault fault.CodeInC s text
+c_code code.UnnamedPart s text = code_fault fault.CodeInC s text
 -- @< @(
 c_code code.Name s text = use_of_name s text
 -- @^ @. @: @t @q
@@ -146,73 +147,73 @@ c_code code.Verbatim s text = verbatim_text s text
 -- @&
 c_code code.Join s text = lexeme_of (token.Join ∷ []) 1 (elsewhere s)
 -- @h
-c_code code.AllMacros s text = lexeme_of (token.AllMacros (line_at s.last text) ∷ []) 1 (elsewhere s)
+c_code code.AllMacros s text = lexeme_of (token.AllMacros (front_line s.last_line text) ∷ []) 1 (elsewhere s)
 -- @'
 c_code code.AsciiConstant s text = ascii_constant s text
 -- other control codes are white space
 c_code code.Other s text = lexeme_of (token.White ∷ []) 1 s
 
 -- C text, by what begins there.
-abbrev pub c_lexeme : TokenKind → ScanState → List Cell → Lexeme
-c_lexeme (token_kind.Control code) s text = c_code code s text
-c_lexeme token_kind.BlockComment s text = block_comment s text
-c_lexeme token_kind.LineComment s text = line_comment s text
-c_lexeme token_kind.DoubleQuote s text = quoted_text region.DoubleQuote double_quote s text
-c_lexeme token_kind.Apostrophe s text = quoted_text region.Apostrophe apostrophe s text
-c_lexeme token_kind.IncludeName s text = quoted_text region.IncludeName greater_sign s text
-c_lexeme token_kind.LineEnd s text = lexeme_of (token.LineEnd (line_at s.last text) ∷ []) 0 (with_include include.AtStart s)
-c_lexeme token_kind.White s text = white_space s text
-c_lexeme token_kind.Word s text = word s text
+abbrev pub c_lexeme : LexemeKind → LexerState → List Cell → Lexeme
+c_lexeme (lexeme_kind.Control code) s text = c_code code s text
+c_lexeme lexeme_kind.BlockComment s text = block_comment s text
+c_lexeme lexeme_kind.LineComment s text = line_comment s text
+c_lexeme lexeme_kind.DoubleQuote s text = quoted_text region.DoubleQuote double_quote s text
+c_lexeme lexeme_kind.Apostrophe s text = quoted_text region.Apostrophe apostrophe s text
+c_lexeme lexeme_kind.HeaderName s text = quoted_text region.HeaderName greater_sign s text
+c_lexeme lexeme_kind.LineEnd s text = lexeme_of (token.LineEnd (front_line s.last_line text) ∷ []) 0 (with_include include.AtStart s)
+c_lexeme lexeme_kind.White s text = white_space s text
+c_lexeme lexeme_kind.Word s text = word s text
 -- any other byte is a sign
-c_lexeme token_kind.Other s text =
-    lexeme_of (token.Text text_kind.Sign (span_at 1 text) ∷ []) 0 (with_include (include_after_sign (byte_at 0 text) s.include) s)
+c_lexeme lexeme_kind.Other s text =
+    lexeme_of (token.Span span_kind.Sign (span_at 1 text) ∷ []) 0 (with_include (include_after_sign (byte_at 0 text) s.include) s)
 
 -- A macro is read as C text, but for control codes that end it and then act as in documentation.
-abbrev pub macro_code : ControlCode → ScanState → List Cell → Lexeme
+abbrev pub macro_code : ControlCode → LexerState → List Cell → Lexeme
 macro_code code.Macro s text = documentation_code code.Macro s text
 macro_code code.UnnamedPart s text = documentation_code code.UnnamedPart s text
 macro_code code.Name s text = documentation_code code.Name (in_mode mode.Documentation s) text
 -- @f and @s lead back to documentation
 macro_code code.Format s text = lexeme_of [] 1 (in_mode mode.Documentation s)
 -- @h is a fault and white space
-macro_code code.AllMacros s text = white_lexeme [] (token.Fault fault.MisplacedH (line_at s.last text) ∷ []) 1 s
+macro_code code.AllMacros s text = code_fault fault.MisplacedH s text
 macro_code other s text = c_code other s text
 
-abbrev pub macro_lexeme : TokenKind → ScanState → List Cell → Lexeme
-macro_lexeme (token_kind.Control code) s text = macro_code code s text
+abbrev pub macro_lexeme : LexemeKind → LexerState → List Cell → Lexeme
+macro_lexeme (lexeme_kind.Control code) s text = macro_code code s text
 macro_lexeme other s text = c_lexeme other s text
 
 -- what is at the front of the text in a mode
-abbrev pub lexeme_in : Mode → ScanState → List Cell → Lexeme
+abbrev pub lexeme_in : Mode → LexerState → List Cell → Lexeme
 lexeme_in mode.Limbo s text = limbo_lexeme s text
 lexeme_in mode.Documentation s text = documentation_lexeme s text
-lexeme_in mode.CPart s text = c_lexeme (kind_of s.include text) s text
-lexeme_in mode.Macro s text = macro_lexeme (kind_of s.include text) s text
+lexeme_in mode.CPart s text = c_lexeme (kind_at s.include text) s text
+lexeme_in mode.Macro s text = macro_lexeme (kind_at s.include text) s text
 
-unfoldable pub lexeme : ScanState → List Cell → Lexeme
+unfoldable pub lexeme : LexerState → List Cell → Lexeme
 lexeme s text = lexeme_in s.mode s text
 
 -- All lexemes of a text: each begins where the one before ended. The number passed in is how many cells are still to be passed over.
-abbrev pub lexemes : ℕ → ScanState → List Cell → List Lexeme
+abbrev pub lexemes : ℕ → LexerState → List Cell → List Lexeme
 lexemes k s [] = []
 lexemes (suc k) s (c ∷ cs) = lexemes k s cs
 lexemes zero s (c ∷ cs) = let here : Lexeme = lexeme s (c ∷ cs) in here ∷ lexemes here.more here.after cs
 
--- the tokens from a position on, where this is known
-unfoldable pub tokens_from : ScanState → List Cell → List Token
+-- the tokens from a position on, in this state
+unfoldable pub tokens_from : LexerState → List Cell → List Token
 tokens_from s text = flat_map (λ l. l.tokens) (lexemes 0 s text)
 
 -- the occurrences of names from a position on
-unfoldable pub occurrences_from : ScanState → List Cell → List ReadOccurrence
-occurrences_from s text = flat_map (λ l. option_to_list l.name) (lexemes 0 s text)
+unfoldable pub occurrences_from : LexerState → List Cell → List OccurrenceOnLine
+occurrences_from s text = flat_map (λ l. option_to_list l.occurrence) (lexemes 0 s text)
 
--- what is known before the first line of a source with so many lines
-abbrev pub at_first : ℕ → ScanState
-at_first count = record { mode = mode.Limbo; include = include.AtStart; occurrences = 0; last = count - 1 }
+-- the state before the first line of a source with so many lines
+abbrev pub first_state : ℕ → LexerState
+first_state count = record { mode = mode.Limbo; include = include.AtStart; occurrences = 0; last_line = count - 1 }
 
 -- the tokens and the occurrences of a whole source
-abbrev pub all_tokens : List Line → List Token
-all_tokens lines = tokens_from (at_first (length lines)) (text_from 0 lines)
+abbrev pub all_tokens : List SourceLine → List Token
+all_tokens lines = tokens_from (first_state (length lines)) (text_from 0 lines)
 
-abbrev pub all_occurrences : List Line → List ReadOccurrence
-all_occurrences lines = occurrences_from (at_first (length lines)) (text_from 0 lines)
+abbrev pub all_occurrences : List SourceLine → List OccurrenceOnLine
+all_occurrences lines = occurrences_from (first_state (length lines)) (text_from 0 lines)

@@ -1,17 +1,17 @@
 //! Comments and control texts, which are white space.
-ghost use Rattle.std.specs.Prelude.{◌≡◌, ◌++◌, true, drop, IfOk, OnOk, Option};
+ghost use Rattle.std.specs.Prelude.{◌≡◌, ◌++◌, true, drop, IfOk, OnOk};
 ghost use Rattle.tangle_lexer.specs.Reads.{IsRead};
-ghost use Rattle.tangle_text.specs.Regions.{is_text, region_end};
+ghost use Rattle.tangle_text.specs.Regions.{skips_ordinary, region_end};
 ghost use Rattle.tangle_lexer.specs.Lexemes.{line_end_by, include_over};
 ghost use Rattle.tangle_lexer.specs.Comments as spec;
 
-use crate::modes::{IncludeState, ScanState};
+use crate::modes::{IncludeState, LexerState};
 use crate::tokens::Token;
 use std::alloc::AllocError;
 use tangle_lines::FaultKind;
 use tangle_text::{Reader, Region, Unit, holds, is_end_code, is_section_start, unit_of};
 
-/// Adds the line end that is here, if there is one. Behind it `#include` may begin.
+/// Adds the line end that is here, if there is one. After it `#include` may begin.
 fn push_line_end(
     tokens: &mut Vec<Token>,
     include: IncludeState,
@@ -31,14 +31,14 @@ fn push_line_end(
 /// Goes on to the end of a comment or a control text, and adds its line ends.
 ///
 /// Its line ends are line ends of the part: so the C has as many lines as the web there, and what
-/// is behind the comment is on the line that the compiler counts, without a line mark.
+/// is after the comment is on the line that the compiler counts, without a line mark.
 fn pass_line_ends(
     tokens: &mut Vec<Token>,
     ahead: &mut Reader,
     region: Region,
-    state: ScanState,
+    state: LexerState,
 ) -> Result<IncludeState, AllocError>
-    requires { is_text region ≡ true }
+    requires { skips_ordinary region ≡ true }
     ensures ahead { OnOk result (ahead.new ≡ region_end region ahead.old) }
     ensures tokens { OnOk result
         (tokens.new.items ≡ tokens.old.items ++ spec.line_ends region ahead.old) }
@@ -51,14 +51,14 @@ fn pass_line_ends(
         if let Unit::Stop = unit {
             return Ok(include);
         }
-        include = push_line_end(tokens, include, front.byte, ahead.line(state.last))?;
+        include = push_line_end(tokens, include, front.byte, ahead.line(state.last_line))?;
         ahead.pass(unit);
         ahead.skip_ordinary();
     }
     Ok(include)
 }
 
-/// `*/` is here.
+/// Whether `*/` is here.
 fn ends_comment(ahead: &Reader) -> bool
     ensures { result ≡ spec.ends_comment ahead.now }
 {
@@ -68,7 +68,7 @@ fn ends_comment(ahead: &Reader) -> bool
     }
 }
 
-/// `@>` is here.
+/// Whether `@>` is here.
 pub fn has_end_code(ahead: &Reader) -> bool
     ensures { result ≡ spec.has_end_code ahead.now }
 {
@@ -78,9 +78,9 @@ pub fn has_end_code(ahead: &Reader) -> bool
     }
 }
 
-/// Goes on behind `@>`, if it is here, and answers whether it does.
+/// Goes on after `@>`, if it is here, and returns whether it is.
 pub fn pass_end_code(ahead: &mut Reader) -> bool
-    ensures is_there { result ≡ spec.has_end_code ahead.old }
+    ensures has_end_code { result ≡ spec.has_end_code ahead.old }
     ensures ahead { ahead.new ≡ drop (spec.two_if (spec.has_end_code ahead.old)) ahead.old }
 {
     if has_end_code(ahead) {
@@ -90,7 +90,7 @@ pub fn pass_end_code(ahead: &mut Reader) -> bool
     false
 }
 
-/// A section start is here.
+/// Whether a section start is here.
 pub fn starts_section(ahead: &Reader) -> bool
     ensures { result ≡ spec.starts_section ahead.now }
 {
@@ -100,29 +100,29 @@ pub fn starts_section(ahead: &Reader) -> bool
     }
 }
 
-/// What ends a comment over lines, or else a control text, is here.
+/// Whether what ends a block comment, or else a control text, is here.
 fn ends_region(region: Region, ahead: &Reader) -> bool
     ensures { result ≡ spec.ends_region region ahead.now }
 {
     match region {
-        Region::Comment => ends_comment(ahead),
+        Region::BlockComment => ends_comment(ahead),
         _ => has_end_code(ahead),
     }
 }
 
-/// Reads the two bytes that open a comment over lines or a control text, and what is up to its end,
+/// Reads the two bytes that open a block comment or a control text, and what is up to its end,
 /// which is two bytes too; it is a fault of this kind if they are not there.
 #[inline(always)]
-fn text_over_lines(
+fn comment_or_control_text(
     region: Region,
     kind: FaultKind,
     tokens: &mut Vec<Token>,
     ahead: &mut Reader,
-    state: ScanState,
-) -> Result<ScanState, AllocError>
-    requires { is_text region ≡ true }
+    state: LexerState,
+) -> Result<LexerState, AllocError>
+    requires { skips_ordinary region ≡ true }
     ensures { IfOk result (λ after. IsRead tokens.old.items tokens.new.items ahead.old ahead.new
-        after (spec.text_over_lines region kind state ahead.old)) }
+        after (spec.comment_or_control_text region kind state ahead.old)) }
 {
     tokens.push(Token::White)?;
     ahead.pass(Unit::Two);
@@ -130,33 +130,39 @@ fn text_over_lines(
     if ends_region(region, ahead) {
         ahead.pass(Unit::Two);
     } else {
-        tokens.push(Token::Fault(kind, ahead.line(state.last)))?;
+        tokens.push(Token::Fault(kind, ahead.line(state.last_line)))?;
     }
-    Ok(ScanState { include, ..state })
+    Ok(LexerState { include, ..state })
 }
 
 /// Reads `/*` and the comment up to its end.
 pub fn block_comment(
     tokens: &mut Vec<Token>,
     ahead: &mut Reader,
-    state: ScanState,
-) -> Result<ScanState, AllocError>
+    state: LexerState,
+) -> Result<LexerState, AllocError>
     ensures { IfOk result (λ after. IsRead tokens.old.items tokens.new.items ahead.old ahead.new
         after (spec.block_comment state ahead.old)) }
 {
-    text_over_lines(Region::Comment, FaultKind::CommentEnd, tokens, ahead, state)
+    comment_or_control_text(
+        Region::BlockComment,
+        FaultKind::CommentEnd,
+        tokens,
+        ahead,
+        state,
+    )
 }
 
 /// Reads the control code of a control text, and the text up to `@>`.
 pub fn control_text(
     tokens: &mut Vec<Token>,
     ahead: &mut Reader,
-    state: ScanState,
-) -> Result<ScanState, AllocError>
+    state: LexerState,
+) -> Result<LexerState, AllocError>
     ensures { IfOk result (λ after. IsRead tokens.old.items tokens.new.items ahead.old ahead.new
         after (spec.control_text state ahead.old)) }
 {
-    text_over_lines(
+    comment_or_control_text(
         Region::ControlText,
         FaultKind::ControlText,
         tokens,
@@ -169,8 +175,8 @@ pub fn control_text(
 pub fn line_comment(
     tokens: &mut Vec<Token>,
     ahead: &mut Reader,
-    state: ScanState,
-) -> Result<ScanState, AllocError>
+    state: LexerState,
+) -> Result<LexerState, AllocError>
     ensures { IfOk result (λ after. IsRead tokens.old.items tokens.new.items ahead.old ahead.new
         after (spec.line_comment state ahead.old)) }
 {
@@ -178,7 +184,7 @@ pub fn line_comment(
     ahead.pass(Unit::Two);
     ahead.skip_to_end(Region::LineComment);
     if starts_section(ahead) {
-        tokens.push(Token::Fault(FaultKind::CommentEnd, ahead.line(state.last)))?;
+        tokens.push(Token::Fault(FaultKind::CommentEnd, ahead.line(state.last_line)))?;
     }
     Ok(state)
 }

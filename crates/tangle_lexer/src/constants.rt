@@ -1,9 +1,9 @@
 //! ASCII constants.
-ghost use Rattle.std.specs.Prelude.{◌≡◌, ◌<◌, ◌+◌, IfOk, Option};
+ghost use Rattle.std.specs.Prelude.{◌≡◌, ◌<◌, IfOk};
 ghost use Rattle.tangle_lexer.specs.Reads.{IsRead};
 ghost use Rattle.tangle_lexer.specs.Constants as spec;
 
-use crate::modes::ScanState;
+use crate::modes::LexerState;
 use crate::tokens::Token;
 use std::alloc::AllocError;
 use tangle_lines::FaultKind;
@@ -16,7 +16,7 @@ pub struct AsciiConstant {
     count: usize,
 }
 
-/// A backslash and this byte.
+/// The value of a backslash and this byte, if they are a character.
 fn escape_of(byte: u8) -> Option<u8>
     ensures { result ≡ spec.escape_of byte }
 {
@@ -33,7 +33,7 @@ fn escape_of(byte: u8) -> Option<u8>
     }
 }
 
-/// What a backslash and this byte are.
+/// The value of a backslash and what is after it, if they are a character.
 fn escape_value(byte: Option<u8>) -> Option<u8>
     ensures { result ≡ spec.escape_value byte }
 {
@@ -81,7 +81,7 @@ fn digit_at(ahead: &Reader, distance: usize) -> usize
     }
 }
 
-/// A backslash is here, and an octal digit behind it.
+/// A backslash is here, and an octal digit after it.
 fn octal_constant(ahead: &Reader) -> Option<AsciiConstant>
     ensures { result ≡ spec.octal_constant ahead.now }
 {
@@ -132,13 +132,13 @@ fn constant_at(ahead: &Reader) -> Option<AsciiConstant>
 fn bad_constant(
     tokens: &mut Vec<Token>,
     ahead: &mut Reader,
-    state: ScanState,
-) -> Result<ScanState, AllocError>
+    state: LexerState,
+) -> Result<LexerState, AllocError>
     ensures { IfOk result (λ after. IsRead tokens.old.items tokens.new.items ahead.old ahead.new
         after (spec.bad_constant state ahead.old)) }
 {
     tokens.push(Token::White)?;
-    tokens.push(Token::Fault(FaultKind::AsciiBad, ahead.line(state.last)))?;
+    tokens.push(Token::Fault(FaultKind::AsciiBad, ahead.line(state.last_line)))?;
     ahead.pass(Unit::Two);
     ahead.skip_to_end(Region::BadConstant);
     if holds(b'\'', ahead.byte()) {
@@ -151,8 +151,8 @@ fn bad_constant(
 pub fn ascii_constant(
     tokens: &mut Vec<Token>,
     ahead: &mut Reader,
-    state: ScanState,
-) -> Result<ScanState, AllocError>
+    state: LexerState,
+) -> Result<LexerState, AllocError>
     ensures { IfOk result (λ after. IsRead tokens.old.items tokens.new.items ahead.old ahead.new
         after (spec.ascii_constant state ahead.old)) }
 {
@@ -161,7 +161,7 @@ pub fn ascii_constant(
     let Some(constant) = constant_at(&character) else {
         return bad_constant(tokens, ahead, state);
     };
-    tokens.push(Token::AsciiConstant(constant.value, ahead.line(state.last)))?;
+    tokens.push(Token::AsciiConstant(constant.value, ahead.line(state.last_line)))?;
     ahead.advance();
     ahead.skip(2 + constant.count);
     Ok(state.elsewhere())

@@ -1,22 +1,21 @@
 //! The lexer: from the text to its tokens, one C part or macro at a time.
-ghost use Rattle.std.specs.Prelude.{◌≡◌, ◌<◌, ◌++◌, [], false, true, length, map, IfOk, IfSome};
+ghost use Rattle.std.specs.Prelude.{◌≡◌, ◌<◌, ◌++◌, [], true, length, map, IfOk, IfSome};
 ghost use Rattle.std.specs.Prelude.{IfNone, OnOk, option_to_list};
-ghost use Rattle.std.specs.List.{list_any};
-ghost use Rattle.tangle_lexer.specs.Steps.{at_first, tokens_from, occurrences_from};
+ghost use Rattle.tangle_lexer.specs.Steps.{tokens_from, occurrences_from};
+ghost use Rattle.tangle_lexer.specs.Steps as spec;
 ghost use Rattle.tangle_lexer.specs.Occurrences.{occurrence_of};
 ghost use Rattle.tangle_lexer.specs.Heads.{is_head as is_head_token};
-ghost use Rattle.tangle_lexer.specs.Heads.{PopsHead};
+ghost use Rattle.tangle_lexer.specs.Heads.{HasNoHead, PopsHead};
 
-use crate::modes::{IncludeState, Mode, ScanState};
-use crate::names::LexerOutput;
+use crate::modes::{IncludeState, LexerState, Mode};
 use crate::simple::read_simple;
 use crate::steps::step;
-use crate::tokens::Token;
+use crate::tokens::{LexerBuffers, Token};
 use std::alloc::AllocError;
 use tangle_lines::Source;
 use tangle_text::Reader;
 
-/// A section, a macro or a C part begins.
+/// Whether a section, a macro or a C part begins.
 fn is_head(token: Token) -> bool
     ensures { result ≡ is_head_token token }
 {
@@ -26,15 +25,15 @@ fn is_head(token: Token) -> bool
     )
 }
 
-/// What is known before the first line.
-pub fn first_state(source: &Source) -> ScanState
-    ensures { result ≡ at_first (length source.now.lines) }
+/// The state before the first line.
+pub fn first_state(source: &Source) -> LexerState
+    ensures { result ≡ spec.first_state (length source.now.lines) }
 {
-    ScanState {
+    LexerState {
         mode: Mode::Limbo,
         include: IncludeState::AtStart,
         occurrences: 0,
-        last: source.count().saturating_sub(1) as u32,
+        last_line: source.count().saturating_sub(1) as u32,
     }
 }
 
@@ -48,36 +47,41 @@ fn pop_head(tokens: &mut Vec<Token>) -> Option<Token>
     }
 }
 
-/// Reads the tokens before the next head, and answers that head and what is known behind it; or
+/// Reads the tokens before the next head, and returns the state after that head, and the head; or
 /// those before the end of the text. The tokens read before are dropped.
+///
+/// # Errors
+///
+/// `AllocError`, where an allocation failed.
 pub fn next_block(
     source: &Source,
-    output: &mut LexerOutput,
+    buffers: &mut LexerBuffers,
     ahead: &mut Reader,
-    from: ScanState,
-) -> Result<(ScanState, Option<Token>), AllocError>
-    requires { from.occurrences ≡ length output.old.occurrences.items }
+    from: LexerState,
+) -> Result<(LexerState, Option<Token>), AllocError>
+    requires { from.occurrences ≡ length buffers.old.occurrences.items }
     ensures tokens { IfOk result (λ next. tokens_from from ahead.old
-        ≡ output.new.tokens.items ++ option_to_list next.1 ++ tokens_from next.0 ahead.new) }
-    ensures no_head { OnOk result (list_any is_head_token output.new.tokens.items ≡ false) }
+        ≡ buffers.new.tokens.items ++ option_to_list next.1 ++ tokens_from next.0 ahead.new) }
+    ensures no_head { OnOk result (HasNoHead buffers.new.tokens.items) }
     ensures head { IfOk result (λ next. IfSome next.1 (λ head. is_head_token head ≡ true)) }
     ensures end { IfOk result (λ next. IfNone next.1 (ahead.new ≡ [])) }
     ensures shorter { IfOk result
         (λ next. IfSome next.1 (λ head. length ahead.new < length ahead.old)) }
-    ensures occurrences { IfOk result (λ next. output.new.occurrences.items
+    ensures occurrences { IfOk result (λ next. buffers.new.occurrences.items
         ++ map (occurrence_of source.now.lines) (occurrences_from next.0 ahead.new)
-        ≡ output.old.occurrences.items ++ map (occurrence_of source.now.lines)
+        ≡ buffers.old.occurrences.items ++ map (occurrence_of source.now.lines)
         (occurrences_from from ahead.old)) }
-    ensures count { IfOk result (λ next. next.0.occurrences ≡ length output.new.occurrences.items) }
+    ensures count { IfOk result
+        (λ next. next.0.occurrences ≡ length buffers.new.occurrences.items) }
 {
-    output.tokens.clear();
+    buffers.tokens.clear();
     let mut state = from;
     while let Some(front) = ahead.front() {
-        state = step(source, output, ahead, state, front)?;
-        if let Some(head) = pop_head(&mut output.tokens) {
+        state = step(source, buffers, ahead, state, front)?;
+        if let Some(head) = pop_head(&mut buffers.tokens) {
             return Ok((state, Some(head)));
         }
-        state = read_simple(&mut output.tokens, ahead, state)?;
+        state = read_simple(&mut buffers.tokens, ahead, state)?;
     }
     Ok((state, None))
 }

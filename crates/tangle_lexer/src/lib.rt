@@ -3,6 +3,7 @@
 
 mod comments;
 mod constants;
+mod lexeme_kinds;
 mod lexer;
 mod modes;
 mod names;
@@ -10,11 +11,9 @@ mod occurrences;
 mod quoted;
 mod simple;
 mod steps;
-mod token_kinds;
 mod tokens;
 
 pub use lexer::{first_state, next_block};
-pub use modes::{IncludeState, Mode, ScanState};
-pub use names::LexerOutput;
+pub use modes::{IncludeState, LexerState, Mode};
 pub use occurrences::{Occurrence, OccurrenceRole};
-pub use tokens::{TextKind, Token};
+pub use tokens::{LexerBuffers, SpanKind, Token};

@@ -1,5 +1,5 @@
 //! What is known at a position of the text.
-ghost use Rattle.std.specs.Prelude.{◌≡◌, Option};
+ghost use Rattle.std.specs.Prelude.{◌≡◌};
 ghost use Rattle.tangle_lexer.specs.Lexemes as lexemes;
 ghost use Rattle.tangle_lexer.specs.Steps as steps;
 
@@ -18,10 +18,10 @@ pub enum Mode {
 /// How much of `#include` was read on the line.
 #[derive(Clone, Copy)]
 pub enum IncludeState {
-    /// Nothing but white space on the line, or in its part.
+    /// Nothing but white space so far on the line, or in the part.
     AtStart,
     /// `#`.
-    AfterSign,
+    AfterNumberSign,
     /// `#include`.
     AfterInclude,
     /// Something else.
@@ -30,60 +30,62 @@ pub enum IncludeState {
 
 /// What is known at a position of the text.
 #[derive(Clone, Copy)]
-pub struct ScanState {
+pub struct LexerState {
     /// How many occurrences of names were read before.
     pub occurrences: usize,
     /// The number of the last source line.
-    pub last: u32,
+    pub last_line: u32,
     pub mode: Mode,
     pub include: IncludeState,
 }
 
-impl ScanState {
-    /// A part in this mode begins.
+impl LexerState {
+    /// The state at the start of a part in this mode.
     pub fn in_mode(self, mode: Mode) -> Self
         ensures { result ≡ lexemes.in_mode mode self }
     {
-        ScanState {
+        LexerState {
             mode,
             include: IncludeState::AtStart,
             ..self
         }
     }
 
-    /// So much of `#include` was read.
+    /// The state after so much of `#include`.
     pub fn with_include(self, include: IncludeState) -> Self
         ensures { result ≡ lexemes.with_include include self }
     {
-        ScanState { include, ..self }
+        LexerState { include, ..self }
     }
 
-    /// Something was read that is no white space, and no part of `#include`.
+    /// The state after something that is no white space, and nothing of `#include`.
     pub fn elsewhere(self) -> Self
         ensures { result ≡ lexemes.elsewhere self }
     {
         self.with_include(IncludeState::Elsewhere)
     }
 
-    /// A sign was read.
+    /// The state after a sign that begins with this byte.
     pub fn after_sign(self, byte: Option<u8>) -> Self
         ensures { result ≡ lexemes.with_include (steps.include_after_sign byte self.include) self }
     {
         match self.include {
             IncludeState::AtStart if holds(b'#', byte) => {
-                self.with_include(IncludeState::AfterSign)
+                self.with_include(IncludeState::AfterNumberSign)
             }
             _ => self.elsewhere(),
         }
     }
 
-    /// A word was read.
+    /// The state after a word, by whether it is `include`.
     pub fn after_word(self, is_include: bool) -> Self
         ensures { result ≡ lexemes.with_include (steps.include_after_word is_include self.include)
             self }
     {
         match self.include {
-            IncludeState::AfterSign if is_include => self.with_include(IncludeState::AfterInclude),
+            IncludeState::AfterNumberSign if is_include => {
+                self.with_include(IncludeState::AfterInclude)
+            }
             _ => self.elsewhere(),
         }
     }

@@ -1,8 +1,8 @@
 //! Section names.
-ghost use Rattle.std.specs.Prelude.{◌≡◌, ◌+◌, ◌++◌, [], ◌∷◌, ℕ, List, length, drop, IfOk, OnOk};
-ghost use Rattle.std.specs.Prelude.{not, Option, Some, None};
+ghost use Rattle.std.specs.Prelude.{◌≡◌, ◌+◌, ◌++◌, [], ◌∷◌, ℕ, List, length, drop, not};
+ghost use Rattle.std.specs.Prelude.{IfOk, OnOk};
 ghost use Rattle.tangle_text.specs.Bytes as byte;
-ghost use Rattle.tangle_text.specs.Text.{byte_at, line_at};
+ghost use Rattle.tangle_text.specs.Text.{byte_at, front_line};
 ghost use Rattle.tangle_text.specs.Regions.{region_end};
 ghost use Rattle.tangle_lexer.specs.Occurrences.{occurrence_of};
 ghost use Rattle.tangle_text.specs.declared.regions.Region.TheVariants as region;
@@ -11,27 +11,20 @@ ghost use Rattle.tangle_lexer.specs.declared.tokens.Token.TheVariants as token;
 ghost use Rattle.tangle_lexer.specs.Lexemes.{fault_if, in_mode};
 ghost use Rattle.tangle_lexer.specs.declared.modes.Mode.TheVariants as mode;
 ghost use Rattle.tangle_lexer.specs.declared.occurrences.OccurrenceRole.TheVariants as role;
-ghost use Rattle.tangle_lexer.specs.Reads.{PassesHead, ReadsLexeme};
+ghost use Rattle.tangle_lexer.specs.Reads.{PassesEquals, ReadsLexeme};
 ghost use Rattle.tangle_lexer.specs.Names as spec;
 ghost use Rattle.tangle_text.specs.NameBytes as name_bytes;
 
 use crate::comments::pass_end_code;
-use crate::modes::{Mode, ScanState};
+use crate::modes::{LexerState, Mode};
 use crate::occurrences::{Occurrence, OccurrenceRole};
-use crate::tokens::Token;
+use crate::tokens::{LexerBuffers, Token};
 use bstr::ByteSlice;
 use std::alloc::{AllocError, Global};
 use tangle_lines::{FaultKind, Source};
 use tangle_text::{Front, Reader, Region, Unit, holds, is_white, unit_of};
 
-/// What was read: the tokens, and the occurrences of names.
-#[derive(Drop)]
-pub struct LexerOutput {
-    pub tokens: Vec<Token>,
-    pub occurrences: Vec<Occurrence>,
-}
-
-/// What is where the head of a definition may end.
+/// The equals sign of a definition.
 #[derive(Clone, Copy)]
 pub enum Equals {
     Absent,
@@ -49,12 +42,12 @@ struct Name {
     /// The line of its first byte.
     line: u32,
     /// The line on which it ends.
-    end: u32,
+    end_line: u32,
     /// `@>` ends it.
     is_ended: bool,
 }
 
-/// Adds a byte to a name in normal form, and answers whether white space is at its end.
+/// Adds a byte to a name in normal form, and returns whether white space was read last.
 fn push_byte(name: &mut Vec<u8>, white: bool, byte: u8) -> Result<bool, AllocError>
     ensures { IfOk result (λ after. (bytes : List ℕ) →
         name.new.items ++ spec.with_single_spaces (spec.has_begun name.new.items) after bytes
@@ -82,7 +75,12 @@ fn name_byte(byte: Option<u8>) -> u8
 }
 
 /// Adds a unit to a name.
-fn push_unit(name: &mut Vec<u8>, white: bool, unit: Unit, front: Front) -> Result<bool, AllocError>
+fn push_name_unit(
+    name: &mut Vec<u8>,
+    white: bool,
+    unit: Unit,
+    front: Front,
+) -> Result<bool, AllocError>
     ensures { IfOk result (λ after. (bytes : List ℕ) →
         name.new.items ++ spec.with_single_spaces (spec.has_begun name.new.items) after bytes
         ≡ name.old.items ++ spec.with_single_spaces (spec.has_begun name.old.items) white
@@ -116,53 +114,54 @@ fn push_bytes(name: &mut Vec<u8>, white: bool, bytes: &[u8]) -> Result<bool, All
 }
 
 /// Capacity for the text of most names: it grows for longer ones.
-const NAME_ROOM: usize = 32;
+const NAME_CAPACITY: usize = 32;
 
 /// Reads the text of a name up to its end.
 fn read_text(alloc: Global, ahead: &mut Reader) -> Result<Vec<u8>, AllocError>
     ensures text { IfOk result (λ name. name.items ≡ spec.name_text ahead.old) }
     ensures ahead { OnOk result (ahead.new ≡ region_end region.Name ahead.old) }
 {
-    let mut name = Vec::with_capacity(alloc, NAME_ROOM)?;
+    let mut name = Vec::with_capacity(alloc, NAME_CAPACITY)?;
     let mut white = false;
     while let Some(front) = ahead.front() {
         let unit = unit_of(Region::Name, front.byte, front.next);
         if let Unit::Stop = unit {
             return Ok(name);
         }
-        white = push_unit(&mut name, white, unit, front)?;
+        white = push_name_unit(&mut name, white, unit, front)?;
         ahead.pass(unit);
         white = push_bytes(&mut name, white, ahead.take_name_bytes())?;
     }
     Ok(name)
 }
 
-/// Reads a name from its opening on, and goes on behind it.
+/// Reads a name from its opening on, and goes on after it.
 fn read_name(alloc: Global, ahead: &mut Reader, last: u32) -> Result<Name, AllocError>
     ensures text { IfOk result (λ name. name.text.items ≡ spec.name_text (drop 2 ahead.old)) }
     ensures is_file { IfOk result
         (λ name. name.is_file ≡ byte.holds byte.left_parenthesis (byte_at 1 ahead.old)) }
-    ensures line { IfOk result (λ name. name.line ≡ line_at last ahead.old) }
-    ensures end { IfOk result (λ name. name.end ≡ line_at last (spec.name_end ahead.old)) }
+    ensures line { IfOk result (λ name. name.line ≡ front_line last ahead.old) }
+    ensures end_line { IfOk result
+        (λ name. name.end_line ≡ front_line last (spec.name_end ahead.old)) }
     ensures is_ended { IfOk result (λ name. name.is_ended ≡ spec.is_ended ahead.old) }
-    ensures ahead { OnOk result (ahead.new ≡ spec.behind_name ahead.old) }
+    ensures ahead { OnOk result (ahead.new ≡ spec.after_name ahead.old) }
 {
     let line = ahead.line(last);
     let is_file = opens_file(ahead);
     ahead.pass(Unit::Two);
     let text = read_text(alloc, ahead)?;
-    let end = ahead.line(last);
+    let end_line = ahead.line(last);
     let is_ended = pass_end_code(ahead);
     Ok(Name {
         text,
         is_file,
         line,
-        end,
+        end_line,
         is_ended,
     })
 }
 
-/// The name that opens here is opened by `@(`.
+/// Whether the name that begins here is opened by `@(`.
 fn opens_file(ahead: &Reader) -> bool
     ensures { result ≡ byte.holds byte.left_parenthesis (byte_at 1 ahead.now) }
 {
@@ -172,21 +171,21 @@ fn opens_file(ahead: &Reader) -> bool
     }
 }
 
-/// A name that ends in three dots is an abbreviation.
-fn is_abbreviation(text: &[u8]) -> bool
-    ensures { result ≡ spec.is_abbreviation text.now }
+/// Whether a name is an abbreviation: it ends in three dots.
+fn is_abbreviation(name: &[u8]) -> bool
+    ensures { result ≡ spec.is_abbreviation name.now }
 {
-    text.ends_with_str(b"...")
+    name.ends_with_str(b"...")
 }
 
-/// Adds the occurrence of a name, and answers what is known behind it.
-fn push_name(
+/// Adds the occurrence of a name, and returns the state after it.
+fn push_occurrence(
     source: &Source,
     occurrences: &mut Vec<Occurrence>,
     name: Name,
     role: OccurrenceRole,
-    state: ScanState,
-) -> Result<ScanState, AllocError>
+    state: LexerState,
+) -> Result<LexerState, AllocError>
     requires { state.occurrences ≡ length occurrences.old.items }
     ensures occurrences { OnOk result (occurrences.new.items ≡ occurrences.old.items
         ++ occurrence_of source.now.lines (spec.in_role role name) ∷ []) }
@@ -196,13 +195,14 @@ fn push_name(
     let is_abbreviation = is_abbreviation(&name.text);
     let origin = source.origin(name.line as usize);
     occurrences.push(Occurrence::new(name.text, is_abbreviation, name.is_file, role, origin))?;
-    Ok(ScanState {
+    Ok(LexerState {
         occurrences: occurrences.len(),
         ..state
     })
 }
 
-/// Goes on to where the equals sign of a head may be: over white space, `+` and white space.
+/// Goes on to where the equals sign of a definition may be: over white space, `+` and white
+/// space.
 fn skip_to_equals(ahead: &mut Reader)
     ensures { ahead.new ≡ drop (spec.count_before_equals ahead.old) ahead.old }
 {
@@ -213,7 +213,7 @@ fn skip_to_equals(ahead: &mut Reader)
     }
 }
 
-/// What is here of an equals sign.
+/// Which equals sign is here.
 fn equals_at(ahead: &Reader) -> Equals
     ensures { result ≡ spec.equals_by (byte_at 0 ahead.now) (byte_at 1 ahead.now) }
 {
@@ -229,7 +229,7 @@ fn equals_at(ahead: &Reader) -> Equals
     }
 }
 
-/// Whether `=` alone is where the head of a definition would end.
+/// Whether `=` alone is where the equals sign of a definition would be.
 fn has_single_equals(ahead: &Reader) -> bool
     ensures { result ≡ spec.has_single_equals ahead.now }
 {
@@ -242,10 +242,10 @@ fn has_single_equals(ahead: &Reader) -> bool
 #[inline(always)]
 fn push_end_fault(tokens: &mut Vec<Token>, name: &Name) -> Result<(), AllocError>
     ensures { OnOk result (tokens.new.items ≡ tokens.old.items
-        ++ fault_if (not name.now.is_ended) fault.NameEnd name.now.end) }
+        ++ fault_if (not name.now.is_ended) fault.NameEnd name.now.end_line) }
 {
     if !name.is_ended {
-        tokens.push(Token::Fault(FaultKind::NameEnd, name.end))?;
+        tokens.push(Token::Fault(FaultKind::NameEnd, name.end_line))?;
     }
     Ok(())
 }
@@ -257,11 +257,12 @@ fn push_use(
     number: usize,
     has_single_equals: bool,
 ) -> Result<(), AllocError>
-    ensures { OnOk result (tokens.new.items ≡ tokens.old.items ++ token.UseOf number name.now.end
-        ∷ fault_if (not name.now.is_ended) fault.NameEnd name.now.end
+    ensures { OnOk result (tokens.new.items ≡ tokens.old.items
+        ++ token.UseOf number name.now.end_line
+        ∷ fault_if (not name.now.is_ended) fault.NameEnd name.now.end_line
         ++ fault_if has_single_equals fault.NameEquals name.now.line) }
 {
-    tokens.push(Token::UseOf(number, name.end))?;
+    tokens.push(Token::UseOf(number, name.end_line))?;
     push_end_fault(tokens, name)?;
     if has_single_equals {
         tokens.push(Token::Fault(FaultKind::NameEquals, name.line))?;
@@ -272,21 +273,21 @@ fn push_use(
 /// Reads a use.
 pub fn use_of_name(
     source: &Source,
-    output: &mut LexerOutput,
+    buffers: &mut LexerBuffers,
     ahead: &mut Reader,
-    state: ScanState,
-) -> Result<ScanState, AllocError>
-    requires { state.occurrences ≡ length output.old.occurrences.items }
-    ensures { IfOk result (λ after. ReadsLexeme source.now.lines output.old output.new
+    state: LexerState,
+) -> Result<LexerState, AllocError>
+    requires { state.occurrences ≡ length buffers.old.occurrences.items }
+    ensures { IfOk result (λ after. ReadsLexeme source.now.lines buffers.old buffers.new
         ahead.old ahead.new after (spec.use_of_name state ahead.old)) }
 {
     let number = state.occurrences;
-    let name = read_name(*output.occurrences.allocator(), ahead, state.last)?;
+    let name = read_name(*buffers.occurrences.allocator(), ahead, state.last_line)?;
     let equals = has_single_equals(ahead);
-    push_use(&mut output.tokens, &name, number, equals)?;
-    let after = push_name(
+    push_use(&mut buffers.tokens, &name, number, equals)?;
+    let after = push_occurrence(
         source,
-        &mut output.occurrences,
+        &mut buffers.occurrences,
         name,
         OccurrenceRole::Use,
         state.elsewhere(),
@@ -294,9 +295,10 @@ pub fn use_of_name(
     Ok(after)
 }
 
-/// Goes on behind the head of a definition, if one is here, and answers the line on which it ends.
-fn pass_head(ahead: &mut Reader, last: u32) -> Option<u32>
-    ensures { PassesHead (spec.equals_in ahead.old) (spec.count_before_equals ahead.old) last
+/// Goes on after the equals sign of a definition, if one is here, and returns the line on which it
+/// ends.
+fn pass_equals(ahead: &mut Reader, last: u32) -> Option<u32>
+    ensures { PassesEquals (spec.equals_in ahead.old) (spec.count_before_equals ahead.old) last
         ahead.old ahead.new result }
 {
     let mut further = ahead.copy();
@@ -320,24 +322,24 @@ fn pass_head(ahead: &mut Reader, last: u32) -> Option<u32>
 }
 
 /// Adds a mention, and its fault.
-fn mention(
+fn push_mention(
     source: &Source,
-    output: &mut LexerOutput,
+    buffers: &mut LexerBuffers,
     name: Name,
-    state: ScanState,
-) -> Result<ScanState, AllocError>
-    requires { state.occurrences ≡ length output.old.occurrences.items }
-    ensures tokens { OnOk result (output.new.tokens.items
-        ≡ output.old.tokens.items ++ fault_if (not name.is_ended) fault.NameEnd name.end) }
-    ensures occurrences { OnOk result (output.new.occurrences.items ≡ output.old.occurrences.items
+    state: LexerState,
+) -> Result<LexerState, AllocError>
+    requires { state.occurrences ≡ length buffers.old.occurrences.items }
+    ensures tokens { OnOk result (buffers.new.tokens.items
+        ≡ buffers.old.tokens.items ++ fault_if (not name.is_ended) fault.NameEnd name.end_line) }
+    ensures occurrences { OnOk result (buffers.new.occurrences.items ≡ buffers.old.occurrences.items
         ++ occurrence_of source.now.lines (spec.in_role role.Mention name) ∷ []) }
     ensures state { IfOk result
         (λ after. after ≡ record state { occurrences = state.occurrences + 1 }) }
 {
-    push_end_fault(&mut output.tokens, &name)?;
-    let after = push_name(
+    push_end_fault(&mut buffers.tokens, &name)?;
+    let after = push_occurrence(
         source,
-        &mut output.occurrences,
+        &mut buffers.occurrences,
         name,
         OccurrenceRole::Mention,
         state,
@@ -345,29 +347,29 @@ fn mention(
     Ok(after)
 }
 
-/// Adds the head of a definition, which ends on this line.
-fn definition(
+/// Adds a definition, whose equals sign ends on this line.
+fn push_definition(
     source: &Source,
-    output: &mut LexerOutput,
+    buffers: &mut LexerBuffers,
     name: Name,
     line: u32,
-    state: ScanState,
-) -> Result<ScanState, AllocError>
-    requires { state.occurrences ≡ length output.old.occurrences.items }
-    ensures tokens { OnOk result (output.new.tokens.items
-        ≡ output.old.tokens.items ++ token.NamedPart state.occurrences line ∷ []) }
-    ensures occurrences { OnOk result (output.new.occurrences.items ≡ output.old.occurrences.items
+    state: LexerState,
+) -> Result<LexerState, AllocError>
+    requires { state.occurrences ≡ length buffers.old.occurrences.items }
+    ensures tokens { OnOk result (buffers.new.tokens.items
+        ≡ buffers.old.tokens.items ++ token.NamedPart state.occurrences line ∷ []) }
+    ensures occurrences { OnOk result (buffers.new.occurrences.items ≡ buffers.old.occurrences.items
         ++ occurrence_of source.now.lines (spec.in_role role.Definition name) ∷ []) }
     ensures state { IfOk result
         (λ after. after ≡ record (in_mode mode.CPart state)
         { occurrences = state.occurrences + 1 }) }
 {
-    output
+    buffers
         .tokens
         .push(Token::NamedPart(state.occurrences, line))?;
-    let after = push_name(
+    let after = push_occurrence(
         source,
-        &mut output.occurrences,
+        &mut buffers.occurrences,
         name,
         OccurrenceRole::Definition,
         state.in_mode(Mode::CPart),
@@ -375,26 +377,26 @@ fn definition(
     Ok(after)
 }
 
-/// Reads a mention, or the head of a definition.
+/// Reads a mention, or a definition up to its equals sign.
 pub fn name_in_documentation(
     source: &Source,
-    output: &mut LexerOutput,
+    buffers: &mut LexerBuffers,
     ahead: &mut Reader,
-    state: ScanState,
-) -> Result<ScanState, AllocError>
-    requires { state.occurrences ≡ length output.old.occurrences.items }
-    ensures { IfOk result (λ after. ReadsLexeme source.now.lines output.old output.new
+    state: LexerState,
+) -> Result<LexerState, AllocError>
+    requires { state.occurrences ≡ length buffers.old.occurrences.items }
+    ensures { IfOk result (λ after. ReadsLexeme source.now.lines buffers.old buffers.new
         ahead.old ahead.new after (spec.name_in_documentation state ahead.old)) }
 {
-    let name = read_name(*output.occurrences.allocator(), ahead, state.last)?;
+    let name = read_name(*buffers.occurrences.allocator(), ahead, state.last_line)?;
     if !name.is_ended {
-        let after = mention(source, output, name, state)?;
+        let after = push_mention(source, buffers, name, state)?;
         return Ok(after);
     }
-    let Some(line) = pass_head(ahead, state.last) else {
-        let after = mention(source, output, name, state)?;
+    let Some(line) = pass_equals(ahead, state.last_line) else {
+        let after = push_mention(source, buffers, name, state)?;
         return Ok(after);
     };
-    let after = definition(source, output, name, line, state)?;
+    let after = push_definition(source, buffers, name, line, state)?;
     Ok(after)
 }

@@ -1,30 +1,31 @@
 //! Quoted and verbatim texts.
 ghost use Rattle.std.specs.Prelude.{true, ◌≡◌, ◌≤◌, ◌++◌, ℕ, List, IfOk, OnOk, ◌∷◌, drop};
+ghost use Rattle.tangle_files.specs.Adding.{longest_line};
 ghost use Rattle.tangle_text.specs.Ahead.{IsFront};
 ghost use Rattle.tangle_lexer.specs.Reads.{IsRead};
-ghost use Rattle.tangle_text.specs.Text.{Cell, byte_at, line_at, front_cell, span_at};
-ghost use Rattle.tangle_text.specs.Regions.{is_text, region_end};
+ghost use Rattle.tangle_text.specs.Text.{Cell, byte_at, front_line, front_cell, span_at};
+ghost use Rattle.tangle_text.specs.Regions.{skips_ordinary, region_end};
 ghost use Rattle.tangle_lexer.specs.declared.tokens.Token.{Token as TokenRead};
 ghost use Rattle.tangle_text.specs.declared.regions.Region.TheVariants as region;
-ghost use Rattle.tangle_lexer.specs.declared.tokens.TextKind.TheVariants as text_kind;
+ghost use Rattle.tangle_lexer.specs.declared.tokens.SpanKind.TheVariants as span_kind;
 ghost use Rattle.tangle_lexer.specs.declared.tokens.Token.TheVariants as token;
 ghost use Rattle.tangle_text.specs.Bytes as byte;
 ghost use Rattle.tangle_lexer.specs.Quoted as spec;
 
 use crate::comments::has_end_code;
-use crate::modes::{IncludeState, ScanState};
-use crate::tokens::{TextKind, Token};
+use crate::modes::{IncludeState, LexerState};
+use crate::tokens::{SpanKind, Token};
 use std::alloc::AllocError;
 use tangle_lines::FaultKind;
 use tangle_text::{Front, Reader, Region, Span, Unit, holds, unit_of};
 
-/// What kind of text a region is.
-fn kind_in(region: Region) -> TextKind
+/// What a range of a region is.
+fn kind_in(region: Region) -> SpanKind
     ensures { result ≡ spec.kind_in region }
 {
     match region {
-        Region::Verbatim => TextKind::Verbatim,
-        _ => TextKind::Quoted,
+        Region::Verbatim => SpanKind::Verbatim,
+        _ => SpanKind::Quoted,
     }
 }
 
@@ -36,7 +37,7 @@ fn push_range(
     start: usize,
     end: usize,
 ) -> Result<(), AllocError>
-    requires { end ≤ 65535 }
+    requires { end ≤ longest_line }
     ensures { OnOk result (tokens.new.items ≡ tokens.old.items
         ++ spec.cut_range region line start end) }
 {
@@ -46,14 +47,13 @@ fn push_range(
             start: start as u16,
             end: end as u16,
         };
-        tokens.push(Token::Text(kind_in(region), span))?;
+        tokens.push(Token::Span(kind_in(region), span))?;
     }
     Ok(())
 }
 
-/// Adds what a unit gives that is not the end of its region, and answers where the next range
-/// starts.
-fn push_unit(
+/// Adds the tokens of a unit inside a region, and returns where the next range starts.
+fn push_quoted_unit(
     tokens: &mut Vec<Token>,
     ahead: &Reader,
     region: Region,
@@ -63,7 +63,7 @@ fn push_unit(
     line: u32,
 ) -> Result<usize, AllocError>
     requires { IsFront ahead.now front }
-    ensures tokens { (last : ℕ) → line ≡ line_at last ahead.now
+    ensures tokens { (last : ℕ) → line ≡ front_line last ahead.now
         → OnOk result (tokens.new.items ≡ tokens.old.items
         ++ spec.unit_tokens region unit start (front_cell last ahead.now) (byte_at 1 ahead.now)) }
     ensures start { (last : ℕ) → IfOk result (λ next. next
@@ -71,12 +71,12 @@ fn push_unit(
 {
     let is_two = matches!(unit, Unit::Two);
     if is_two && holds(b'@', front.byte) {
-        let end = ahead.column_behind();
+        let end = ahead.column_after();
         push_range(tokens, region, line, start, end)?;
         return Ok(end + 1);
     }
     if is_two && holds(b'\\', front.byte) && front.next.is_none() {
-        push_range(tokens, region, line, start, ahead.column_behind())?;
+        push_range(tokens, region, line, start, ahead.column_after())?;
         tokens.push(Token::QuoteBreak)?;
         return Ok(0);
     }
@@ -86,7 +86,7 @@ fn push_unit(
     Ok(start)
 }
 
-/// Cuts a text up to the end of its region, and answers where its last range starts.
+/// Cuts a text up to the end of its region, and returns where its last range starts.
 fn cut(
     tokens: &mut Vec<Token>,
     ahead: &mut Reader,
@@ -94,7 +94,7 @@ fn cut(
     first: usize,
     last: u32,
 ) -> Result<usize, AllocError>
-    requires { is_text region ≡ true }
+    requires { skips_ordinary region ≡ true }
     ensures ahead { OnOk result (ahead.new ≡ region_end region ahead.old) }
     ensures tokens { IfOk result (λ start. (ends : ℕ → List Cell → List TokenRead) →
         tokens.new.items ++ ends start ahead.new
@@ -106,7 +106,7 @@ fn cut(
         if let Unit::Stop = unit {
             return Ok(start);
         }
-        start = push_unit(tokens, ahead, region, unit, start, front, ahead.line(last))?;
+        start = push_quoted_unit(tokens, ahead, region, unit, start, front, ahead.line(last))?;
         ahead.pass(unit);
         ahead.skip_ordinary();
     }
@@ -133,7 +133,7 @@ fn end_quote(
     };
     let line = ahead.line(last);
     if holds(close, front.byte) {
-        push_range(tokens, region, line, start, ahead.column_behind())?;
+        push_range(tokens, region, line, start, ahead.column_after())?;
         ahead.advance();
         return Ok(());
     }
@@ -148,17 +148,17 @@ pub fn quoted_text(
     ahead: &mut Reader,
     region: Region,
     close: u8,
-    state: ScanState,
-) -> Result<ScanState, AllocError>
-    requires { is_text region ≡ true }
+    state: LexerState,
+) -> Result<LexerState, AllocError>
+    requires { skips_ordinary region ≡ true }
     ensures { IfOk result (λ after. IsRead tokens.old.items tokens.new.items ahead.old ahead.new
         after (spec.quoted_text region close state ahead.old)) }
 {
     let opening = ahead.column();
     ahead.advance();
-    let start = cut(tokens, ahead, region, opening, state.last)?;
-    end_quote(tokens, ahead, region, close, start, state.last)?;
-    Ok(ScanState {
+    let start = cut(tokens, ahead, region, opening, state.last_line)?;
+    end_quote(tokens, ahead, region, close, start, state.last_line)?;
+    Ok(LexerState {
         include: IncludeState::Elsewhere,
         ..state
     })
@@ -198,7 +198,7 @@ fn ends_at_once(ahead: &Reader, region: Region) -> bool
 /// Adds an empty verbatim text.
 fn push_empty(tokens: &mut Vec<Token>, ahead: &Reader) -> Result<(), AllocError>
     ensures { OnOk result (tokens.new.items
-        ≡ tokens.old.items ++ token.Text text_kind.Verbatim (span_at 0 ahead.now)
+        ≡ tokens.old.items ++ token.Span span_kind.Verbatim (span_at 0 ahead.now)
         ∷ spec.empty_end ahead.now) }
 {
     let line = ahead.line(0);
@@ -208,7 +208,7 @@ fn push_empty(tokens: &mut Vec<Token>, ahead: &Reader) -> Result<(), AllocError>
         start: column,
         end: column,
     };
-    tokens.push(Token::Text(TextKind::Verbatim, span))?;
+    tokens.push(Token::Span(SpanKind::Verbatim, span))?;
     if let Some(front) = ahead.front() {
         if front.byte.is_none() {
             tokens.push(Token::Fault(FaultKind::VerbatimEnd, line))?;
@@ -217,7 +217,7 @@ fn push_empty(tokens: &mut Vec<Token>, ahead: &Reader) -> Result<(), AllocError>
     Ok(())
 }
 
-/// Adds a verbatim text, from behind its control code on.
+/// Adds a verbatim text, from after its control code on.
 fn push_verbatim(tokens: &mut Vec<Token>, ahead: &mut Reader, last: u32) -> Result<(), AllocError>
     ensures tokens { OnOk result
         (tokens.new.items ≡ tokens.old.items ++ spec.verbatim_tokens ahead.old) }
@@ -236,17 +236,17 @@ fn push_verbatim(tokens: &mut Vec<Token>, ahead: &mut Reader, last: u32) -> Resu
 pub fn verbatim_text(
     tokens: &mut Vec<Token>,
     ahead: &mut Reader,
-    state: ScanState,
-) -> Result<ScanState, AllocError>
+    state: LexerState,
+) -> Result<LexerState, AllocError>
     ensures { IfOk result (λ after. IsRead tokens.old.items tokens.new.items ahead.old ahead.new
         after (spec.verbatim_text state ahead.old)) }
 {
     ahead.pass(Unit::Two);
-    push_verbatim(tokens, ahead, state.last)?;
+    push_verbatim(tokens, ahead, state.last_line)?;
     if has_end_code(ahead) {
         ahead.pass(Unit::Two);
     }
-    Ok(ScanState {
+    Ok(LexerState {
         include: IncludeState::Elsewhere,
         ..state
     })

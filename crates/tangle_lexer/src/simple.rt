@@ -1,13 +1,12 @@
 //! Runs of words, white space, signs and line ends, which are most of C text.
-ghost use Rattle.std.specs.Prelude.{◌≡◌, ◌≤◌, ◌++◌, false, length, IfOk, IfSome, OnOk};
-ghost use Rattle.std.specs.List.{list_any};
+ghost use Rattle.std.specs.Prelude.{◌≡◌, ◌≤◌, ◌++◌, length, IfOk, IfSome, OnOk};
 ghost use Rattle.tangle_lexer.specs.Reads.{IsRead};
 ghost use Rattle.tangle_lexer.specs.Simple.{IsSimple, simple_kind};
 ghost use Rattle.tangle_lexer.specs.Simple as spec;
 ghost use Rattle.tangle_lexer.specs.Steps.{c_lexeme, tokens_from, occurrences_from};
-ghost use Rattle.tangle_lexer.specs.Heads.{is_head};
+ghost use Rattle.tangle_lexer.specs.Heads.{HasNoHead};
 
-use crate::modes::{Mode, ScanState};
+use crate::modes::{LexerState, Mode};
 use crate::steps::{line_end, sign, white_space, word};
 use crate::tokens::Token;
 use std::alloc::AllocError;
@@ -15,7 +14,7 @@ use tangle_text::{Reader, Unit, is_white, is_word_byte};
 
 /// What is in most positions of C text.
 #[derive(Clone, Copy)]
-pub enum Simple {
+pub enum SimpleLexeme {
     Word,
     White,
     Sign,
@@ -55,15 +54,15 @@ fn is_sign_byte(byte: u8) -> bool
 
 /// What this byte is, if it opens nothing longer.
 #[inline(always)]
-fn simple_of(byte: u8) -> Option<Simple>
+fn simple_of(byte: u8) -> Option<SimpleLexeme>
     ensures { result ≡ spec.simple_of byte }
 {
     if is_word_byte(byte) {
-        Some(Simple::Word)
+        Some(SimpleLexeme::Word)
     } else if is_sign_byte(byte) {
-        Some(Simple::Sign)
+        Some(SimpleLexeme::Sign)
     } else if is_white(byte) {
-        Some(Simple::White)
+        Some(SimpleLexeme::White)
     } else {
         None
     }
@@ -71,56 +70,56 @@ fn simple_of(byte: u8) -> Option<Simple>
 
 /// What is here, if it opens nothing longer.
 #[inline(always)]
-fn simple_at(ahead: &Reader) -> Option<Simple>
+fn simple_at(ahead: &Reader) -> Option<SimpleLexeme>
     ensures { IfSome result (λ simple. IsSimple ahead.now simple) }
 {
     match ahead.byte() {
         Some(byte) => simple_of(byte),
         None if ahead.is_at_end() => None,
-        None => Some(Simple::LineEnd),
+        None => Some(SimpleLexeme::LineEnd),
     }
 }
 
-/// Reads what is here.
+/// Reads a word, white space, a sign or a line end.
 #[inline(always)]
 fn simple_step(
     tokens: &mut Vec<Token>,
     ahead: &mut Reader,
-    state: ScanState,
-    simple: Simple,
-) -> Result<ScanState, AllocError>
+    state: LexerState,
+    simple: SimpleLexeme,
+) -> Result<LexerState, AllocError>
     requires { IsSimple ahead.old simple }
     ensures { IfOk result (λ after. IsRead tokens.old.items tokens.new.items ahead.old ahead.new
         after (c_lexeme (simple_kind simple) state ahead.old)) }
 {
     match simple {
-        Simple::Word => word(tokens, ahead, state),
-        Simple::White => white_space(tokens, ahead, state),
-        Simple::LineEnd => line_end(tokens, ahead, state),
-        Simple::Sign => {
+        SimpleLexeme::Word => word(tokens, ahead, state),
+        SimpleLexeme::White => white_space(tokens, ahead, state),
+        SimpleLexeme::LineEnd => line_end(tokens, ahead, state),
+        SimpleLexeme::Sign => {
             let after = state.after_sign(ahead.byte());
             sign(tokens, ahead, Unit::One, after)
         }
     }
 }
 
-/// C text, also of a macro.
+/// Whether C text is read in this mode.
 fn is_c_text(mode: Mode) -> bool
     ensures { result ≡ spec.is_c_text mode }
 {
     matches!(mode, Mode::CPart | Mode::Macro)
 }
 
-/// In C text, reads on up to what may be longer; in other text, reads nothing.
+/// In C text, reads words, white space, signs and line ends, up to a byte that may open something
+/// longer; in other text, nothing.
 pub fn read_simple(
     tokens: &mut Vec<Token>,
     ahead: &mut Reader,
-    from: ScanState,
-) -> Result<ScanState, AllocError>
+    from: LexerState,
+) -> Result<LexerState, AllocError>
     ensures tokens { IfOk result (λ after. tokens.new.items ++ tokens_from after ahead.new
         ≡ tokens.old.items ++ tokens_from from ahead.old) }
-    ensures no_head { list_any is_head tokens.old.items ≡ false →
-        OnOk result (list_any is_head tokens.new.items ≡ false) }
+    ensures no_head { HasNoHead tokens.old.items → OnOk result (HasNoHead tokens.new.items) }
     ensures occurrences { IfOk result
         (λ after. occurrences_from after ahead.new ≡ occurrences_from from ahead.old) }
     ensures count { IfOk result (λ after. after.occurrences ≡ from.occurrences) }

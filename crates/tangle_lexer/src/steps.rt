@@ -2,23 +2,23 @@
 ghost use Rattle.std.specs.Prelude.{◌≡◌, ◌≢◌, [], ◌∷◌, length, drop, IfOk, IsSome, None};
 ghost use Rattle.tangle_text.specs.Ahead.{IsFront};
 ghost use Rattle.tangle_lexer.specs.Reads.{IsRead, ReadsLexeme};
-ghost use Rattle.tangle_text.specs.Text.{byte_at, line_at, span_at};
+ghost use Rattle.tangle_text.specs.Text.{byte_at, span_at};
 ghost use Rattle.tangle_text.specs.Regions.{count_before, more_by};
 ghost use Rattle.tangle_text.specs.declared.regions.Region.TheVariants as region;
-ghost use Rattle.tangle_lexer.specs.Lexemes.{in_mode, lexeme_of, white_lexeme};
-ghost use Rattle.tangle_lexer.specs.declared.tokens.TextKind.TheVariants as text_kind;
+ghost use Rattle.tangle_lexer.specs.Lexemes.{in_mode, lexeme_of};
+ghost use Rattle.tangle_lexer.specs.declared.tokens.SpanKind.TheVariants as span_kind;
 ghost use Rattle.tangle_lexer.specs.declared.tokens.Token.TheVariants as token;
-ghost use Rattle.tangle_lexer.specs.declared.token_kinds.ControlCode.TheVariants as control_code;
-ghost use Rattle.tangle_lexer.specs.declared.token_kinds.TokenKind.TheVariants as token_kinds;
+ghost use Rattle.tangle_lexer.specs.declared.lexeme_kinds.ControlCode.TheVariants as control_code;
+ghost use Rattle.tangle_lexer.specs.declared.lexeme_kinds.LexemeKind.TheVariants as lexeme_kinds;
 ghost use Rattle.tangle_lexer.specs.Steps as spec;
 
 use crate::comments::{block_comment, control_text, line_comment};
 use crate::constants::ascii_constant;
-use crate::modes::{IncludeState, Mode, ScanState};
-use crate::names::{LexerOutput, name_in_documentation, use_of_name};
+use crate::lexeme_kinds::{ControlCode, LexemeKind, code_at, kind_by};
+use crate::modes::{IncludeState, LexerState, Mode};
+use crate::names::{name_in_documentation, use_of_name};
 use crate::quoted::{quoted_text, verbatim_text};
-use crate::token_kinds::{ControlCode, TokenKind, code_at, kind_by};
-use crate::tokens::{TextKind, Token};
+use crate::tokens::{LexerBuffers, SpanKind, Token};
 use std::alloc::AllocError;
 use tangle_lines::{FaultKind, Source};
 use tangle_text::{Front, Reader, Region, Unit, holds, is_section_start};
@@ -27,8 +27,8 @@ use tangle_text::{Front, Reader, Region, Unit, holds, is_section_start};
 fn section_start(
     tokens: &mut Vec<Token>,
     ahead: &mut Reader,
-    state: ScanState,
-) -> Result<ScanState, AllocError>
+    state: LexerState,
+) -> Result<LexerState, AllocError>
     ensures { IfOk result (λ after. IsRead tokens.old.items tokens.new.items ahead.old ahead.new
         after (spec.section_start state)) }
 {
@@ -49,9 +49,9 @@ fn prose(ahead: &mut Reader)
 fn limbo(
     tokens: &mut Vec<Token>,
     ahead: &mut Reader,
-    state: ScanState,
+    state: LexerState,
     front: Front,
-) -> Result<ScanState, AllocError>
+) -> Result<LexerState, AllocError>
     requires { IsFront ahead.old front }
     ensures { IfOk result (λ after. IsRead tokens.old.items tokens.new.items ahead.old ahead.new
         after (spec.limbo_lexeme state ahead.old)) }
@@ -71,10 +71,10 @@ fn limbo(
 fn start_block(
     tokens: &mut Vec<Token>,
     ahead: &mut Reader,
-    state: ScanState,
+    state: LexerState,
     head: Token,
     mode: Mode,
-) -> Result<ScanState, AllocError>
+) -> Result<LexerState, AllocError>
     ensures { IfOk result (λ after. IsRead tokens.old.items tokens.new.items ahead.old ahead.new
         after (lexeme_of (head ∷ []) 1 (in_mode mode state))) }
 {
@@ -86,17 +86,17 @@ fn start_block(
 /// Reads a control code of documentation.
 fn documentation_code(
     source: &Source,
-    output: &mut LexerOutput,
+    buffers: &mut LexerBuffers,
     ahead: &mut Reader,
-    state: ScanState,
+    state: LexerState,
     code: ControlCode,
-) -> Result<ScanState, AllocError>
-    requires { state.occurrences ≡ length output.old.occurrences.items }
-    ensures { IfOk result (λ after. ReadsLexeme source.now.lines output.old output.new
+) -> Result<LexerState, AllocError>
+    requires { state.occurrences ≡ length buffers.old.occurrences.items }
+    ensures { IfOk result (λ after. ReadsLexeme source.now.lines buffers.old buffers.new
         ahead.old ahead.new after (spec.documentation_code code state ahead.old)) }
 {
-    let line = ahead.line(state.last);
-    let tokens = &mut output.tokens;
+    let line = ahead.line(state.last_line);
+    let tokens = &mut buffers.tokens;
     match code {
         ControlCode::SectionStart => section_start(tokens, ahead, state),
         ControlCode::Macro => {
@@ -105,7 +105,7 @@ fn documentation_code(
         ControlCode::UnnamedPart => {
             start_block(tokens, ahead, state, Token::UnnamedPart(line), Mode::CPart)
         }
-        ControlCode::Name => name_in_documentation(source, output, ahead, state),
+        ControlCode::Name => name_in_documentation(source, buffers, ahead, state),
         _ => {
             ahead.pass(Unit::Two);
             Ok(state)
@@ -119,14 +119,14 @@ pub fn sign(
     tokens: &mut Vec<Token>,
     ahead: &mut Reader,
     unit: Unit,
-    after: ScanState,
-) -> Result<ScanState, AllocError>
+    after: LexerState,
+) -> Result<LexerState, AllocError>
     requires { IsSome (byte_at 0 ahead.old) }
     ensures { IfOk result (λ state. IsRead tokens.old.items tokens.new.items ahead.old ahead.new
         state
-        (lexeme_of (token.Text text_kind.Sign (span_at 1 ahead.old) ∷ []) (more_by unit) after)) }
+        (lexeme_of (token.Span span_kind.Sign (span_at 1 ahead.old) ∷ []) (more_by unit) after)) }
 {
-    tokens.push(Token::Text(TextKind::Sign, ahead.sign_span()))?;
+    tokens.push(Token::Span(SpanKind::Sign, ahead.byte_span()))?;
     ahead.pass(unit);
     Ok(after)
 }
@@ -136,8 +136,8 @@ fn code_token(
     tokens: &mut Vec<Token>,
     ahead: &mut Reader,
     token: Token,
-    after: ScanState,
-) -> Result<ScanState, AllocError>
+    after: LexerState,
+) -> Result<LexerState, AllocError>
     ensures { IfOk result (λ state. IsRead tokens.old.items tokens.new.items ahead.old ahead.new
         state (lexeme_of (token ∷ []) 1 after)) }
 {
@@ -151,13 +151,13 @@ fn code_fault(
     tokens: &mut Vec<Token>,
     ahead: &mut Reader,
     kind: FaultKind,
-    state: ScanState,
-) -> Result<ScanState, AllocError>
+    state: LexerState,
+) -> Result<LexerState, AllocError>
     ensures { IfOk result (λ after. IsRead tokens.old.items tokens.new.items ahead.old ahead.new
-        after (white_lexeme [] (token.Fault kind (line_at state.last ahead.old) ∷ []) 1 state)) }
+        after (spec.code_fault kind state ahead.old)) }
 {
     tokens.push(Token::White)?;
-    tokens.push(Token::Fault(kind, ahead.line(state.last)))?;
+    tokens.push(Token::Fault(kind, ahead.line(state.last_line)))?;
     ahead.pass(Unit::Two);
     Ok(state)
 }
@@ -166,16 +166,16 @@ fn code_fault(
 fn c_code(
     tokens: &mut Vec<Token>,
     ahead: &mut Reader,
-    state: ScanState,
+    state: LexerState,
     code: ControlCode,
-) -> Result<ScanState, AllocError>
-    requires at { IsSome (byte_at 0 ahead.old) }
+) -> Result<LexerState, AllocError>
+    requires byte { IsSome (byte_at 0 ahead.old) }
     requires no_name { code ≢ control_code.Name }
     ensures read { IfOk result (λ after. IsRead tokens.old.items tokens.new.items
         ahead.old ahead.new after (spec.c_code code state ahead.old)) }
-    ensures no_name { (spec.c_code code state ahead.old).name ≡ None }
+    ensures no_occurrence { (spec.c_code code state ahead.old).occurrence ≡ None }
 {
-    let line = ahead.line(state.last);
+    let line = ahead.line(state.last_line);
     match code {
         ControlCode::SectionStart => section_start(tokens, ahead, state),
         ControlCode::DoubleAt => sign(tokens, ahead, Unit::Two, state.elsewhere()),
@@ -201,17 +201,17 @@ fn c_code(
 pub fn word(
     tokens: &mut Vec<Token>,
     ahead: &mut Reader,
-    state: ScanState,
-) -> Result<ScanState, AllocError>
+    state: LexerState,
+) -> Result<LexerState, AllocError>
     requires { IsSome (byte_at 0 ahead.old) }
     ensures { IfOk result (λ after. IsRead tokens.old.items tokens.new.items ahead.old ahead.new
         after (spec.word state ahead.old)) }
 {
     let after = match state.include {
-        IncludeState::AfterSign => state.after_word(ahead.begins_include()),
+        IncludeState::AfterNumberSign => state.after_word(ahead.begins_include()),
         _ => state.elsewhere(),
     };
-    tokens.push(Token::Text(TextKind::Word, ahead.take_word()))?;
+    tokens.push(Token::Span(SpanKind::Word, ahead.take_word()))?;
     Ok(after)
 }
 
@@ -220,8 +220,8 @@ pub fn word(
 pub fn white_space(
     tokens: &mut Vec<Token>,
     ahead: &mut Reader,
-    state: ScanState,
-) -> Result<ScanState, AllocError>
+    state: LexerState,
+) -> Result<LexerState, AllocError>
     requires { IsSome (byte_at 0 ahead.old) }
     ensures { IfOk result (λ after. IsRead tokens.old.items tokens.new.items ahead.old ahead.new
         after (spec.white_space state ahead.old)) }
@@ -236,12 +236,12 @@ pub fn white_space(
 pub fn line_end(
     tokens: &mut Vec<Token>,
     ahead: &mut Reader,
-    state: ScanState,
-) -> Result<ScanState, AllocError>
+    state: LexerState,
+) -> Result<LexerState, AllocError>
     ensures { IfOk result (λ after. IsRead tokens.old.items tokens.new.items ahead.old ahead.new
-        after (spec.c_lexeme token_kinds.LineEnd state ahead.old)) }
+        after (spec.c_lexeme lexeme_kinds.LineEnd state ahead.old)) }
 {
-    tokens.push(Token::LineEnd(ahead.line(state.last)))?;
+    tokens.push(Token::LineEnd(ahead.line(state.last_line)))?;
     ahead.advance();
     Ok(state.with_include(IncludeState::AtStart))
 }
@@ -250,66 +250,66 @@ pub fn line_end(
 #[inline(always)]
 fn c_text(
     source: &Source,
-    output: &mut LexerOutput,
+    buffers: &mut LexerBuffers,
     ahead: &mut Reader,
-    state: ScanState,
-    token_kind: TokenKind,
-) -> Result<ScanState, AllocError>
-    requires byte { (token_kind ≡ token_kinds.LineEnd → ⊥) → IsSome (byte_at 0 ahead.old) }
-    requires occurrences { state.occurrences ≡ length output.old.occurrences.items }
-    ensures { IfOk result (λ after. ReadsLexeme source.now.lines output.old output.new
-        ahead.old ahead.new after (spec.c_lexeme token_kind state ahead.old)) }
+    state: LexerState,
+    lexeme_kind: LexemeKind,
+) -> Result<LexerState, AllocError>
+    requires byte { (lexeme_kind ≡ lexeme_kinds.LineEnd → ⊥) → IsSome (byte_at 0 ahead.old) }
+    requires occurrences { state.occurrences ≡ length buffers.old.occurrences.items }
+    ensures { IfOk result (λ after. ReadsLexeme source.now.lines buffers.old buffers.new
+        ahead.old ahead.new after (spec.c_lexeme lexeme_kind state ahead.old)) }
 {
-    let tokens = &mut output.tokens;
-    match token_kind {
-        TokenKind::Control(code) => match code {
-            ControlCode::Name => use_of_name(source, output, ahead, state),
+    let tokens = &mut buffers.tokens;
+    match lexeme_kind {
+        LexemeKind::Control(code) => match code {
+            ControlCode::Name => use_of_name(source, buffers, ahead, state),
             _ => c_code(tokens, ahead, state, code),
         },
-        TokenKind::BlockComment => block_comment(tokens, ahead, state),
-        TokenKind::LineComment => line_comment(tokens, ahead, state),
-        TokenKind::DoubleQuote => quoted_text(tokens, ahead, Region::DoubleQuote, b'"', state),
-        TokenKind::Apostrophe => quoted_text(tokens, ahead, Region::Apostrophe, b'\'', state),
-        TokenKind::IncludeName => quoted_text(tokens, ahead, Region::IncludeName, b'>', state),
-        TokenKind::LineEnd => line_end(tokens, ahead, state),
-        TokenKind::White => white_space(tokens, ahead, state),
-        TokenKind::Word => word(tokens, ahead, state),
-        TokenKind::Other => {
+        LexemeKind::BlockComment => block_comment(tokens, ahead, state),
+        LexemeKind::LineComment => line_comment(tokens, ahead, state),
+        LexemeKind::DoubleQuote => quoted_text(tokens, ahead, Region::DoubleQuote, b'"', state),
+        LexemeKind::Apostrophe => quoted_text(tokens, ahead, Region::Apostrophe, b'\'', state),
+        LexemeKind::HeaderName => quoted_text(tokens, ahead, Region::HeaderName, b'>', state),
+        LexemeKind::LineEnd => line_end(tokens, ahead, state),
+        LexemeKind::White => white_space(tokens, ahead, state),
+        LexemeKind::Word => word(tokens, ahead, state),
+        LexemeKind::Other => {
             let after = state.after_sign(ahead.byte());
             sign(tokens, ahead, Unit::One, after)
         }
     }
 }
 
-/// Reads a macro, by the control code that is there.
+/// Reads a control code of a macro.
 fn macro_code(
     source: &Source,
-    output: &mut LexerOutput,
+    buffers: &mut LexerBuffers,
     ahead: &mut Reader,
-    state: ScanState,
+    state: LexerState,
     code: ControlCode,
-) -> Result<ScanState, AllocError>
-    requires at { IsSome (byte_at 0 ahead.old) }
-    requires occurrences { state.occurrences ≡ length output.old.occurrences.items }
-    ensures { IfOk result (λ after. ReadsLexeme source.now.lines output.old output.new
+) -> Result<LexerState, AllocError>
+    requires byte { IsSome (byte_at 0 ahead.old) }
+    requires occurrences { state.occurrences ≡ length buffers.old.occurrences.items }
+    ensures { IfOk result (λ after. ReadsLexeme source.now.lines buffers.old buffers.new
         ahead.old ahead.new after (spec.macro_code code state ahead.old)) }
 {
     match code {
         ControlCode::Macro | ControlCode::UnnamedPart => {
-            documentation_code(source, output, ahead, state, code)
+            documentation_code(source, buffers, ahead, state, code)
         }
         ControlCode::Name => {
             let state = state.in_mode(Mode::Documentation);
-            documentation_code(source, output, ahead, state, code)
+            documentation_code(source, buffers, ahead, state, code)
         }
         ControlCode::Format => {
             ahead.pass(Unit::Two);
             Ok(state.in_mode(Mode::Documentation))
         }
         ControlCode::AllMacros => {
-            code_fault(&mut output.tokens, ahead, FaultKind::MisplacedH, state)
+            code_fault(&mut buffers.tokens, ahead, FaultKind::MisplacedH, state)
         }
-        _ => c_code(&mut output.tokens, ahead, state, code),
+        _ => c_code(&mut buffers.tokens, ahead, state, code),
     }
 }
 
@@ -317,32 +317,32 @@ fn macro_code(
 #[tactic(auto, unfolding(crate::specs::Steps::lexeme))]
 pub fn step(
     source: &Source,
-    output: &mut LexerOutput,
+    buffers: &mut LexerBuffers,
     ahead: &mut Reader,
-    state: ScanState,
+    state: LexerState,
     front: Front,
-) -> Result<ScanState, AllocError>
+) -> Result<LexerState, AllocError>
     requires front { IsFront ahead.old front }
-    requires occurrences { state.occurrences ≡ length output.old.occurrences.items }
-    ensures { IfOk result (λ after. ReadsLexeme source.now.lines output.old output.new
+    requires occurrences { state.occurrences ≡ length buffers.old.occurrences.items }
+    ensures { IfOk result (λ after. ReadsLexeme source.now.lines buffers.old buffers.new
         ahead.old ahead.new after (spec.lexeme state ahead.old)) }
 {
     match state.mode {
-        Mode::Limbo => limbo(&mut output.tokens, ahead, state, front),
+        Mode::Limbo => limbo(&mut buffers.tokens, ahead, state, front),
         Mode::Documentation => {
             if holds(b'@', front.byte) {
-                return documentation_code(source, output, ahead, state, code_at(front.next));
+                return documentation_code(source, buffers, ahead, state, code_at(front.next));
             }
             prose(ahead);
             Ok(state)
         }
         Mode::CPart => {
-            let token_kind = kind_by(state.include, front.byte, front.next);
-            c_text(source, output, ahead, state, token_kind)
+            let lexeme_kind = kind_by(state.include, front.byte, front.next);
+            c_text(source, buffers, ahead, state, lexeme_kind)
         }
         Mode::Macro => match kind_by(state.include, front.byte, front.next) {
-            TokenKind::Control(code) => macro_code(source, output, ahead, state, code),
-            token_kind => c_text(source, output, ahead, state, token_kind),
+            LexemeKind::Control(code) => macro_code(source, buffers, ahead, state, code),
+            lexeme_kind => c_text(source, buffers, ahead, state, lexeme_kind),
         },
     }
 }

@@ -1,10 +1,11 @@
-//! What the text has, one after another.
+//! Tokens: what the text has, one after another.
+use crate::occurrences::Occurrence;
 use tangle_lines::FaultKind;
 use tangle_text::Span;
 
-/// What kind of text a range of a line is.
+/// What a range of a line is.
 #[derive(Clone, Copy)]
-pub enum TextKind {
+pub enum SpanKind {
     Word,
     Sign,
     /// A quoted text, or a range of one.
@@ -25,8 +26,8 @@ pub enum Token {
     /// A C part begins whose name is the occurrence of this number; the line on which its head
     /// ends.
     NamedPart(usize, u32),
-    /// A text of this kind, in this range.
-    Text(TextKind, Span),
+    /// A range of a line: a word, a sign, or a range of a quoted or verbatim text.
+    Span(SpanKind, Span),
     /// The line end at which a quoted text is cut.
     QuoteBreak,
     /// An ASCII constant, by its value.
@@ -39,4 +40,11 @@ pub enum Token {
     /// All macros.
     AllMacros(u32),
     Fault(FaultKind, u32),
+}
+
+/// What was read: the tokens, and the occurrences of names.
+#[derive(Drop)]
+pub struct LexerBuffers {
+    pub tokens: Vec<Token>,
+    pub occurrences: Vec<Occurrence>,
 }

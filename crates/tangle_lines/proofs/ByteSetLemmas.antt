@@ -1,4 +1,4 @@
--- Searches for a byte of a set, or of none of a set, in the words of the rules of reading.
+-- Searches for a byte of a set, or of none of a set, by the definitions of reading.
 use Rattle.std.proofs.Common.{◌≡◌, ℕ, zero, suc, ◌<◌, Bool, true, false, not, ◌&&◌, ◌||◌, ◌==◌, List, [], ◌∷◌, length, get_or, take, drop, refl, ap, sym, ◌∙◌, arith, le_refl, take_all, Option, Some, None, is_some, slice_index, cond}
 use Rattle.std.specs.List.{before_first, list_all}
 use Rattle.std.proofs.lemmas.Bool.{false_from_ne_true, false≢true}

@@ -4,24 +4,24 @@ use Rattle.tangle_files.specs.Lines.{FileTable}
 use Rattle.tangle_lines.specs.Change.{Change}
 use Rattle.tangle_faults.specs.Faults.{FaultRead}
 use Rattle.tangle_lines.specs.Inclusion.{included_name}
-use Rattle.tangle_lines.specs.Reading.{WaitingLine, Line, Reads, plain_step, begins, change_here, waiting_lines, reads_from, before_reads}
+use Rattle.tangle_lines.specs.Reading.{WaitingLine, SourceLine, Reads, plain_step, begins, change_here, waiting_lines, reads_from, before_reads}
 use Rattle.tangle_lines.specs.Waiting.{Makes, PassesOn, awaited, is_awaited}
 use Rattle.tangle_lines.proofs.ReadingLemmas.{at, so_far-plain}
 
-abbrev line_of : WaitingLine → Line
+abbrev line_of : WaitingLine → SourceLine
 line_of w = record { bytes = w.bytes; origin = w.origin; changed = w.changed }
 
 -- what is read in all from these lines and from what waits
-abbrev all : FileTable → ℕ → List Change → List Line → List FaultRead → List WaitingLine → ℕ → Reads
+abbrev all : FileTable → ℕ → List Change → List SourceLine → List FaultRead → List WaitingLine → ℕ → Reads
 all files change_file cs lines faults ws t =
     before_reads (record { lines = lines; faults = faults }) (reads_from files change_file (at ws cs t))
 
-module _ (cs : List Change) (lines : List Line) (ws : List WaitingLine) where
+module _ (cs : List Change) (lines : List SourceLine) (ws : List WaitingLine) where
   pub passes-none : PassesOn cs lines ws 0 lines ws
   passes-none files change_file faults t h =
       let same : t + 0 ≡ t = omega arith in ap (λ k. all files change_file cs lines faults ws k) same
 
-  pub passes-more : (n m : ℕ) (lines₁ lines₂ : List Line) (ws₁ ws₂ : List WaitingLine)
+  pub passes-more : (n m : ℕ) (lines₁ lines₂ : List SourceLine) (ws₁ ws₂ : List WaitingLine)
       → PassesOn cs lines ws n lines₁ ws₁ → PassesOn cs lines₁ ws₁ m lines₂ ws₂ → PassesOn cs lines ws (n + m) lines₂ ws₂
   passes-more n m lines₁ lines₂ ws₁ ws₂ first second files change_file faults t h =
       let same : t + (n + m) ≡ (t + n) + m = omega arith in
@@ -39,17 +39,17 @@ module _ (cs : List Change) (lines : List Line) (ws : List WaitingLine) where
       so_far-plain files change_file (all files change_file cs lines faults (w ∷ ws) t) lines faults (w ∷ ws) cs t refl w ws refl
       ws (lines ++ line_of w ∷ []) faults (omega (arith, h)) unchanged (is_plain files faults w (included_name w.bytes) plain)
 
--- the line after so many lines of a file, where more lines wait behind the file
-pub waiting-next : (file : ℕ) (changed : Bool) (depth number next : ℕ) (texts : List (List ℕ)) (text : List ℕ) (rest : List WaitingLine)
-    → next ≡ number + 1 → drop number texts ≡ text ∷ drop (number + 1) texts
-    → waiting_lines file changed depth (number + 1) (drop number texts) ++ rest
-    ≡ record { bytes = text; origin = record { file = file; line = next }; changed = changed; depth = depth } ∷ waiting_lines file changed depth (next + 1) (drop next texts) ++ rest
-waiting-next file changed depth number next texts text rest is_next first =
+-- the line after so many lines of a file, where more lines wait after the file
+pub waiting-next : (file : ℕ) (changed : Bool) (depth number next : ℕ) (file_lines : List (List ℕ)) (line : List ℕ) (rest : List WaitingLine)
+    → next ≡ number + 1 → drop number file_lines ≡ line ∷ drop (number + 1) file_lines
+    → waiting_lines file changed depth (number + 1) (drop number file_lines) ++ rest
+    ≡ record { bytes = line; origin = record { file = file; line = next }; changed = changed; depth = depth } ∷ waiting_lines file changed depth (next + 1) (drop next file_lines) ++ rest
+waiting-next file changed depth number next file_lines line rest is_next first =
     ap (λ ls. waiting_lines file changed depth (number + 1) ls ++ rest) first
-    ∙ ap (λ k. record { bytes = text; origin = record { file = file; line = k }; changed = changed; depth = depth } ∷ waiting_lines file changed depth (k + 1) (drop k texts) ++ rest) (sym is_next)
+    ∙ ap (λ k. record { bytes = line; origin = record { file = file; line = k }; changed = changed; depth = depth } ∷ waiting_lines file changed depth (k + 1) (drop k file_lines) ++ rest) (sym is_next)
 
 -- one more line was taken
-pub passes-next : (cs : List Change) (lines lines₁ lines₂ : List Line) (ws ws₁ ws₂ : List WaitingLine) (n m : ℕ) (w : WaitingLine)
+pub passes-next : (cs : List Change) (lines lines₁ lines₂ : List SourceLine) (ws ws₁ ws₂ : List WaitingLine) (n m : ℕ) (w : WaitingLine)
     → PassesOn cs lines ws n lines₁ ws₁ → m ≡ n + 1 → ws₁ ≡ w ∷ ws₂ → lines₂ ≡ lines₁ ++ line_of w ∷ []
     → None ≡ change_here cs w → None ≡ included_name w.bytes → PassesOn cs lines ws m lines₂ ws₂
 passes-next cs lines lines₁ lines₂ ws ws₁ ws₂ n m w before one first more unchanged plain =
@@ -57,7 +57,7 @@ passes-next cs lines lines₁ lines₂ ws ws₁ ws₂ n m w before one first mor
     (rw first (passes-line cs lines₁ ws₂ w unchanged plain)))
 
 -- the same lines wait
-pub passes-same : (cs : List Change) (lines lines' : List Line) (ws ws₁ ws' ws₁' : List WaitingLine) (n : ℕ)
+pub passes-same : (cs : List Change) (lines lines' : List SourceLine) (ws ws₁ ws' ws₁' : List WaitingLine) (n : ℕ)
     → ws ≡ ws₁ → ws' ≡ ws₁' → PassesOn cs lines ws₁ n lines' ws₁' → PassesOn cs lines ws n lines' ws'
 passes-same cs lines lines' ws ws₁ ws' ws₁' n before after passed = rw (before, after) passed
 

@@ -7,14 +7,14 @@ use Rattle.std.specs.Prelude.{nat_lt}
 use Rattle.tangle_files.specs.Lines.{FileTable}
 use Rattle.tangle_lines.specs.Change.{Change}
 use Rattle.tangle_lines.specs.Waiting.{IsPlain, IsUsed, Makes}
-use Rattle.tangle_lines.specs.Reading.{WaitingLine, Line, Reads, named, State, Step, step_of, line_step, plain_step, change_here, unused_faults, begins, after, reads_in, reads_from, line_limit, before_reads}
+use Rattle.tangle_lines.specs.Reading.{WaitingLine, SourceLine, Reads, place_of, State, ReadingStep, step_of, line_step, plain_step, change_here, unused_faults, begins, after, reads_in, reads_from, source_line_limit, before_reads}
 use Rattle.tangle_lines.specs.Inclusion.{included_name}
-use Rattle.tangle_lines.specs.Reading.Step.{Ends, Goes}
+use Rattle.tangle_lines.specs.Reading.ReadingStep.{Ends, Goes}
 
 -- a step either ends, or is below the limit and takes a line
-abbrev Advances : ℕ → Step → Type 0
+abbrev Advances : ℕ → ReadingStep → Type 0
 Advances taken (Ends faults) = Unit {0}
-Advances taken (Goes out s) = (taken < line_limit) × (taken < s.taken)
+Advances taken (Goes out s) = (taken < source_line_limit) × (taken < s.taken)
 
 begins-some : (old : List (List ℕ)) (line : List ℕ) → begins old line ≡ true → 0 < length old
 begins-some [] line h = absurd (true≢false (sym h))
@@ -31,46 +31,46 @@ change_here-some (d ∷ cs) w c h = by w.changed (begins d.old_lines w.bytes) re
     by false true e h = let same : c ≡ d = cc in (rw same (begins-some d.old_lines w.bytes e), ap (λ x. x ∷ cs) (sym same))
 
 module _ (files : FileTable) (change_file : ℕ) where
-  plain_step-advances : (w : WaitingLine) (ws : List WaitingLine) (cs : List Change) (t : ℕ) (name : Option (List ℕ)) → t < line_limit → Advances t (plain_step files w ws cs t name)
+  plain_step-advances : (w : WaitingLine) (ws : List WaitingLine) (cs : List Change) (t : ℕ) (name : Option (List ℕ)) → t < source_line_limit → Advances t (plain_step files w ws cs t name)
   plain_step-advances w ws cs t None h = (h, omega arith)
   plain_step-advances w ws cs t (Some name) h = (h, omega arith)
 
-  line_step-advances : (w : WaitingLine) (ws : List WaitingLine) (cs : List Change) (t : ℕ) (here : Option Change) → here ≡ change_here cs w → t < line_limit → Advances t (line_step files change_file w ws cs t here)
+  line_step-advances : (w : WaitingLine) (ws : List WaitingLine) (cs : List Change) (t : ℕ) (here : Option Change) → here ≡ change_here cs w → t < source_line_limit → Advances t (line_step files change_file w ws cs t here)
   line_step-advances w ws cs t None e h = plain_step-advances w ws cs t (included_name w.bytes) h
   line_step-advances w ws cs t (Some c) e h = let some : 0 < length c.old_lines = (change_here-some cs w c e).0 in (h, omega arith)
 
   step_of-advances : (ws : List WaitingLine) (cs : List Change) (t : ℕ) → Advances t (step_of files change_file ws cs t)
   step_of-advances [] cs t = tt
-  step_of-advances (w ∷ ws) cs t = by (nat_lt t line_limit) refl
+  step_of-advances (w ∷ ws) cs t = by (nat_lt t source_line_limit) refl
     where
-      by : (b : Bool) → nat_lt t line_limit ≡ b → Advances t (cond b (line_step files change_file w ws cs t (change_here cs w)) (Ends (fault_at SourceTooLong (named files w.origin) ∷ [])))
-      by true e = line_step-advances w ws cs t (change_here cs w) refl (ltb-true t line_limit e)
+      by : (b : Bool) → nat_lt t source_line_limit ≡ b → Advances t (cond b (line_step files change_file w ws cs t (change_here cs w)) (Ends (fault_at SourceTooLong (place_of files w.origin) ∷ [])))
+      by true e = line_step-advances w ws cs t (change_here cs w) refl (ltb-true t source_line_limit e)
       by false e = tt
 
-  after-same : (n m t : ℕ) (st : Step) → Advances t st → line_limit - t < suc n → line_limit - t < suc m
-      → ((s : State) → line_limit - s.taken < n → line_limit - s.taken < m → reads_in files change_file n s ≡ reads_in files change_file m s)
+  after-same : (n m t : ℕ) (st : ReadingStep) → Advances t st → source_line_limit - t < suc n → source_line_limit - t < suc m
+      → ((s : State) → source_line_limit - s.taken < n → source_line_limit - s.taken < m → reads_in files change_file n s ≡ reads_in files change_file m s)
       → after files change_file st (λ s. reads_in files change_file n s) ≡ after files change_file st (λ s. reads_in files change_file m s)
   after-same n m t (Ends faults) a h k rest = refl
   after-same n m t (Goes out s) a h k rest = ap (before_reads out) (rest s (omega arith) (omega arith))
 
   -- as many steps as there are lines below the limit are enough
-  pub reads_in-enough : (n m : ℕ) (s : State) → line_limit - s.taken < n → line_limit - s.taken < m → reads_in files change_file n s ≡ reads_in files change_file m s
+  pub reads_in-enough : (n m : ℕ) (s : State) → source_line_limit - s.taken < n → source_line_limit - s.taken < m → reads_in files change_file n s ≡ reads_in files change_file m s
   unfolding reads_in
   reads_in-enough zero m s h k = absurd (omega arith)
   reads_in-enough (suc n) zero s h k = absurd (omega arith)
   reads_in-enough (suc n) (suc m) s h k =
       after-same n m s.taken (step_of files change_file s.waiting s.changes s.taken) (step_of-advances s.waiting s.changes s.taken) h k (reads_in-enough n m)
 
-  after-next : (n t : ℕ) (st : Step) → Advances t st → line_limit - t < suc n
+  after-next : (n t : ℕ) (st : ReadingStep) → Advances t st → source_line_limit - t < suc n
       → after files change_file st (λ s. reads_in files change_file n s) ≡ after files change_file st (λ s. reads_from files change_file s)
   after-next n t (Ends faults) a h = refl
-  after-next n t (Goes out s) a h = ap (before_reads out) (reads_in-enough n (suc (line_limit - s.taken)) s (omega arith) (omega arith))
+  after-next n t (Goes out s) a h = ap (before_reads out) (reads_in-enough n (suc (source_line_limit - s.taken)) s (omega arith) (omega arith))
 
   -- reading is a step, and then reading
   pub reads_from-step : (s : State) → reads_from files change_file s ≡ after files change_file (step_of files change_file s.waiting s.changes s.taken) (λ t. reads_from files change_file t)
   unfolding reads_in
   reads_from-step s =
-      after-next (line_limit - s.taken) s.taken (step_of files change_file s.waiting s.changes s.taken) (step_of-advances s.waiting s.changes s.taken) (omega arith)
+      after-next (source_line_limit - s.taken) s.taken (step_of files change_file s.waiting s.changes s.taken) (step_of-advances s.waiting s.changes s.taken) (omega arith)
 
 pub before_reads-append : (a b c : Reads) → before_reads (before_reads a b) c ≡ before_reads a (before_reads b c)
 before_reads-append a b c = λ i. record { lines = append_assoc a.lines b.lines c.lines i; faults = append_assoc a.faults b.faults c.faults i }
@@ -84,23 +84,23 @@ module _ (files : FileTable) (change_file : ℕ) (ws : List WaitingLine) (cs : L
   reads_from-end = reads_from-step files change_file (at [] cs t)
 
   by_limit : WaitingLine → Bool → Reads
-  by_limit w b = after files change_file (cond b (line_step files change_file w ws cs t (change_here cs w)) (Ends (fault_at SourceTooLong (named files w.origin) ∷ []))) (λ s. reads_from files change_file s)
+  by_limit w b = after files change_file (cond b (line_step files change_file w ws cs t (change_here cs w)) (Ends (fault_at SourceTooLong (place_of files w.origin) ∷ []))) (λ s. reads_from files change_file s)
 
-  reads_from-stop : (w : WaitingLine) → line_limit ≤ t → reads_from files change_file (at (w ∷ ws) cs t) ≡ record { lines = []; faults = fault_at SourceTooLong (named files w.origin) ∷ [] }
+  reads_from-stop : (w : WaitingLine) → source_line_limit ≤ t → reads_from files change_file (at (w ∷ ws) cs t) ≡ record { lines = []; faults = fault_at SourceTooLong (place_of files w.origin) ∷ [] }
   unfolding by_limit
   reads_from-stop w h = reads_from-step files change_file (at (w ∷ ws) cs t) ∙ ap (by_limit w) (not_below h)
     where
-      not_below : line_limit ≤ t → nat_lt t line_limit ≡ false
-      not_below h = false_from_ne_true (nat_lt t line_limit) (λ e. let k : t < line_limit = ltb-true t line_limit e in absurd (omega arith))
+      not_below : source_line_limit ≤ t → nat_lt t source_line_limit ≡ false
+      not_below h = false_from_ne_true (nat_lt t source_line_limit) (λ e. let k : t < source_line_limit = ltb-true t source_line_limit e in absurd (omega arith))
 
-  reads_from-line : (w : WaitingLine) → t < line_limit
+  reads_from-line : (w : WaitingLine) → t < source_line_limit
       → reads_from files change_file (at (w ∷ ws) cs t)
       ≡ after files change_file (line_step files change_file w ws cs t (change_here cs w)) (λ s. reads_from files change_file s)
   unfolding by_limit
-  reads_from-line w h = reads_from-step files change_file (at (w ∷ ws) cs t) ∙ ap (by_limit w) (lt-ltb t line_limit h)
+  reads_from-line w h = reads_from-step files change_file (at (w ∷ ws) cs t) ∙ ap (by_limit w) (lt-ltb t source_line_limit h)
 
 -- how reading goes on: what was given so far, and then what waits, is all of it
-module _ (files : FileTable) (change_file : ℕ) (start : Reads) (lines : List Line) (faults : List FaultRead) (waiting : List WaitingLine) (changes : List Change) (t : ℕ)
+module _ (files : FileTable) (change_file : ℕ) (start : Reads) (lines : List SourceLine) (faults : List FaultRead) (waiting : List WaitingLine) (changes : List Change) (t : ℕ)
     (so_far : before_reads (record { lines = lines; faults = faults }) (reads_from files change_file (at waiting changes t)) ≡ start) where
   out : Reads
   out = record { lines = lines; faults = faults }
@@ -114,17 +114,17 @@ module _ (files : FileTable) (change_file : ℕ) (start : Reads) (lines : List L
       ∙ (λ i. record { lines = append-nil lines i; faults = faults ++ unused_faults files change_file changes })
 
   module _ (w : WaitingLine) (ws : List WaitingLine) (first : waiting ≡ w ∷ ws) where
-    pub so_far-stop : line_limit ≤ t → start ≡ record { lines = lines; faults = faults ++ fault_at SourceTooLong (named files w.origin) ∷ [] }
+    pub so_far-stop : source_line_limit ≤ t → start ≡ record { lines = lines; faults = faults ++ fault_at SourceTooLong (place_of files w.origin) ∷ [] }
     unfolding out
     so_far-stop h =
         sym so_far
         ∙ ap (λ ws. before_reads out (reads_from files change_file (at ws changes t))) first
         ∙ ap (before_reads out) (reads_from-stop files change_file ws changes t w h)
-        ∙ (λ i. record { lines = append-nil lines i; faults = faults ++ fault_at SourceTooLong (named files w.origin) ∷ [] })
+        ∙ (λ i. record { lines = append-nil lines i; faults = faults ++ fault_at SourceTooLong (place_of files w.origin) ∷ [] })
 
     -- a step gives more, and reading goes on from where it leads
     step_out : (more : Reads) (s : State) → line_step files change_file w ws changes t (change_here changes w) ≡ Goes more s
-        → t < line_limit → before_reads (before_reads out more) (reads_from files change_file s) ≡ start
+        → t < source_line_limit → before_reads (before_reads out more) (reads_from files change_file s) ≡ start
     unfolding out
     step_out more s step h =
         before_reads-append out more (reads_from files change_file s)
@@ -132,7 +132,7 @@ module _ (files : FileTable) (change_file : ℕ) (start : Reads) (lines : List L
         ∙ ap (λ ws. before_reads out (reads_from files change_file (at ws changes t))) (sym first)
         ∙ so_far
 
-    pub so_far-plain : (ws' : List WaitingLine) (lines' : List Line) (faults' : List FaultRead) → t < line_limit → None ≡ change_here changes w
+    pub so_far-plain : (ws' : List WaitingLine) (lines' : List SourceLine) (faults' : List FaultRead) → t < source_line_limit → None ≡ change_here changes w
         → IsPlain files w ws ws' lines lines' faults faults'
         → before_reads (record { lines = lines'; faults = faults' }) (reads_from files change_file (at ws' changes (t + 1))) ≡ start
     unfolding out
@@ -147,7 +147,7 @@ module _ (files : FileTable) (change_file : ℕ) (start : Reads) (lines : List L
             (λ i. before_reads (record { lines = made.1.0 i; faults = made.1.1 i }) (reads_from files change_file (at (made.0 i) changes (t + 1))))
             ∙ step_out _ _ (ap (line_step files change_file w ws changes t) (sym none) ∙ ap (plain_step files w ws changes t) (sym e)) h
 
-    pub so_far-used : (c : Change) (ws' : List WaitingLine) (faults' : List FaultRead) (n : ℕ) → t < line_limit → Some c ≡ change_here changes w
+    pub so_far-used : (c : Change) (ws' : List WaitingLine) (faults' : List FaultRead) (n : ℕ) → t < source_line_limit → Some c ≡ change_here changes w
         → IsUsed files change_file c w ws ws' faults faults' → n ≡ min (length c.old_lines) (length (w ∷ ws))
         → before_reads (record { lines = lines; faults = faults' }) (reads_from files change_file (at ws' (drop 1 changes) (t + n))) ≡ start
     unfolding out

@@ -11,7 +11,7 @@ pub stacked-push : (fs : List (List WaitingLine)) (f : List WaitingLine) → sta
 stacked-push [] f = sym (append-nil f)
 stacked-push (g ∷ fs) f = ap (λ l. l ++ g) (stacked-push fs f) ∙ append_assoc f (stacked fs) g
 
--- with the last file as it is, or in its place another
+-- with another file instead of the last, and with the last as it is
 pub stacked-set : (fs : List (List WaitingLine)) (n : ℕ) (f : List WaitingLine) → length fs ≡ n + 1 → stacked (set fs n f) ≡ f ++ stacked (take n fs)
 stacked-set [] n f h = absurd (omega arith)
 stacked-set (g ∷ []) zero f h = sym (append-nil f)

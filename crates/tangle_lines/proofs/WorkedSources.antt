@@ -1,10 +1,10 @@
--- Small projects of which the source comes out as the rules of reading say, by computing the definition.
+-- Small webs with the source that reading gives, by computing the definition.
 use Rattle.std.proofs.Common.{◌≡◌, ℕ, zero, suc, List, [], ◌∷◌, None, Some, true, false, refl}
 use Rattle.std.specs.Prelude.{codes}
 use Rattle.tangle_faults.specs.declared.faults.FaultKind.TheVariants.{ChangeMismatch, EmptyOld, ChangeUnused, StrayMark, MissingY, MissingZ, IncludeNoName, IncludeMissing, IncludeTooDeep}
 use Rattle.tangle_files.specs.Lines.{cut}
 use Rattle.tangle_faults.specs.Faults.{fault_at, fault_about, fault_counting}
-use Rattle.tangle_lines.specs.Reading.{Line, Reads, reads, reads_in}
+use Rattle.tangle_lines.specs.Reading.{SourceLine, Reads, reads, reads_in}
 
 abbrev web : List ℕ
 web = codes "a.w"
@@ -19,10 +19,10 @@ inner = codes "b.w"
 abbrev changed : List ℕ → List ℕ → Reads
 changed bytes changes = reads ((web, cut bytes) ∷ (change, cut changes) ∷ []) web (Some change)
 
-abbrev line : ℕ → List ℕ → ℕ → Line
+abbrev line : ℕ → List ℕ → ℕ → SourceLine
 line file bytes n = record { bytes = bytes; origin = record { file = file; line = n }; changed = false }
 
-abbrev new_line : List ℕ → ℕ → Line
+abbrev new_line : List ℕ → ℕ → SourceLine
 new_line bytes n = record { bytes = bytes; origin = record { file = 1; line = n }; changed = true }
 
 -- a new line replaces an old one, with its own origin
@@ -49,7 +49,7 @@ inclusion_changed_away : changed (codes "@i none.w\n@ A.\n@c\nx\n") (codes "@x\n
 unfolding reads_in
 inclusion_changed_away = refl
 
-abbrev xs : ℕ → List Line
+abbrev xs : ℕ → List SourceLine
 xs zero = []
 xs (suc n) = line 1 (codes "x") 1 ∷ xs n
 

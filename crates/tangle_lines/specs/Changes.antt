@@ -12,10 +12,10 @@ use Rattle.tangle_lines.specs.declared.changes.LineKind.TheVariants.{BeginsChang
 use Rattle.tangle_faults.specs.Faults.{FaultRead, fault_at}
 
 -- what a line of a change file is
-abbrev pub kind_of : List ℕ → LineKind
-kind_of [] = IsText
-kind_of (a ∷ []) = IsText
-kind_of (a ∷ b ∷ bs) =
+abbrev pub line_kind_of : List ℕ → LineKind
+line_kind_of [] = IsText
+line_kind_of (a ∷ []) = IsText
+line_kind_of (a ∷ b ∷ bs) =
     if a == at_sign then (if is_letter letter_x b then BeginsChange else if is_letter letter_y b then BeginsNew else if is_letter letter_z b then EndsChange else IsText)
     else IsText
 
@@ -24,8 +24,8 @@ pub record Found : Type 0 where
   pub changes : List Change
   pub faults : List FaultRead
 
-abbrev pub nothing : Found
-nothing = record { changes = []; faults = [] }
+abbrev pub nothing_found : Found
+nothing_found = record { changes = []; faults = [] }
 
 abbrev pub before : Found → Found → Found
 before first rest = record { changes = first.changes ++ rest.changes; faults = first.faults ++ rest.faults }
@@ -43,13 +43,13 @@ abbrev pub closed : Change → List Change
 closed c = closed_by c.old_lines c
 
 module _ (file : List ℕ) where
-  abbrev pub fault_on : FaultKind → ℕ → Found
-  fault_on kind n = record { changes = []; faults = fault_at kind (record { file = file; line = n }) ∷ [] }
+  abbrev pub fault_found : FaultKind → ℕ → Found
+  fault_found kind n = record { changes = []; faults = fault_at kind (record { file = file; line = n }) ∷ [] }
 
   -- the end of the old lines
   abbrev pub old_ended : ℕ → List (List ℕ) → Found
-  old_ended at [] = fault_on EmptyOld at
-  old_ended at (o ∷ os) = nothing
+  old_ended at [] = fault_found EmptyOld at
+  old_ended at (o ∷ os) = nothing_found
 
   -- an old line: blank ones directly after the @x line are skipped
   abbrev pub with_old : List (List ℕ) → List ℕ → List (List ℕ)
@@ -60,31 +60,31 @@ module _ (file : List ℕ) where
   abbrev pub fault_with : FaultKind → ℕ → List Change → Found
   fault_with kind n changes = record { changes = changes; faults = fault_at kind (record { file = file; line = n }) ∷ [] }
 
-  -- what the line of number n makes: the phase after it, and what is found there
+  -- the phase after the line of number n, with the change that ends there and the fault that is found
   abbrev pub next_phase : ChangePhase → ℕ → List ℕ → LineKind → ChangePhase × Found
-  next_phase Outside n line BeginsChange = (InOld (begun n), nothing)
-  next_phase Outside n line BeginsNew = (Outside, fault_on StrayMark n)
-  next_phase Outside n line EndsChange = (Outside, fault_on StrayMark n)
-  next_phase Outside n line IsText = (Outside, nothing)
-  next_phase (InOld c) n line BeginsChange = (InOld (begun n), fault_on MissingY c.at)
+  next_phase Outside n line BeginsChange = (InOld (begun n), nothing_found)
+  next_phase Outside n line BeginsNew = (Outside, fault_found StrayMark n)
+  next_phase Outside n line EndsChange = (Outside, fault_found StrayMark n)
+  next_phase Outside n line IsText = (Outside, nothing_found)
+  next_phase (InOld c) n line BeginsChange = (InOld (begun n), fault_found MissingY c.at)
   next_phase (InOld c) n line BeginsNew = (InNew c, old_ended c.at c.old_lines)
-  next_phase (InOld c) n line EndsChange = (Outside, fault_on MissingY c.at)
-  next_phase (InOld c) n line IsText = (InOld (record c { old_lines = with_old c.old_lines line }), nothing)
+  next_phase (InOld c) n line EndsChange = (Outside, fault_found MissingY c.at)
+  next_phase (InOld c) n line IsText = (InOld (record c { old_lines = with_old c.old_lines line }), nothing_found)
   next_phase (InNew c) n line BeginsChange = (InOld (begun n), fault_with MissingZ c.at (closed c))
-  next_phase (InNew c) n line BeginsNew = (InNew c, fault_on StrayMark n)
+  next_phase (InNew c) n line BeginsNew = (InNew c, fault_found StrayMark n)
   next_phase (InNew c) n line EndsChange = (Outside, record { changes = closed c; faults = [] })
-  next_phase (InNew c) n line IsText = (InNew (record c { new_lines = c.new_lines ++ (n, line) ∷ [] }), nothing)
+  next_phase (InNew c) n line IsText = (InNew (record c { new_lines = c.new_lines ++ (n, line) ∷ [] }), nothing_found)
 
-  -- what the end of the file makes
+  -- the change and the fault that are found at the end of the file
   abbrev pub at_end : ChangePhase → Found
-  at_end Outside = nothing
-  at_end (InOld c) = fault_on MissingY c.at
+  at_end Outside = nothing_found
+  at_end (InOld c) = fault_found MissingY c.at
   at_end (InNew c) = fault_with MissingZ c.at (closed c)
 
   abbrev pub changes_from : ChangePhase → ℕ → List (List ℕ) → Found
   changes_from phase n [] = at_end phase
   changes_from phase n (line ∷ lines) =
-      before (next_phase phase n line (kind_of line)).1 (changes_from (next_phase phase n line (kind_of line)).0 (n + 1) lines)
+      before (next_phase phase n line (line_kind_of line)).1 (changes_from (next_phase phase n line (line_kind_of line)).0 (n + 1) lines)
 
   -- the changes of the change file with these lines, and its faults in the order in which they are found
   abbrev pub changes_of : List (List ℕ) → Found

@@ -1,14 +1,13 @@
 -- Reading: the source lines and the faults of files, a web and a change file.
 use Rattle.std.specs.Prelude.{ℕ, ◌+◌, ◌-◌, Bool, true, false, ◌==◌, ◌&&◌, not, nat_lt, min, get_or, length, drop, List, [], ◌∷◌, ◌++◌, if◌then◌else◌, suc, zero, Option, None, Some}
 use Rattle.std.specs.Str.{bytes_eq}
-use Rattle.tangle_faults.specs.declared.faults.FaultKind.{FaultKind}
 use Rattle.tangle_faults.specs.declared.faults.FaultKind.TheVariants.{IncludeNoName, IncludeMissing, IncludeTooDeep, ChangeMismatch, SourceTooLong, ChangeUnused}
 use Rattle.tangle_faults.specs.declared.faults.Origin.{Origin}
-use Rattle.tangle_files.specs.Lines.{FileTable, file_number, number_of, name_at, lines_at}
+use Rattle.tangle_files.specs.Lines.{FileTable, file_number, file_number_or_count, name_at, lines_at}
 use Rattle.tangle_files.specs.Roles.{RolesRead}
 use Rattle.tangle_faults.specs.Faults.{PlaceRead, FaultRead, fault_at, fault_about, fault_counting}
 use Rattle.tangle_lines.specs.Change.{Change}
-use Rattle.tangle_lines.specs.Changes.{Found, nothing, changes_of}
+use Rattle.tangle_lines.specs.Changes.{Found, nothing_found, changes_of}
 use Rattle.tangle_lines.specs.Inclusion.{included_name}
 
 -- the most files that may be open at once, the web counted
@@ -16,12 +15,12 @@ abbrev pub depth_limit : ℕ
 depth_limit = 10
 
 -- the most lines that are taken
-abbrev pub line_limit : ℕ
-line_limit = 2000000
+abbrev pub source_line_limit : ℕ
+source_line_limit = 2000000
 
--- an origin with its file's name
-abbrev pub named : FileTable → Origin → PlaceRead
-named files origin = record { file = name_at files origin.file; line = origin.line }
+-- the place of an origin
+abbrev pub place_of : FileTable → Origin → PlaceRead
+place_of files origin = record { file = name_at files origin.file; line = origin.line }
 
 -- a line that waits to be read; it is changed if it comes from the change file, or from a file that a changed line includes
 pub record WaitingLine : Type 0 where
@@ -31,14 +30,14 @@ pub record WaitingLine : Type 0 where
   pub depth : ℕ
 
 -- a source line
-pub record Line : Type 0 where
+pub record SourceLine : Type 0 where
   pub bytes : List ℕ
   pub origin : Origin
   pub changed : Bool
 
 -- what is read: source lines, and the faults of change file and reading
 pub record Reads : Type 0 where
-  pub lines : List Line
+  pub lines : List SourceLine
   pub faults : List FaultRead
 
 abbrev pub before_reads : Reads → Reads → Reads
@@ -77,7 +76,7 @@ unequal_lines [] ws = 0
 unequal_lines (o ∷ os) ws = unequal_front o ws + unequal_lines os (drop 1 ws)
 
 abbrev pub mismatch_faults : PlaceRead → ℕ → List FaultRead
-mismatch_faults named_place n = if n == 0 then [] else fault_counting ChangeMismatch named_place n ∷ []
+mismatch_faults place n = if n == 0 then [] else fault_counting ChangeMismatch place n ∷ []
 
 -- where reading is: the lines that wait, the changes not yet used, and how many lines were taken
 pub record State : Type 0 where
@@ -86,24 +85,24 @@ pub record State : Type 0 where
   pub taken : ℕ
 
 -- one step of reading: it ends, or gives source lines and faults and goes on
-pub data Step : Type 0 where
-  Ends : List FaultRead → Step
-  Goes : Reads → State → Step
+pub data ReadingStep : Type 0 where
+  Ends : List FaultRead → ReadingStep
+  Goes : Reads → State → ReadingStep
 
 module _ (files : FileTable) where
   -- the lines that replace an inclusion of the file of this name and number, or the first fault that applies
   abbrev pub included : WaitingLine → List ℕ → Option ℕ → (List WaitingLine × List FaultRead)
-  included w name None = ([], fault_about IncludeMissing (named files w.origin) name ∷ [])
+  included w name None = ([], fault_about IncludeMissing (place_of files w.origin) name ∷ [])
   included w name (Some n) =
       if nat_lt w.depth depth_limit then (waiting_lines n w.changed (w.depth + 1) 1 (lines_at files n), [])
-      else ([], fault_at IncludeTooDeep (named files w.origin) ∷ [])
+      else ([], fault_at IncludeTooDeep (place_of files w.origin) ∷ [])
 
   abbrev pub inclusion : WaitingLine → List ℕ → (List WaitingLine × List FaultRead)
-  inclusion w [] = ([], fault_at IncludeNoName (named files w.origin) ∷ [])
+  inclusion w [] = ([], fault_at IncludeNoName (place_of files w.origin) ∷ [])
   inclusion w (b ∷ bs) = included w (b ∷ bs) (file_number files (b ∷ bs))
 
   -- a line that no change takes is a source line or an inclusion
-  abbrev pub plain_step : WaitingLine → List WaitingLine → List Change → ℕ → Option (List ℕ) → Step
+  abbrev pub plain_step : WaitingLine → List WaitingLine → List Change → ℕ → Option (List ℕ) → ReadingStep
   plain_step w ws changes taken None =
       Goes (record { lines = record { bytes = w.bytes; origin = w.origin; changed = w.changed } ∷ []; faults = [] })
       (record { waiting = ws; changes = changes; taken = taken + 1 })
@@ -114,34 +113,34 @@ module _ (files : FileTable) where
 module _ (files : FileTable) (change_file : ℕ) where
   -- the place of a change
   abbrev pub change_place : Change → PlaceRead
-  change_place c = named files (record { file = change_file; line = c.at })
+  change_place c = place_of files (record { file = change_file; line = c.at })
 
   -- the first of the changes that are left was not used
   abbrev pub unused_faults : List Change → List FaultRead
   unused_faults [] = []
   unused_faults (c ∷ cs) = fault_at ChangeUnused (change_place c) ∷ []
 
-  -- a change that is used takes as many lines as it has old lines, and its new lines wait in their place
-  abbrev pub change_step : Change → List Change → WaitingLine → List WaitingLine → ℕ → Step
+  -- a change that is used takes as many lines as it has old lines, and its new lines wait instead of them
+  abbrev pub change_step : Change → List Change → WaitingLine → List WaitingLine → ℕ → ReadingStep
   change_step c cs w ws taken =
       let lines = min (length c.old_lines) (length (w ∷ ws)) in
       Goes (record { lines = []; faults = mismatch_faults (change_place c) (unequal_lines (drop 1 c.old_lines) ws) })
       (record { waiting = change_lines change_file w.depth c.new_lines ++ drop lines (w ∷ ws); changes = cs; taken = taken + lines })
 
   -- a change that is used here comes before inclusion
-  abbrev pub line_step : WaitingLine → List WaitingLine → List Change → ℕ → Option Change → Step
+  abbrev pub line_step : WaitingLine → List WaitingLine → List Change → ℕ → Option Change → ReadingStep
   line_step w ws changes taken None = plain_step files w ws changes taken (included_name w.bytes)
   line_step w ws changes taken (Some c) = change_step c (drop 1 changes) w ws taken
 
   -- the end comes when no line waits, or at the limit
-  abbrev pub step_of : List WaitingLine → List Change → ℕ → Step
+  abbrev pub step_of : List WaitingLine → List Change → ℕ → ReadingStep
   step_of [] changes taken = Ends (unused_faults changes)
   step_of (w ∷ ws) changes taken =
-      if nat_lt taken line_limit then line_step w ws changes taken (change_here changes w)
-      else Ends (fault_at SourceTooLong (named files w.origin) ∷ [])
+      if nat_lt taken source_line_limit then line_step w ws changes taken (change_here changes w)
+      else Ends (fault_at SourceTooLong (place_of files w.origin) ∷ [])
 
   -- what a step gives, and then what the rest gives
-  abbrev pub after : Step → (State → Reads) → Reads
+  abbrev pub after : ReadingStep → (State → Reads) → Reads
   after (Ends faults) rest = record { lines = []; faults = faults }
   after (Goes out s) rest = before_reads out (rest s)
 
@@ -153,7 +152,7 @@ module _ (files : FileTable) (change_file : ℕ) where
   -- reading to its end: each step takes a line at least, and the step at the limit is the last,
   -- so that these are enough (reads_from-step in proofs/ReadingLemmas)
   abbrev pub reads_from : State → Reads
-  reads_from s = reads_in (suc (line_limit - s.taken)) s
+  reads_from s = reads_in (suc (source_line_limit - s.taken)) s
 
 -- reading of the web with these changes, of the change file of this number
 abbrev pub reads_web : FileTable → ℕ → ℕ → Found → Reads
@@ -164,21 +163,21 @@ reads_web files web change found =
 -- the number of the change file, if there is one
 abbrev pub change_number : FileTable → Option (List ℕ) → ℕ
 change_number files None = 0
-change_number files (Some name) = number_of files name
+change_number files (Some name) = file_number_or_count files name
 
 -- what the change file says, if there is one
 abbrev pub changes_in : FileTable → Option (List ℕ) → Found
-changes_in files None = nothing
-changes_in files (Some name) = changes_of (name_at files (number_of files name)) (lines_at files (number_of files name))
+changes_in files None = nothing_found
+changes_in files (Some name) = changes_of (name_at files (file_number_or_count files name)) (lines_at files (file_number_or_count files name))
 
 -- what reading of the files gives, by the names of the web and the change file
 abbrev pub reads : FileTable → List ℕ → Option (List ℕ) → Reads
-reads files web change = reads_web files (number_of files web) (change_number files change) (changes_in files change)
+reads files web change = reads_web files (file_number_or_count files web) (change_number files change) (changes_in files change)
 
 -- a source: the files, its lines and its faults
 pub record SourceRead : Type 0 where
   pub files : FileTable
-  pub lines : List Line
+  pub lines : List SourceLine
   pub faults : List FaultRead
 
 abbrev pub with_files : FileTable → Reads → SourceRead
@@ -189,13 +188,13 @@ abbrev pub source_of : FileTable → RolesRead → SourceRead
 source_of files roles = with_files files (reads files roles.web roles.change)
 
 -- what is read from a source without that line
-abbrev pub no_line : Line
+abbrev pub no_line : SourceLine
 no_line = record { bytes = []; origin = record { file = 0; line = 0 }; changed = false }
 
 -- the source line of this number, from 0
-abbrev pub line_at : List Line → ℕ → Line
+abbrev pub line_at : List SourceLine → ℕ → SourceLine
 line_at lines number = get_or lines number no_line
 
 -- the origin of the source line of this number
-abbrev pub origin_at : List Line → ℕ → Origin
+abbrev pub origin_at : List SourceLine → ℕ → Origin
 origin_at lines number = (line_at lines number).origin

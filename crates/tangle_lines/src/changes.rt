@@ -1,10 +1,10 @@
 //! The changes of a change file.
-ghost use Rattle.std.specs.Prelude.{◌≡◌, ◌+◌, ◌≤◌, [], ◌∷◌, ◌++◌, length, map, IfOk, OnOk, IsTrue};
+ghost use Rattle.std.specs.Prelude.{◌≡◌, ◌≤◌, [], ◌∷◌, ◌++◌, length, map, IfOk, OnOk, IsTrue};
 ghost use Rattle.std.specs.Prelude.{◌↔◌};
 ghost use Rattle.std.specs.List.{list_all};
 ghost use Rattle.tangle_files.specs.Adding.{most_lines};
 ghost use Rattle.tangle_lines.specs.Bytes.{is_white};
-ghost use Rattle.tangle_lines.specs.Changes.{kind_of, next_phase, closed, at_end};
+ghost use Rattle.tangle_lines.specs.Changes.{line_kind_of, next_phase, closed, at_end};
 ghost use Rattle.tangle_lines.specs.Changes.{changes_of as changes_found};
 ghost use Rattle.tangle_lines.specs.declared.changes.ChangePhase.TheVariants.{Outside, InOld};
 ghost use Rattle.tangle_lines.specs.declared.changes.ChangePhase.TheVariants.{InNew};
@@ -13,7 +13,7 @@ use crate::inclusion::WHITE;
 use bstr::ByteSlice;
 use std::alloc::Global;
 use std::marker::Model;
-use tangle_faults::{Fault, FaultKind, note};
+use tangle_faults::{Fault, FaultKind, add_fault};
 use tangle_files::Line;
 use tangle_streams::NoMemory;
 
@@ -137,15 +137,15 @@ pub(crate) fn changes_of<'a>(
     let mut rest = lines;
     while let [line, others @ ..] = rest {
         number += 1;
-        phase = next(alloc, file, phase, number, line, &mut changes, faults)?;
+        phase = next_phase(alloc, file, phase, number, line, &mut changes, faults)?;
         rest = others;
     }
     finish(alloc, file, phase, &mut changes, faults)?;
     Ok(changes)
 }
 
-/// What a line makes: the phase that goes on after it, and what is found there.
-fn next<'a>(
+/// The phase after a line. The change that ends there, and the faults that are found, are added.
+fn next_phase<'a>(
     alloc: Global,
     file: &[u8],
     phase: ChangePhase<'a>,
@@ -156,15 +156,15 @@ fn next<'a>(
 ) -> Result<ChangePhase<'a>, NoMemory>
     ensures phase { IfOk result
         (λ p. p ≡ (next_phase file.now phase.entry number line.entry.now
-        (kind_of line.entry.now)).0) }
+        (line_kind_of line.entry.now)).0) }
     ensures changes { OnOk result
         (changes.new.items ≡ changes.old.items
         ++ (next_phase file.now phase.entry number line.entry.now
-        (kind_of line.entry.now)).1.changes) }
+        (line_kind_of line.entry.now)).1.changes) }
     ensures faults { OnOk result
         (faults.new.items ≡ faults.old.items
         ++ (next_phase file.now phase.entry number line.entry.now
-        (kind_of line.entry.now)).1.faults) }
+        (line_kind_of line.entry.now)).1.faults) }
 {
     let kind = line_kind(line.bytes());
     match phase {
@@ -176,7 +176,7 @@ fn next<'a>(
     }
 }
 
-/// What a line outside of changes makes.
+/// The phase after a line outside of changes. A fault that is found is added.
 fn next_outside<'a>(
     alloc: Global,
     file: &[u8],
@@ -193,13 +193,13 @@ fn next_outside<'a>(
         LineKind::BeginsChange => Ok(ChangePhase::InOld(Change::new(alloc, number))),
         LineKind::IsText => Ok(ChangePhase::Outside),
         LineKind::BeginsNew | LineKind::EndsChange => {
-            note(alloc, FaultKind::StrayMark, file, number, faults)?;
+            add_fault(alloc, FaultKind::StrayMark, file, number, faults)?;
             Ok(ChangePhase::Outside)
         }
     }
 }
 
-/// What a line among the old lines of a change makes.
+/// The phase after a line among the old lines of a change. A fault that is found is added.
 fn next_in_old<'a>(
     alloc: Global,
     file: &[u8],
@@ -218,16 +218,16 @@ fn next_in_old<'a>(
     let mut change = change;
     match kind {
         LineKind::BeginsChange => {
-            note(alloc, FaultKind::MissingY, file, change.at, faults)?;
+            add_fault(alloc, FaultKind::MissingY, file, change.at, faults)?;
             Ok(ChangePhase::InOld(Change::new(alloc, number)))
         }
         LineKind::EndsChange => {
-            note(alloc, FaultKind::MissingY, file, change.at, faults)?;
+            add_fault(alloc, FaultKind::MissingY, file, change.at, faults)?;
             Ok(ChangePhase::Outside)
         }
         LineKind::BeginsNew => {
             if change.is_empty() {
-                note(alloc, FaultKind::EmptyOld, file, change.at, faults)?;
+                add_fault(alloc, FaultKind::EmptyOld, file, change.at, faults)?;
             }
             Ok(ChangePhase::InNew(change))
         }
@@ -240,7 +240,8 @@ fn next_in_old<'a>(
     }
 }
 
-/// What a line among the new lines of a change makes.
+/// The phase after a line among the new lines of a change. The change, where it ends, and a fault
+/// that is found are added.
 fn next_in_new<'a>(
     alloc: Global,
     file: &[u8],
@@ -263,12 +264,12 @@ fn next_in_new<'a>(
     let mut change = change;
     match kind {
         LineKind::BeginsChange => {
-            note(alloc, FaultKind::MissingZ, file, change.at, faults)?;
+            add_fault(alloc, FaultKind::MissingZ, file, change.at, faults)?;
             keep(change, changes)?;
             Ok(ChangePhase::InOld(Change::new(alloc, number)))
         }
         LineKind::BeginsNew => {
-            note(alloc, FaultKind::StrayMark, file, number, faults)?;
+            add_fault(alloc, FaultKind::StrayMark, file, number, faults)?;
             Ok(ChangePhase::InNew(change))
         }
         LineKind::EndsChange => {
@@ -282,7 +283,7 @@ fn next_in_new<'a>(
     }
 }
 
-/// What the end of the change file makes.
+/// Adds the change that ends with the change file, and the fault that is found there.
 fn finish<'a>(
     alloc: Global,
     file: &[u8],
@@ -299,12 +300,12 @@ fn finish<'a>(
         ChangePhase::Outside => Ok(()),
         ChangePhase::InOld(change) => {
             let at = change.at;
-            note(alloc, FaultKind::MissingY, file, at, faults)
+            add_fault(alloc, FaultKind::MissingY, file, at, faults)
         }
         ChangePhase::InNew(change) => {
             let at = change.at;
             keep(change, changes)?;
-            note(alloc, FaultKind::MissingZ, file, at, faults)
+            add_fault(alloc, FaultKind::MissingZ, file, at, faults)
         }
     }
 }
@@ -321,7 +322,7 @@ fn keep<'a>(change: Change<'a>, changes: &mut Vec<Change<'a>>) -> Result<(), NoM
 
 /// What the line is.
 fn line_kind(line: &[u8]) -> LineKind
-    ensures { result ≡ kind_of line.now }
+    ensures { result ≡ line_kind_of line.now }
 {
     match line {
         [b'@', b'x' | b'X', ..] => LineKind::BeginsChange,

@@ -38,8 +38,8 @@ fn inclusion_name(bytes: &[u8]) -> &[u8]
 }
 
 /// The bytes from the first one on that isn't white space.
-// Separate, as the one below, since its search has a table on the stack, and most lines include
-// nothing.
+// Not inlined, nor is `before_white_or_quote`: the search puts a table on the stack, and most lines
+// include nothing.
 #[inline(never)]
 fn skip_white(bytes: &[u8]) -> &[u8]
     ensures { result.now ≡ after_white bytes.now }

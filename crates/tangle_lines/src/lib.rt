@@ -1,6 +1,6 @@
 //! The source lines of a web: change files and inclusion.
 //!
-//! [`read_source`] reads a web over the table of files with its change file. The names of files, of
+//! [`read_source`] reads a web and its change file from a table of files. The names of files, of
 //! faults and of streams are re-exported.
 #![tactic(auto)]
 
@@ -15,4 +15,4 @@ pub use reading::{read_source, reading_goes_step_by_step};
 pub use source::Source;
 pub use tangle_faults::{Fault, FaultKind, Origin, Place, write_fault};
 pub use tangle_files::{Edit, Files, Line, MarkMode, Refusal, Roles, Words, is_file_name};
-pub use tangle_streams::{Feed, IoFeed, IoSink, NoMemory, Sink, WriteFault, put};
+pub use tangle_streams::{Feed, IoFeed, IoSink, NoMemory, Sink, WriteFault, write_after};

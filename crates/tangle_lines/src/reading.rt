@@ -2,10 +2,10 @@
 ghost use Rattle.std.specs.Prelude.{◌≡◌, ℕ, ◌+◌, ◌^◌, ◌<◌, ◌≤◌, [], ◌∷◌, ◌++◌, length, min, drop};
 ghost use Rattle.std.specs.Prelude.{map, true, false, None, IfOk, OnOk};
 ghost use Rattle.std.specs.Option.{option_copied};
-ghost use Rattle.tangle_files.specs.Lines.{FileTable, number_of};
+ghost use Rattle.tangle_files.specs.Lines.{FileTable, file_number_or_count};
 ghost use Rattle.tangle_files.specs.Roles.{fits};
 ghost use Rattle.tangle_lines.specs.ReadingLaw.{ReadsByStep};
-ghost use Rattle.tangle_lines.specs.Reading.{State, line_limit, inclusion, reads_from};
+ghost use Rattle.tangle_lines.specs.Reading.{State, source_line_limit, inclusion, reads_from};
 ghost use Rattle.tangle_lines.specs.Reading.{before_reads, change_number, changes_in, source_of};
 ghost use Rattle.tangle_lines.specs.Reading.{begins, change_here, unequal_front, unequal_lines};
 ghost use Rattle.tangle_lines.specs.Reading.{mismatch_faults, unused_faults};
@@ -15,9 +15,9 @@ ghost use Rattle.tangle_lines.specs.Inclusion.{included_name};
 use crate::changes::{Change, changes_of};
 use crate::inclusion::included_name;
 use crate::source::{Source, SourceLine};
-use crate::waiting::{OpenFile, RawLine, Waiting};
+use crate::waiting::{OpenFile, Waiting, WaitingLine};
 use std::alloc::Global;
-use tangle_faults::{Fault, FaultKind, note};
+use tangle_faults::{Fault, FaultKind, add_fault};
 use tangle_files::{Files, Line, Roles};
 use tangle_streams::NoMemory;
 
@@ -25,11 +25,11 @@ use tangle_streams::NoMemory;
 const DEPTH_LIMIT: u8 = 10;
 
 /// The most lines that are taken.
-const LINE_LIMIT: usize = 2_000_000;
+const SOURCE_LINE_LIMIT: usize = 2_000_000;
 
 /// The number of the file of this name, or the count of files, which is no file's number.
-fn number_of(files: &Files, name: &[u8]) -> u16
-    ensures { result ≡ number_of files.now name.now }
+fn file_number_or_count(files: &Files, name: &[u8]) -> u16
+    ensures { result ≡ file_number_or_count files.now name.now }
 {
     match files.find(name) {
         Some(number) => number,
@@ -55,7 +55,7 @@ pub fn read_source<'a>(
 {
     let mut faults = Vec::new(alloc);
     let (change_file, changes) = changes_of_file(alloc, files, roles.change(), &mut faults)?;
-    let web = number_of(files, roles.web());
+    let web = file_number_or_count(files, roles.web());
     let mut waiting = Waiting::new(alloc);
     waiting.open(OpenFile::new(web, files.lines_at(web), false, 1))?;
     let lines = read_on(
@@ -80,24 +80,24 @@ pub fn reading_goes_step_by_step()
         → ReadsByStep files change_file state }
 {}
 
-/// Opens the file that an inclusion names, or notes why not.
+/// Opens the file that an inclusion names, or adds a fault that says why not.
 fn include<'a, 'c>(
     alloc: Global,
     files: &'a Files,
     waiting: &mut Waiting<'a, 'c>,
     faults: &mut Vec<Fault>,
-    line: &RawLine<'a>,
+    line: &WaitingLine<'a>,
     name: &[u8],
 ) -> Result<(), NoMemory>
     ensures opened { OnOk result
         (waiting.new ≡ (inclusion files.entry.now line.now name.now).0 ++ waiting.old) }
-    ensures noted { OnOk result
+    ensures faults { OnOk result
         (faults.new.items ≡ faults.old.items ++ (inclusion files.entry.now line.now name.now).1) }
 {
     let origin = line.origin;
     let file = files.name_at(origin.file);
     if name.is_empty() {
-        return note(alloc, FaultKind::IncludeNoName, file, origin.line, faults);
+        return add_fault(alloc, FaultKind::IncludeNoName, file, origin.line, faults);
     }
     match files.find(name) {
         None => {
@@ -106,7 +106,7 @@ fn include<'a, 'c>(
             Ok(())
         }
         Some(_) if line.depth >= DEPTH_LIMIT => {
-            note(alloc, FaultKind::IncludeTooDeep, file, origin.line, faults)
+            add_fault(alloc, FaultKind::IncludeTooDeep, file, origin.line, faults)
         }
         Some(number) => {
             let lines = files.lines_at(number);
@@ -120,7 +120,7 @@ fn include<'a, 'c>(
 fn read_plain<'a, 'c>(
     alloc: Global,
     files: &'a Files,
-    line: &RawLine<'a>,
+    line: &WaitingLine<'a>,
     waiting: &mut Waiting<'a, 'c>,
     lines: &mut Vec<SourceLine<'a>>,
     faults: &mut Vec<Fault>,
@@ -130,10 +130,10 @@ fn read_plain<'a, 'c>(
         faults.old.items faults.new.items) }
     ensures one { OnOk result (length lines.new.items ≤ length lines.old.items + 1) }
 {
-    match included_name(line.text.bytes()) {
+    match included_name(line.line.bytes()) {
         Some(name) => include(alloc, files, waiting, faults, line, name),
         None => {
-            lines.push(SourceLine::new(line.text, line.origin, line.is_changed))?;
+            lines.push(SourceLine::new(line.line, line.origin, line.is_changed))?;
             Ok(())
         }
     }
@@ -150,13 +150,13 @@ fn begins_change(change: &Change<'_>, line: &[u8]) -> bool
 }
 
 /// The next change, if it is used at this line.
-fn change_at<'a, 'c>(changes: &'c [Change<'a>], line: &RawLine<'a>) -> Option<&'c Change<'a>>
+fn change_at<'a, 'c>(changes: &'c [Change<'a>], line: &WaitingLine<'a>) -> Option<&'c Change<'a>>
     ensures { option_copied result ≡ change_here changes.entry.now line.now }
 {
     match changes {
         [] => None,
         [change, ..] => {
-            if !line.is_changed && begins_change(change, line.text.bytes()) {
+            if !line.is_changed && begins_change(change, line.line.bytes()) {
                 Some(change)
             } else {
                 None
@@ -192,29 +192,29 @@ pub(crate) fn is_source_line(awaited: Option<&[u8]>, line: &[u8]) -> bool
     }
 }
 
-/// What was taken for old lines of a change.
+/// How the old lines of a change met the lines that they were compared with.
 #[derive(Clone, Copy)]
-struct Taken {
-    /// How many lines there were.
+struct MatchedLines {
+    /// How many lines were taken.
     lines: usize,
     /// How many of the old lines had no line, or an unequal one.
     unequal: usize,
 }
 
-/// Takes the line that represents an old line.
-fn take_one<'a, 'c>(old: &Line, waiting: &mut Waiting<'a, 'c>) -> Taken
+/// Takes one line and compares it with an old line.
+fn take_one<'a, 'c>(old: &Line, waiting: &mut Waiting<'a, 'c>) -> MatchedLines
     ensures lines { result.lines ≡ min 1 (length waiting.old) }
     ensures unequal { result.unequal ≡ unequal_front old.now waiting.old }
     ensures rest { waiting.new ≡ drop 1 waiting.old }
 {
     match waiting.take() {
-        None => Taken {
+        None => MatchedLines {
             lines: 0,
             unequal: 1,
         },
-        Some(line) => Taken {
+        Some(line) => MatchedLines {
             lines: 1,
-            unequal: if line.text.bytes() == old.bytes() {
+            unequal: if line.line.bytes() == old.bytes() {
                 0
             } else {
                 1
@@ -223,8 +223,8 @@ fn take_one<'a, 'c>(old: &Line, waiting: &mut Waiting<'a, 'c>) -> Taken
     }
 }
 
-/// Takes the lines that represent old lines.
-fn take_old<'a, 'c>(old_lines: &[&'a Line], waiting: &mut Waiting<'a, 'c>) -> Taken
+/// Takes a line for each of the old lines, and compares them.
+fn take_old<'a, 'c>(old_lines: &[&'a Line], waiting: &mut Waiting<'a, 'c>) -> MatchedLines
     ensures lines { result.lines ≡ min (length old_lines.now) (length waiting.old) }
     ensures unequal { result.unequal ≡ unequal_lines (map (λ l. l.now) old_lines.now) waiting.old }
     ensures rest { waiting.new ≡ drop (length old_lines.now) waiting.old }
@@ -238,7 +238,7 @@ fn take_old<'a, 'c>(old_lines: &[&'a Line], waiting: &mut Waiting<'a, 'c>) -> Ta
         unequal += taken.unequal;
         rest = others;
     }
-    Taken { lines, unequal }
+    MatchedLines { lines, unequal }
 }
 
 /// All but the first one.
@@ -251,8 +251,8 @@ fn after_first<T>(items: &[T]) -> &[T]
     }
 }
 
-/// Notes how many old lines of a change did not match.
-fn note_mismatch(
+/// Adds the fault of the old lines of a change that did not match, with how many they are.
+fn add_mismatch_fault(
     alloc: Global,
     file: &[u8],
     at: u32,
@@ -268,14 +268,13 @@ fn note_mismatch(
     Ok(())
 }
 
-/// Puts the new lines of a change in place of the lines that it takes, from this one on: how many
-/// it took.
+/// Replaces the lines that a change takes, from this one on, by its new lines: how many it took.
 fn use_change<'a, 'c>(
     alloc: Global,
     files: &'a Files,
     change_file: u16,
     change: &'c Change<'a>,
-    line: &RawLine<'a>,
+    line: &WaitingLine<'a>,
     waiting: &mut Waiting<'a, 'c>,
     faults: &mut Vec<Fault>,
 ) -> Result<usize, NoMemory>
@@ -289,13 +288,13 @@ fn use_change<'a, 'c>(
 {
     let taken = take_old(after_first(change.old_lines()), waiting);
     let file = files.name_at(change_file);
-    note_mismatch(alloc, file, change.at(), taken.unequal, faults)?;
+    add_mismatch_fault(alloc, file, change.at(), taken.unequal, faults)?;
     waiting.open(OpenFile::of_change(change_file, change.new_lines(), line.depth))?;
     Ok(taken.lines + 1)
 }
 
-/// Notes the first of the changes that were not used.
-fn note_unused(
+/// Adds the fault of the first of the changes that were not used.
+fn add_unused_fault(
     alloc: Global,
     files: &Files,
     change_file: u16,
@@ -309,7 +308,7 @@ fn note_unused(
         [] => Ok(()),
         [change, ..] => {
             let file = files.name_at(change_file);
-            note(alloc, FaultKind::ChangeUnused, file, change.at(), faults)
+            add_fault(alloc, FaultKind::ChangeUnused, file, change.at(), faults)
         }
     }
 }
@@ -328,16 +327,16 @@ fn read_on<'a, 'c>(
         (reads_from files.entry.now change_file
         (record { waiting = waiting.old; changes = changes.entry.now; taken = 0 }))
         ≡ record { lines = lines.items; faults = faults.new.items }) }
-    ensures limit { IfOk result (λ lines. length lines.items ≤ line_limit) }
+    ensures limit { IfOk result (λ lines. length lines.items ≤ source_line_limit) }
 {
     let mut lines = Vec::new(alloc);
     let mut changes = changes;
     let mut taken = 0usize;
     while let Some(line) = waiting.take() {
-        if taken >= LINE_LIMIT {
+        if taken >= SOURCE_LINE_LIMIT {
             let origin = line.origin;
             let file = files.name_at(origin.file);
-            note(alloc, FaultKind::SourceTooLong, file, origin.line, faults)?;
+            add_fault(alloc, FaultKind::SourceTooLong, file, origin.line, faults)?;
             return Ok(lines);
         }
         match change_at(changes, &line) {
@@ -348,11 +347,11 @@ fn read_on<'a, 'c>(
             None => {
                 read_plain(alloc, files, &line, waiting, &mut lines, faults)?;
                 taken += 1;
-                taken += waiting.take_plain(changes, LINE_LIMIT - taken, &mut lines)?;
+                taken += waiting.take_plain(changes, SOURCE_LINE_LIMIT - taken, &mut lines)?;
             }
         }
     }
-    note_unused(alloc, files, change_file, changes, faults)?;
+    add_unused_fault(alloc, files, change_file, changes, faults)?;
     Ok(lines)
 }
 
@@ -374,7 +373,7 @@ fn changes_of_file<'a>(
     match name {
         None => Ok((0, Vec::new(alloc))),
         Some(name) => {
-            let number = number_of(files, name);
+            let number = file_number_or_count(files, name);
             let lines = files.lines_at(number);
             let changes = changes_of(alloc, files.name_at(number), lines, faults)?;
             Ok((number, changes))

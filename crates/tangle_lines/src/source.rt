@@ -1,8 +1,8 @@
 //! The source: what reading gives.
-ghost use Rattle.std.specs.Prelude.{◌≡◌, ◌<◌, ◌≤◌, length, slice_get};
+ghost use Rattle.std.specs.Prelude.{◌≡◌, ◌≤◌, length};
 ghost use Rattle.tangle_files.specs.Lines.{name_at};
 ghost use Rattle.tangle_files.specs.Adding.{longest_line, most_files};
-ghost use Rattle.tangle_lines.specs.Reading.{line_at, line_limit, origin_at};
+ghost use Rattle.tangle_lines.specs.Reading.{line_at, source_line_limit, origin_at};
 
 use std::marker::Model;
 use tangle_faults::{Fault, Origin};
@@ -12,19 +12,19 @@ use tangle_files::{Files, Line};
 /// numbers, so that a line takes 16 bytes.
 #[derive(Drop)]
 pub(crate) struct SourceLine<'a> {
-    text: &'a Line,
+    line: &'a Line,
     number: u32,
     file: u16,
     is_changed: bool,
 }
 
 impl<'a> Model for SourceLine<'a> {
-    ghost use Rattle.tangle_lines.specs.Reading.{Line as LineRead};
+    ghost use Rattle.tangle_lines.specs.Reading.{SourceLine as LineRead};
 
     ghost Value = { LineRead };
 
     ghost view = { λ l. record {
-      bytes = l.text.now;
+      bytes = l.line.now;
       origin =
           record { file = l.file; line = l.number };
       changed = l.is_changed;
@@ -33,12 +33,12 @@ impl<'a> Model for SourceLine<'a> {
 
 impl<'a> SourceLine<'a> {
     /// The line of this origin.
-    pub(crate) fn new(text: &'a Line, origin: Origin, is_changed: bool) -> Self
-        ensures { result ≡ record { bytes = text.now; origin = origin; changed = is_changed } }
+    pub(crate) fn new(line: &'a Line, origin: Origin, is_changed: bool) -> Self
+        ensures { result ≡ record { bytes = line.now; origin = origin; changed = is_changed } }
     {
         let Origin { file, line: number } = origin;
         SourceLine {
-            text,
+            line,
             number,
             file,
             is_changed,
@@ -66,7 +66,7 @@ pub struct Source<'a> {
 
 impl<'a> Model for Source<'a> {
     ghost use Rattle.std.specs.Prelude.{◌≤◌, length};
-    ghost use Rattle.tangle_lines.specs.Reading.{SourceRead, line_limit};
+    ghost use Rattle.tangle_lines.specs.Reading.{SourceRead, source_line_limit};
 
     ghost Value = { SourceRead };
 
@@ -77,41 +77,30 @@ impl<'a> Model for Source<'a> {
           s.faults.items;
     } };
 
-    ghost invariant = { λ s. length s.lines.items ≤ line_limit };
+    ghost invariant = { λ s. length s.lines.items ≤ source_line_limit };
 }
 
 impl<'a> Source<'a> {
     /// How many lines there are: at most 2,000,000.
     pub fn count(&self) -> usize
         ensures count { result ≡ length self.now.lines }
-        ensures limit { result ≤ line_limit }
+        ensures limit { result ≤ source_line_limit }
     {
         self.lines.len()
     }
 
-    /// The bytes of the line of this number, from 0: at most 65,535, and none behind the last line.
+    /// The bytes of the line of this number, from 0: at most 65,535, and none after the last line.
     pub fn line(&self, number: usize) -> &'a [u8]
         ensures bytes { result.now ≡ (line_at self.now.lines number).bytes }
         ensures short { length result.now ≤ longest_line }
     {
         match self.lines.get(number) {
-            Some(line) => line.text.bytes(),
+            Some(line) => line.line.bytes(),
             None => &[],
         }
     }
 
-    /// The first byte of the line of this number, from 0: `None` of an empty line, and behind the
-    /// last one.
-    pub fn first_byte(&self, number: usize) -> Option<u8>
-        ensures { result ≡ slice_get (line_at self.now.lines number).bytes 0 }
-    {
-        match self.line(number) {
-            [first, ..] => Some(*first),
-            [] => None,
-        }
-    }
-
-    /// Where the line of this number, from 0, is in the files: behind the last line, line 0 of file
+    /// Where the line of this number, from 0, is in the files: after the last line, line 0 of file
     /// 0.
     pub fn origin(&self, number: usize) -> Origin
         ensures { result ≡ origin_at self.now.lines number }
@@ -123,7 +112,7 @@ impl<'a> Source<'a> {
     }
 
     /// Whether the line of this number, from 0, is from the change file, or from a file that such a
-    /// line includes. Behind the last line none is.
+    /// line includes. After the last line none is.
     pub fn is_changed(&self, number: usize) -> bool
         ensures { result ≡ (line_at self.now.lines number).changed }
     {
@@ -155,7 +144,7 @@ impl<'a> Source<'a> {
         self.faults.as_slice()
     }
 
-    /// The same faults, for one who is done with the lines.
+    /// The same faults; the lines are freed.
     pub fn into_faults(self) -> Vec<Fault>
         ensures { result.items ≡ self.entry.faults }
     {

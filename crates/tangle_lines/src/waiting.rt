@@ -1,8 +1,8 @@
 //! The open files, seen as the one list of the lines that wait to be read.
-ghost use Rattle.std.specs.Prelude.{◌≡◌, ◌+◌, ◌≤◌, List, [], ◌∷◌, ◌++◌, length, drop, map, true};
+ghost use Rattle.std.specs.Prelude.{◌≡◌, ◌+◌, ◌≤◌, List, [], ◌∷◌, ◌++◌, length, drop, map};
 ghost use Rattle.std.specs.Prelude.{IfSome, IfNone, IfOk, OnOk};
 ghost use Rattle.tangle_files.specs.Adding.{most_lines};
-ghost use Rattle.tangle_lines.specs.Reading.{WaitingLine, waiting_lines, change_lines};
+ghost use Rattle.tangle_lines.specs.Reading.{WaitingLine as LineRead, waiting_lines, change_lines};
 ghost use Rattle.tangle_lines.specs.Waiting.{PassesOn};
 
 use crate::changes::Change;
@@ -18,30 +18,30 @@ use tangle_streams::NoMemory;
 /// such a line includes; the web's lines have depth 1, and those of an included file one more than
 /// the line that includes it.
 #[derive(Drop)]
-pub(crate) struct RawLine<'a> {
-    pub(crate) text: &'a Line,
+pub(crate) struct WaitingLine<'a> {
+    pub(crate) line: &'a Line,
     pub(crate) origin: Origin,
     pub(crate) is_changed: bool,
     pub(crate) depth: u8,
 }
 
-impl<'a> Model for RawLine<'a> {
-    ghost use Rattle.tangle_lines.specs.Reading.{WaitingLine};
+impl<'a> Model for WaitingLine<'a> {
+    ghost use Rattle.tangle_lines.specs.Reading.{WaitingLine as LineRead};
 
-    ghost Value = { WaitingLine };
+    ghost Value = { LineRead };
 
-    ghost view = { λ r. record {
-      bytes = r.text.now;
-      origin = r.origin;
-      changed = r.is_changed;
-      depth = r.depth;
+    ghost view = { λ l. record {
+      bytes = l.line.now;
+      origin = l.origin;
+      changed = l.is_changed;
+      depth = l.depth;
     } };
 }
 
-/// The lines that an open file still gives.
+/// The lines of an open file that were not read yet.
 #[derive(Clone, Copy)]
 pub enum Rest<'a, 'c> {
-    /// The lines of a file, but for so many that were read.
+    /// The lines of a file, and how many of them were read.
     OfFile(&'a [Line], u32),
     /// The new lines of a change, with their numbers.
     OfChange(&'c [(u32, &'a Line)]),
@@ -58,14 +58,14 @@ pub(crate) struct OpenFile<'a, 'c> {
 
 impl<'a, 'c> Model for OpenFile<'a, 'c> {
     ghost use Rattle.std.specs.Prelude.{List};
-    ghost use Rattle.tangle_lines.specs.Reading.{WaitingLine};
-    ghost use Rattle.tangle_lines.specs.Waiting.{coming, IsShort};
+    ghost use Rattle.tangle_lines.specs.Reading.{WaitingLine as LineRead};
+    ghost use Rattle.tangle_lines.specs.Waiting.{rest_lines, IsWithinLimit};
 
-    ghost Value = { List WaitingLine };
+    ghost Value = { List LineRead };
 
-    ghost view = { λ f. coming f.file f.is_changed f.depth f.rest };
+    ghost view = { λ f. rest_lines f.file f.is_changed f.depth f.rest };
 
-    ghost invariant = { λ f. IsShort f.rest };
+    ghost invariant = { λ f. IsWithinLimit f.rest };
 }
 
 impl<'a, 'c> OpenFile<'a, 'c> {
@@ -95,17 +95,17 @@ impl<'a, 'c> OpenFile<'a, 'c> {
     }
 
     /// Takes the next line.
-    fn take(&mut self) -> Option<RawLine<'a>>
+    fn take(&mut self) -> Option<WaitingLine<'a>>
         ensures front { IfSome result (λ w. self.old ≡ w ∷ self.new) }
         ensures none { IfNone result ((self.old ≡ []) × (self.new ≡ [])) }
     {
         match self.rest {
             Rest::OfFile(lines, read) => match line_after(lines, read) {
                 None => None,
-                Some((text, number)) => {
+                Some((line, number)) => {
                     self.rest = Rest::OfFile(lines, number);
-                    Some(RawLine {
-                        text,
+                    Some(WaitingLine {
+                        line,
                         origin: Origin {
                             file: self.file,
                             line: number,
@@ -117,13 +117,13 @@ impl<'a, 'c> OpenFile<'a, 'c> {
             },
             Rest::OfChange(lines) => match lines {
                 [] => None,
-                [(line, text), others @ ..] => {
+                [(number, line), others @ ..] => {
                     self.rest = Rest::OfChange(others);
-                    Some(RawLine {
-                        text,
+                    Some(WaitingLine {
+                        line,
                         origin: Origin {
                             file: self.file,
-                            line: *line,
+                            line: *number,
                         },
                         is_changed: true,
                         depth: self.depth,
@@ -133,37 +133,37 @@ impl<'a, 'c> OpenFile<'a, 'c> {
         }
     }
 
-    /// Takes source lines up to a line that a change takes, an inclusion or the end, but no more
-    /// than there is room for, and answers how many.
+    /// Takes source lines up to a line that a change takes, an inclusion, the end or the limit: how
+    /// many they are.
     fn take_plain(
         &mut self,
         changes: &[Change<'_>],
-        room: usize,
+        limit: usize,
         lines: &mut Vec<SourceLine<'a>>,
     ) -> Result<usize, NoMemory>
-        ensures passed { IfOk result (λ n. (rest : List WaitingLine) →
+        ensures passed { IfOk result (λ n. (rest : List LineRead) →
             PassesOn changes.now lines.old.items (self.old ++ rest) n lines.new.items
             (self.new ++ rest)) }
         ensures count { IfOk result (λ n. length lines.new.items ≡ length lines.old.items + n) }
-        ensures room { IfOk result (λ n. n ≤ room) }
+        ensures limit { IfOk result (λ n. n ≤ limit) }
     {
-        let Rest::OfFile(texts, read) = self.rest else {
+        let Rest::OfFile(file_lines, read) = self.rest else {
             return Ok(0);
         };
         let awaited = awaited_line(changes, self.is_changed);
         let mut number = read;
-        while let Some((text, next)) = line_after(texts, number) {
-            if (number - read) as usize >= room || !is_source_line(awaited, text.bytes()) {
+        while let Some((line, next)) = line_after(file_lines, number) {
+            if (number - read) as usize >= limit || !is_source_line(awaited, line.bytes()) {
                 break;
             }
             let origin = Origin {
                 file: self.file,
                 line: next,
             };
-            lines.push(SourceLine::new(text, origin, self.is_changed))?;
+            lines.push(SourceLine::new(line, origin, self.is_changed))?;
             number = next;
         }
-        self.rest = Rest::OfFile(texts, number);
+        self.rest = Rest::OfFile(file_lines, number);
         Ok((number - read) as usize)
     }
 }
@@ -190,10 +190,10 @@ pub(crate) struct Waiting<'a, 'c> {
 
 impl<'a, 'c> Model for Waiting<'a, 'c> {
     ghost use Rattle.std.specs.Prelude.{List};
-    ghost use Rattle.tangle_lines.specs.Reading.{WaitingLine};
+    ghost use Rattle.tangle_lines.specs.Reading.{WaitingLine as LineRead};
     ghost use Rattle.tangle_lines.specs.Waiting.{stacked};
 
-    ghost Value = { List WaitingLine };
+    ghost Value = { List LineRead };
 
     ghost view = { λ w. stacked w.files.items };
 }
@@ -217,7 +217,7 @@ impl<'a, 'c> Waiting<'a, 'c> {
     }
 
     /// Takes the first line that waits.
-    pub(crate) fn take(&mut self) -> Option<RawLine<'a>>
+    pub(crate) fn take(&mut self) -> Option<WaitingLine<'a>>
         ensures front { IfSome result (λ w. self.old ≡ w ∷ self.new) }
         ensures none { IfNone result ((self.old ≡ []) × (self.new ≡ [])) }
     {
@@ -233,26 +233,25 @@ impl<'a, 'c> Waiting<'a, 'c> {
         None
     }
 
-    /// Takes source lines from the file in front, which are most of a web's lines, and answers how
-    /// many: as many as there are before a line that a change takes, an inclusion or the file's
-    /// end, but no more than there is room for.
+    /// Takes source lines from the file in front, up to a line that a change takes, an inclusion,
+    /// the file's end or the limit: how many they are. Most of a web's lines are taken here.
     pub(crate) fn take_plain(
         &mut self,
         changes: &[Change<'_>],
-        room: usize,
+        limit: usize,
         lines: &mut Vec<SourceLine<'a>>,
     ) -> Result<usize, NoMemory>
         ensures passed { IfOk result (λ n.
             PassesOn changes.now lines.old.items self.old n lines.new.items self.new) }
         ensures count { IfOk result (λ n. length lines.new.items ≡ length lines.old.items + n) }
-        ensures room { IfOk result (λ n. n ≤ room) }
+        ensures limit { IfOk result (λ n. n ≤ limit) }
     {
         if self.files.is_empty() {
             return Ok(0);
         }
         let last = self.files.len() - 1;
         let top = &mut self.files[last];
-        let taken = top.take_plain(changes, room, lines)?;
+        let taken = top.take_plain(changes, limit, lines)?;
         Ok(taken)
     }
 }

@@ -6,20 +6,20 @@ use Rattle.std.proofs.lemmas.List.{get_or-map, length-map}
 use Rattle.tangle_faults.specs.Faults.{FaultRead}
 use Rattle.tangle_lexer.specs.declared.occurrences.OccurrenceRole.TheVariants.{Mention}
 use Rattle.tangle_lexer.specs.Occurrences.{OccurrenceRead}
-use Rattle.tangle_names.specs.Names.{Text, full_names, meaning, means}
-use Rattle.tangle_names.specs.NameTable.{AreWrittenAlike, TableRead, table_over, written_name}
+use Rattle.tangle_names.specs.Names.{NameText, full_names, meaning, means}
+use Rattle.tangle_names.specs.NameTable.{AreWrittenAlike, TableRead, table_over, written_form}
 use Rattle.tangle_names.specs.declared.resolution.Resolution.{Resolution}
-use Rattle.tangle_names.specs.Resolution.{IsResolutionOf, IsWellKept, table_read}
-use Rattle.tangle_names.specs.Resolving.{first_file_number, first_number, names_in_order, names_of, resolution, resolve}
+use Rattle.tangle_names.specs.Resolution.{IsResolutionOf, ResolutionInvariant, table_read}
+use Rattle.tangle_names.specs.Resolving.{first_file_number, first_number, names_in_order, names_of, resolve, resolved_meaning}
 use Rattle.tangle_names.proofs.TableLemmas.{map-map}
 
 -- an occurrence that is written so, without role and origin
-plain : Text × Bool × Bool → OccurrenceRead
+plain : NameText × Bool × Bool → OccurrenceRead
 plain w = record { text = w.0; is_abbreviation = w.1; is_file = w.2; role = Mention; origin = record { file = 0; line = 0 } }
 
 bare : OccurrenceRead → OccurrenceRead
 unfolding plain
-bare o = plain (written_name o)
+bare o = plain (written_form o)
 
 position_or_len-map : {X Y : Type 0} (q : Y → Bool) (f : X → Y) (xs : List X) → position_or_len q (map f xs) ≡ position_or_len (λ x. q (f x)) xs
 position_or_len-map q f [] = refl
@@ -54,15 +54,15 @@ module _ (os : List OccurrenceRead) where
   resolved-bare : map (resolve (map bare os)) (map bare os) ≡ map (resolve os) os
   unfolding plain bare
   resolved-bare =
-      (λ i. map (λ (o : OccurrenceRead). resolution (names-bare i) (meaning (full-bare os i) o)) (map bare os)) ∙ map-map (resolve os) bare os
+      (λ i. map (λ (o : OccurrenceRead). resolved_meaning (names-bare i) (meaning (full-bare os i) o)) (map bare os)) ∙ map-map (resolve os) bare os
 
-  first-bare : (name : Text) → first_number (map bare os) name ≡ first_number os name
+  first-bare : (name : NameText) → first_number (map bare os) name ≡ first_number os name
   unfolding plain bare
   first-bare name =
       (λ i. position_or_len (λ (o : OccurrenceRead). means name (meaning (full-bare os i) o)) (map bare os))
       ∙ position_or_len-map (λ (o : OccurrenceRead). means name (meaning (full_names os) o)) bare os
 
-  first_file-bare : (name : Text) → first_file_number (map bare os) name ≡ first_file_number os name
+  first_file-bare : (name : NameText) → first_file_number (map bare os) name ≡ first_file_number os name
   unfolding plain bare
   first_file-bare name =
       (λ i. position (λ (o : OccurrenceRead). o.is_file && means name (meaning (full-bare os i) o)) (map bare os))
@@ -72,27 +72,27 @@ module _ (os : List OccurrenceRead) where
   table-bare faults = λ i. record {
     names = names-bare i;
     resolved = resolved-bare i;
-    first_occurrences = map (λ (name : Text). first-bare name i) (names-bare i);
-    first_file_occurrences = map (λ (name : Text). first_file-bare name i) (names-bare i);
+    first_occurrences = map (λ (name : NameText). first-bare name i) (names-bare i);
+    first_file_occurrences = map (λ (name : NameText). first_file-bare name i) (names-bare i);
     faults = faults;
   }
 
 bare-alike : (old new : List OccurrenceRead) → AreWrittenAlike old new → map bare old ≡ map bare new
 unfolding bare
-bare-alike old new alike = sym (map-map plain written_name old) ∙ (ap (map plain) alike ∙ map-map plain written_name new)
+bare-alike old new alike = sym (map-map plain written_form old) ∙ (ap (map plain) alike ∙ map-map plain written_form new)
 
 pub table-alike : (old new : List OccurrenceRead) (faults : List FaultRead) → AreWrittenAlike old new → table_over old faults ≡ table_over new faults
 table-alike old new faults alike =
     sym (table-bare old faults) ∙ (ap (λ os. table_over os faults) (bare-alike old new alike) ∙ table-bare new faults)
 
 pub alike-at : (old new : List OccurrenceRead) (i : ℕ) (o n : OccurrenceRead) → AreWrittenAlike old new → i < length old → i < length new → o ≡ get_or old i o → n ≡ get_or new i n
-    → written_name o ≡ written_name n
+    → written_form o ≡ written_form n
 alike-at old new i o n alike h g at by =
-    ap written_name at ∙ (sym (get_or-map written_name old i o (written_name o) h) ∙ (ap (λ ws. get_or ws i (written_name o)) alike
-    ∙ (get_or-map written_name new i n (written_name o) g ∙ ap written_name (sym by))))
+    ap written_form at ∙ (sym (get_or-map written_form old i o (written_form o) h) ∙ (ap (λ ws. get_or ws i (written_form o)) alike
+    ∙ (get_or-map written_form new i n (written_form o) g ∙ ap written_form (sym by))))
 
 -- what is kept of occurrences that are written alike
-pub kept-alike : (old new : List OccurrenceRead) (r s : Resolution) (faults others : List FaultRead) → table_read r faults ≡ table_over old others → IsWellKept r → s ≡ r
+pub kept-alike : (old new : List OccurrenceRead) (r s : Resolution) (faults others : List FaultRead) → table_read r faults ≡ table_over old others → ResolutionInvariant r → s ≡ r
     → AreWrittenAlike old new → IsResolutionOf new s
 kept-alike old new r s faults others table kept same alike =
     subst (IsResolutionOf new) (sym same) (record {

@@ -10,10 +10,10 @@ use Rattle.std.proofs.lemmas.List.Folds.{find_at}
 use Rattle.tangle_lexer.specs.Occurrences.{OccurrenceRead}
 use Rattle.tangle_names.specs.declared.Resolved.{Resolved}
 use Rattle.tangle_names.specs.declared.Resolved.TheVariants.{Name, NoFullName, Ambiguous}
-use Rattle.tangle_names.specs.Names.{Text, full_names, meaning}
+use Rattle.tangle_names.specs.Names.{NameText, full_names, meaning}
 use Rattle.tangle_names.specs.Numbers.{is_number}
 use Rattle.tangle_names.specs.Resolving.{first_file_number, first_number, meanings, names_in_order, resolve, resolves_to}
-use Rattle.tangle_names.specs.Laws.{IsFirst, IsFirstFile}
+use Rattle.tangle_names.specs.Laws.{IsFirst, IsFirstAsFileIfAny}
 use Rattle.tangle_names.proofs.LawLemmas.{occur}
 use Rattle.tangle_names.proofs.MeaningLemmas.{cons_cases, no_item}
 use Rattle.tangle_names.proofs.TableLemmas.{distinct_names, is_number-means}
@@ -99,16 +99,16 @@ second : (a b : Bool) → (a && b) ≡ false → a ≡ true → b ≡ false
 second true b h is = h
 second false b h is = absurd (cc)
 
-pub file_law : (os : List OccurrenceRead) (id : ℕ) → id < length (names_in_order os) → IsFirstFile os id (first_file_number os (get_or (names_in_order os) id []))
+pub file_law : (os : List OccurrenceRead) (id : ℕ) → id < length (names_in_order os) → IsFirstAsFileIfAny os id (first_file_number os (get_or (names_in_order os) id []))
 file_law os id h = by (nat_lt (position_or_len as_file os) (length os)) refl
   where
-    name : Text
+    name : NameText
     name = get_or (names_in_order os) id []
 
     as_file : OccurrenceRead → Bool
     as_file o = o.is_file && resolves_to os name o
 
-    by : (b : Bool) → nat_lt (position_or_len as_file os) (length os) ≡ b → IsFirstFile os id (cond b (Some (position_or_len as_file os)) None)
+    by : (b : Bool) → nat_lt (position_or_len as_file os) (length os) ≡ b → IsFirstAsFileIfAny os id (cond b (Some (position_or_len as_file os)) None)
     by true is = elim (slice_get_cases os (position_or_len as_file os)).1 [
       | inl found ↦ (let passes = both found.0.is_file (resolves_to os name found.0) (found_passes as_file os found.0 found.2) in
           record {

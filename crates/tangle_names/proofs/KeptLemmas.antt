@@ -12,7 +12,7 @@ use Rattle.tangle_scan.specs.Web.{WebRead}
 use Rattle.tangle_names.specs.declared.Resolved.{Resolved}
 use Rattle.tangle_names.specs.declared.Resolved.TheVariants.{Name, NoFullName, Ambiguous}
 use Rattle.tangle_names.specs.Faults.{begins_another, prefix_fault, resolution_fault, resolution_faults, named_place_of}
-use Rattle.tangle_names.specs.Names.{Text, begins_with, full_names}
+use Rattle.tangle_names.specs.Names.{NameText, begins_with, full_names}
 use Rattle.tangle_names.specs.Numbers.{begins_another_by_number, fault_of_number, is_unresolved, numbers_from, warning, warning_of_number}
 use Rattle.tangle_names.specs.Resolving.{first_number, first_occurrence, names_in_order, resolve, resolves_to}
 use Rattle.tangle_names.specs.Sorted.{SameTexts}
@@ -31,7 +31,7 @@ numbers-cons {X} q k x xs = by (q x)
     by true = refl
     by false = refl
 
--- one item behind
+-- one item after
 numbers-push : {X : Type 0} (q : X → Bool) (k : ℕ) (xs : List X) (x : X)
     → numbers_from q k (xs ++ x ∷ []) ≡ numbers_from q k xs ++ cond (q x) ((k + length xs) ∷ []) []
 numbers-push q k [] x = numbers-cons q k x [] ∙ ap {B = List ℕ} (λ n. cond (q x) (n ∷ []) []) (sym (add-zero k))
@@ -122,7 +122,7 @@ at_position (y ∷ ys) zero x d found = cc
 at_position (y ∷ ys) (suc i) x d found = at_position ys i x d found
 
 -- the faults of occurrences
-by_what : (files : List Text) (r : Resolved) (o : OccurrenceRead) → cond (is_unresolved r) (resolution_fault files r o) [] ≡ resolution_fault files r o
+by_what : (files : List (List ℕ)) (r : Resolved) (o : OccurrenceRead) → cond (is_unresolved r) (resolution_fault files r o) [] ≡ resolution_fault files r o
 by_what files (Name id) o = refl
 by_what files NoFullName o = refl
 by_what files Ambiguous o = refl
@@ -152,41 +152,41 @@ faults_of_numbers web rs all =
 same_names : (os : List OccurrenceRead) → SameTexts (names_in_order os) (full_names os)
 same_names os = record { over = λ t. (same os t).0; back = λ t. (same os t).1 }
 
-begins_same : (os : List OccurrenceRead) (name : Text) → begins_another (full_names os) name ≡ begins_another (names_in_order os) name
-begins_same os name = any-same (λ (other : Text). begins_with name other && not (bytes_eq name other)) (names_in_order os) (full_names os) (same_names os)
+begins_same : (os : List OccurrenceRead) (name : NameText) → begins_another (full_names os) name ≡ begins_another (names_in_order os) name
+begins_same os name = any-same (λ (other : NameText). begins_with name other && not (bytes_eq name other)) (names_in_order os) (full_names os) (same_names os)
 
-pub beginnings_are : (os : List OccurrenceRead) (texts names : List Text) (flags : List Bool) (numbers : List ℕ) → SameTexts (full_names os) texts → names ≡ names_in_order os → length flags ≡ length names
+pub beginning_numbers_are : (os : List OccurrenceRead) (texts names : List NameText) (flags : List Bool) (numbers : List ℕ) → SameTexts (full_names os) texts → names ≡ names_in_order os → length flags ≡ length names
     → ((id : ℕ) → id < length names → get_or flags id false ≡ begins_another_by_number names texts id)
     → numbers ≡ numbers_from (λ b. b) 0 flags → numbers ≡ numbers_from (begins_another names) 0 names
-beginnings_are os texts names flags numbers same named long known are =
+beginning_numbers_are os texts names flags numbers same named long known are =
     are ∙ numbers-agree (λ b. b) (begins_another names) 0 flags names false [] long (λ id h.
     let inside : id < length (names_in_order os) = omega (arith, h, ap length named) in
     known id h ∙ (ap (λ ns. begins_another_by_number ns texts id) named
     ∙ (begins-known os texts id same inside ∙ (begins_same os (get_or (names_in_order os) id [])
     ∙ (λ i. begins_another (sym named i) (get_or (sym named i) id []))))))
 
-warning-is : (web : WebRead) (name : Text)
+warning-is : (web : WebRead) (name : NameText)
     → warning web (first_number web.occurrences name) name
     ≡ map (λ (o : OccurrenceRead). fault_about kind.PrefixName (named_place_of web.file_names o.origin) name) (option_to_list (first_occurrence web.occurrences name))
 warning-is web name =
     ap (λ found. map (λ (o : OccurrenceRead). fault_about kind.PrefixName (named_place_of web.file_names o.origin) name) (option_to_list found)) (sym (find_at (resolves_to web.occurrences name) web.occurrences))
 
-pub warnings_of_numbers : (web : WebRead) (names : List Text) (firsts : List ℕ) → names ≡ names_in_order web.occurrences
-    → firsts ≡ map (first_number web.occurrences) (names_in_order web.occurrences)
-    → flat_map (warning_of_number web names firsts) (numbers_from (begins_another names) 0 names) ≡ flat_map (prefix_fault web) (names_in_order web.occurrences)
-warnings_of_numbers web names firsts named positions =
-    by_number (warning_of_number web names firsts) (prefix_fault web) (begins_another names) 0 names at ∙ ap (flat_map (prefix_fault web)) named
+pub warnings_of_numbers : (web : WebRead) (names : List NameText) (first_occurrences : List ℕ) → names ≡ names_in_order web.occurrences
+    → first_occurrences ≡ map (first_number web.occurrences) (names_in_order web.occurrences)
+    → flat_map (warning_of_number web names first_occurrences) (numbers_from (begins_another names) 0 names) ≡ flat_map (prefix_fault web) (names_in_order web.occurrences)
+warnings_of_numbers web names first_occurrences named positions =
+    by_number (warning_of_number web names first_occurrences) (prefix_fault web) (begins_another names) 0 names at ∙ ap (flat_map (prefix_fault web)) named
   where
     os : List OccurrenceRead
     os = web.occurrences
 
-    at : (i : ℕ) (name : Text) → slice_get names i ≡ Some name → cond (begins_another names name) (warning_of_number web names firsts (0 + i)) [] ≡ prefix_fault web name
+    at : (i : ℕ) (name : NameText) → slice_get names i ≡ Some name → cond (begins_another names name) (warning_of_number web names first_occurrences (0 + i)) [] ≡ prefix_fault web name
     at i name found =
         let number : 0 + i ≡ i = zero-add i in
         let read : get_or names i [] ≡ name = at_position names i name [] found in
         let inside : i < length (names_in_order os) = omega (arith, inside_list names i name found, ap length named) in
-        let position : get_or firsts i 0 ≡ first_number os name =
+        let position : get_or first_occurrences i 0 ≡ first_number os name =
         ap (λ ns. get_or ns i 0) positions ∙ (get_or-map (first_number os) (names_in_order os) i [] 0 inside ∙ ap (first_number os) (ap (λ ns. get_or ns i []) (sym named) ∙ read)) in
         let marked : begins_another names name ≡ begins_another (full_names os) name = ap (λ ns. begins_another ns name) named ∙ sym (begins_same os name) in
-        let one : warning_of_number web names firsts i ≡ warning web (first_number os name) name = λ j. warning web (position j) (read j) in
-        λ j. cond (marked j) ((ap (warning_of_number web names firsts) number ∙ (one ∙ warning-is web name)) j) []
+        let one : warning_of_number web names first_occurrences i ≡ warning web (first_number os name) name = λ j. warning web (position j) (read j) in
+        λ j. cond (marked j) ((ap (warning_of_number web names first_occurrences) number ∙ (one ∙ warning-is web name)) j) []

@@ -9,18 +9,18 @@ use Rattle.std.proofs.lemmas.List.Quantifiers.{position-Some}
 use Rattle.std.proofs.lemmas.List.Sums.{prefix_len-le-length}
 use Rattle.std.proofs.lemmas.Bool.Decides.{nat_tests}
 use Rattle.std.proofs.lemmas.Slice.Eq.{bytes_eq-Decides}
-use Rattle.tangle_names.specs.Names.{Text, One}
+use Rattle.tangle_names.specs.Names.{NameText, One}
 use Rattle.tangle_names.specs.Resolving.{with_name}
 use Rattle.tangle_names.specs.Numbers.{key_texts}
 
-same_test : (keys : List (Vec ℕ Global)) (text : Text) → list_any (bytes_eq text) (key_texts keys) ≡ list_any (λ (v : Vec ℕ Global). bytes_eq text v.items) keys
+same_test : (keys : List (Vec ℕ Global)) (text : NameText) → list_any (bytes_eq text) (key_texts keys) ≡ list_any (λ (v : Vec ℕ Global). bytes_eq text v.items) keys
 same_test [] text = refl
 same_test (k ∷ keys) text = ap (λ b. bytes_eq text k.items || b) (same_test keys text)
 
-pub key_texts-present : (keys : List (Vec ℕ Global)) (text : Text) → list_any (λ (v : Vec ℕ Global). bytes_eq text v.items) keys ≡ true → key_texts keys ≡ with_name (key_texts keys) (One text)
+pub key_texts-present : (keys : List (Vec ℕ Global)) (text : NameText) → list_any (λ (v : Vec ℕ Global). bytes_eq text v.items) keys ≡ true → key_texts keys ≡ with_name (key_texts keys) (One text)
 key_texts-present keys text is = sym (ap (λ b. cond b (key_texts keys) (key_texts keys ++ text ∷ [])) (same_test keys text ∙ is))
 
-pub key_texts-insert : (keys next : List (Vec ℕ Global)) (v : Vec ℕ Global) (text : Text) → v.items ≡ text
+pub key_texts-insert : (keys next : List (Vec ℕ Global)) (v : Vec ℕ Global) (text : NameText) → v.items ≡ text
     → next ≡ cond (list_any (λ (k : Vec ℕ Global). bytes_eq v.items k.items) keys) keys (keys ++ v ∷ [])
     → key_texts next ≡ with_name (key_texts keys) (One text)
 key_texts-insert keys next v text e is =
@@ -32,7 +32,7 @@ key_texts-insert keys next v text e is =
         map_push (λ (k : Vec ℕ Global). k.items) keys v ∙ (ap (λ t. key_texts keys ++ t ∷ []) e
         ∙ sym (ap (λ b. cond b (key_texts keys) (key_texts keys ++ text ∷ [])) (same_test keys text ∙ subst (λ t. list_any (λ (k : Vec ℕ Global). bytes_eq t k.items) keys ≡ false) e found)))
 
-position-map : (keys : List (Vec ℕ Global)) (text : Text) → position_or_len (bytes_eq text) (key_texts keys) ≡ position_or_len (λ (v : Vec ℕ Global). bytes_eq text v.items) keys
+position-map : (keys : List (Vec ℕ Global)) (text : NameText) → position_or_len (bytes_eq text) (key_texts keys) ≡ position_or_len (λ (v : Vec ℕ Global). bytes_eq text v.items) keys
 position-map [] text = refl
 position-map (k ∷ keys) text = ap (λ n. cond (not (bytes_eq text k.items)) (1 + n) 0) (position-map keys text)
 
@@ -43,20 +43,20 @@ chosen n size most = by (ltb n size) refl
     by true is = refl
     by false is = grind (arith, nat_tests)
 
-pub number_is : (keys : List (Vec ℕ Global)) (text : Text) (found : Option ℕ) (len : ℕ) → found ≡ position (λ (v : Vec ℕ Global). bytes_eq text v.items) keys → len ≡ length keys
+pub number_is : (keys : List (Vec ℕ Global)) (text : NameText) (found : Option ℕ) (len : ℕ) → found ≡ position (λ (v : Vec ℕ Global). bytes_eq text v.items) keys → len ≡ length keys
     → unwrap_or found len ≡ position_or_len (bytes_eq text) (key_texts keys)
 number_is keys text found len e l =
     (λ i. unwrap_or (e i) (l i)) ∙ (chosen (position_or_len (λ (v : Vec ℕ Global). bytes_eq text v.items) keys) (length keys) (prefix_len-le-length (λ (v : Vec ℕ Global). not (bytes_eq text v.items)) keys)
     ∙ sym (position-map keys text))
 
-pub position-keys : (keys : List (Vec ℕ Global)) (text : Text) → position (λ (v : Vec ℕ Global). bytes_eq text v.items) keys ≡ position (bytes_eq text) (key_texts keys)
+pub position-keys : (keys : List (Vec ℕ Global)) (text : NameText) → position (λ (v : Vec ℕ Global). bytes_eq text v.items) keys ≡ position (bytes_eq text) (key_texts keys)
 position-keys keys text =
     let at = sym (position-map keys text) in
     let size = sym (length-map keys (λ (v : Vec ℕ Global). v.items)) in
     λ i. cond (ltb (at i) (size i)) (Some (at i)) None
 
 -- the name that is found has the text
-pub found_has_text : (names : List Text) (text : Text) (found : Option ℕ) → found ≡ position (bytes_eq text) names
+pub found_has_text : (names : List NameText) (text : NameText) (found : Option ℕ) → found ≡ position (bytes_eq text) names
     → IfSome found (λ n. (n < length names) × (get_or names n [] ≡ text))
 found_has_text names text None e = tt
 found_has_text names text (Some n) e =

@@ -7,21 +7,21 @@ use Rattle.std.proofs.lemmas.Cmp.{nat_list_eq_equiv}
 use Rattle.std.proofs.lemmas.List.Folds.{Any-from_list_any}
 use Rattle.std.proofs.lemmas.Slice.Eq.{bytes_eq-Decides}
 use Rattle.tangle_lexer.specs.Occurrences.{OccurrenceRead}
-use Rattle.tangle_names.specs.Names.{Text, Meaning, Nothing, One, Several, begins_with, full_names, meaning, means, only, only_with, prefix}
-use Rattle.tangle_names.specs.Resolving.{first_occurrence, meanings, names_in_order, resolution, resolve, resolves_to}
+use Rattle.tangle_names.specs.Names.{NameText, Meaning, Nothing, One, Several, begins_with, full_names, meaning, means, only, only_with, prefix}
+use Rattle.tangle_names.specs.Resolving.{first_occurrence, meanings, names_in_order, resolve, resolved_meaning, resolves_to}
 use Rattle.tangle_names.specs.Laws.{IsNumberOf, ResolvesFull, ResolvesPrefix}
 use Rattle.tangle_names.proofs.MeaningLemmas.{cons_cases, from-one, here, into_filter, out_of_filter, there}
 use Rattle.tangle_names.proofs.ResolvingLemmas.{meant-fold}
 use Rattle.tangle_names.proofs.TableLemmas.{Distinct, distinct_names, from_fold, into_map, names_are_full, neither, out_of_map}
 
 -- each name once
-each_other : (t : Text) (ts : List Text) → list_any (bytes_eq t) ts ≡ false → AllByRecursion (λ u. bytes_eq t u ≡ false) ts
+each_other : (t : NameText) (ts : List NameText) → list_any (bytes_eq t) ts ≡ false → AllByRecursion (λ u. bytes_eq t u ≡ false) ts
 each_other t [] h = tt
 each_other t (u ∷ us) h =
     let both = neither (bytes_eq t u) (list_any (bytes_eq t) us) h in
     (both.0, each_other t us both.1)
 
-is_distinct : (ts : List Text) → Distinct ts → IsDistinct bytes_eq ts
+is_distinct : (ts : List NameText) → Distinct ts → IsDistinct bytes_eq ts
 unfolding IsDistinct
 is_distinct [] d = tt
 is_distinct (t ∷ ts) d = (each_other t ts d.0, is_distinct ts d.1)
@@ -29,22 +29,22 @@ is_distinct (t ∷ ts) d = (each_other t ts d.0, is_distinct ts d.1)
 pub once : (os : List OccurrenceRead) → IsDistinct bytes_eq (names_in_order os)
 once os = is_distinct (names_in_order os) (distinct_names (meanings os))
 
-among : (os : List OccurrenceRead) (o : OccurrenceRead) (t : Text) → Contains os o → meaning (full_names os) o ≡ One t → list_any (bytes_eq t) (names_in_order os) ≡ true
+among : (os : List OccurrenceRead) (o : OccurrenceRead) (t : NameText) → Contains os o → meaning (full_names os) o ≡ One t → list_any (bytes_eq t) (names_in_order os) ≡ true
 among os o t c is = meant-fold t (meanings os) [] (subst (Contains (meanings os)) is (into_map (meaning (full_names os)) os o c))
 
-contains-any : (t : Text) (ts : List Text) → list_any (bytes_eq t) ts ≡ true → Contains ts t
+contains-any : (t : NameText) (ts : List NameText) → list_any (bytes_eq t) ts ≡ true → Contains ts t
 contains-any t ts h =
     let found = Any-from_list_any (bytes_eq t) ts h in
     subst (Contains ts) (sym ((bytes_eq-Decides t found.1).0 found.4)) (found.0, found.2, found.3)
 
-means_itself : (full : List Text) (o : OccurrenceRead) → o.is_abbreviation ≡ false → meaning full o ≡ One o.text
+means_itself : (full : List NameText) (o : OccurrenceRead) → o.is_abbreviation ≡ false → meaning full o ≡ One o.text
 means_itself full o is = ap (λ b. cond b (only_with full (prefix o.text)) (One o.text)) is
 
 turned : (b : Bool) → not b ≡ true → b ≡ false
 turned true h = absurd (cc)
 turned false h = refl
 
-pub same : (os : List OccurrenceRead) (t : Text) → (Contains (names_in_order os) t → Contains (full_names os) t) × (Contains (full_names os) t → Contains (names_in_order os) t)
+pub same : (os : List OccurrenceRead) (t : NameText) → (Contains (names_in_order os) t → Contains (full_names os) t) × (Contains (full_names os) t → Contains (names_in_order os) t)
 same os t = (
   names_are_full os t,
   λ c.
@@ -54,12 +54,12 @@ same os t = (
 )
 
 -- the number of a name
-number-later : (t u : Text) (us : List Text) → IsNumberOf us (position_or_len (bytes_eq t) us) t → IsNumberOf (u ∷ us) (1 + position_or_len (bytes_eq t) us) t
+number-later : (t u : NameText) (us : List NameText) → IsNumberOf us (position_or_len (bytes_eq t) us) t → IsNumberOf (u ∷ us) (1 + position_or_len (bytes_eq t) us) t
 number-later t u us n =
     let moved : 1 + position_or_len (bytes_eq t) us ≡ suc (position_or_len (bytes_eq t) us) = omega arith in
     record { inside = omega (arith, n.inside); at = ap (λ k. get_or (u ∷ us) k []) moved ∙ n.at }
 
-number-either : (t u : Text) (us : List Text) → list_any (bytes_eq t) (u ∷ us) ≡ true
+number-either : (t u : NameText) (us : List NameText) → list_any (bytes_eq t) (u ∷ us) ≡ true
     → (list_any (bytes_eq t) us ≡ true → IsNumberOf us (position_or_len (bytes_eq t) us) t) → IsNumberOf (u ∷ us) (position_or_len (bytes_eq t) (u ∷ us)) t
 number-either t u us h rest = by (bytes_eq t u) refl
   where
@@ -69,16 +69,16 @@ number-either t u us h rest = by (bytes_eq t u) refl
     by false is = subst (λ b. IsNumberOf (u ∷ us) (cond (not b) (1 + position_or_len (bytes_eq t) us) 0) t) (sym is)
         (number-later t u us (rest (ap (λ b. b || list_any (bytes_eq t) us) (sym is) ∙ h)))
 
-number-at : (t : Text) (ts : List Text) → list_any (bytes_eq t) ts ≡ true → IsNumberOf ts (position_or_len (bytes_eq t) ts) t
+number-at : (t : NameText) (ts : List NameText) → list_any (bytes_eq t) ts ≡ true → IsNumberOf ts (position_or_len (bytes_eq t) ts) t
 number-at t [] h = absurd (cc)
 number-at t (u ∷ us) h = number-either t u us h (number-at t us)
 
 pub full_law : (os : List OccurrenceRead) (o : OccurrenceRead) → Contains os o → o.is_abbreviation ≡ false → ResolvesFull (names_in_order os) o.text (resolve os o)
 full_law os o c is =
     let itself = means_itself (full_names os) o is in
-    subst (λ m. ResolvesFull (names_in_order os) o.text (resolution (names_in_order os) m)) (sym itself) (number-at o.text (names_in_order os) (among os o o.text c itself))
+    subst (λ m. ResolvesFull (names_in_order os) o.text (resolved_meaning (names_in_order os) m)) (sym itself) (number-at o.text (names_in_order os) (among os o o.text c itself))
 
-from-nothing : (xs : List Text) → Nothing ≡ only xs → (t : Text) → Contains xs t → ⊥
+from-nothing : (xs : List NameText) → Nothing ≡ only xs → (t : NameText) → Contains xs t → ⊥
 from-nothing [] e t c = omega (arith, c.1)
 from-nothing (x ∷ xs) e t c = by (list_all (bytes_eq x) xs) e
   where
@@ -86,25 +86,25 @@ from-nothing (x ∷ xs) e t c = by (list_all (bytes_eq x) xs) e
     by true f = cc
     by false f = cc
 
-fails-either : (q : Text → Bool) (x : Text) (xs : List Text) → list_all q (x ∷ xs) ≡ false → (list_all q xs ≡ false → (v : Text) × Contains xs v × (q v ≡ false))
-    → (v : Text) × Contains (x ∷ xs) v × (q v ≡ false)
+fails-either : (q : NameText → Bool) (x : NameText) (xs : List NameText) → list_all q (x ∷ xs) ≡ false → (list_all q xs ≡ false → (v : NameText) × Contains xs v × (q v ≡ false))
+    → (v : NameText) × Contains (x ∷ xs) v × (q v ≡ false)
 fails-either q x xs h rest = by (q x) refl
   where
-    by : (b : Bool) → q x ≡ b → (v : Text) × Contains (x ∷ xs) v × (q v ≡ false)
+    by : (b : Bool) → q x ≡ b → (v : NameText) × Contains (x ∷ xs) v × (q v ≡ false)
     by true is =
         let found = rest (ap (λ b. b && list_all q xs) (sym is) ∙ h) in
         (found.0, there x xs found.0 found.1, found.2)
     by false is = (x, here x xs, is)
 
-fails : (q : Text → Bool) (xs : List Text) → list_all q xs ≡ false → (v : Text) × Contains xs v × (q v ≡ false)
+fails : (q : NameText → Bool) (xs : List NameText) → list_all q xs ≡ false → (v : NameText) × Contains xs v × (q v ≡ false)
 fails q [] h = absurd (cc)
 fails q (x ∷ xs) h = fails-either q x xs h (fails q xs)
 
-from-several : (xs : List Text) → Several ≡ only xs → (t : Text) × (u : Text) × Contains xs t × Contains xs u × (t ≢ u)
+from-several : (xs : List NameText) → Several ≡ only xs → (t : NameText) × (u : NameText) × Contains xs t × Contains xs u × (t ≢ u)
 from-several [] e = absurd (cc)
 from-several (x ∷ xs) e = by (list_all (bytes_eq x) xs) refl
   where
-    by : (b : Bool) → list_all (bytes_eq x) xs ≡ b → (t : Text) × (u : Text) × Contains (x ∷ xs) t × Contains (x ∷ xs) u × (t ≢ u)
+    by : (b : Bool) → list_all (bytes_eq x) xs ≡ b → (t : NameText) × (u : NameText) × Contains (x ∷ xs) t × Contains (x ∷ xs) u × (t ≢ u)
     by true is = absurd (let clash : Several ≡ One x = e ∙ ap (λ b. cond b (One x) Several) is in cc)
     by false is =
         let found = fails (bytes_eq x) xs is in
@@ -114,8 +114,8 @@ is_not : (b : Bool) → (b ≡ true → ⊥) → b ≡ false
 is_not true h = absurd (h refl)
 is_not false h = refl
 
-prefix_law-by : (os : List OccurrenceRead) (p : Text) (m : Meaning) → m ≡ only_with (full_names os) p → ((t : Text) → m ≡ One t → list_any (bytes_eq t) (names_in_order os) ≡ true)
-    → ResolvesPrefix (names_in_order os) (full_names os) p (resolution (names_in_order os) m)
+prefix_law-by : (os : List OccurrenceRead) (p : NameText) (m : Meaning) → m ≡ only_with (full_names os) p → ((t : NameText) → m ≡ One t → list_any (bytes_eq t) (names_in_order os) ≡ true)
+    → ResolvesPrefix (names_in_order os) (full_names os) p (resolved_meaning (names_in_order os) m)
 prefix_law-by os p Nothing e named = λ t c. is_not _ (λ begun. from-nothing (filter (begins_with p) (full_names os)) e t (into_filter (begins_with p) (full_names os) t c begun))
 prefix_law-by os p (One t) e named =
     let found = from-one (filter (begins_with p) (full_names os)) t e in
@@ -151,7 +151,7 @@ found_first q (p ∷ os) o c h = by (q p) refl (elim (cons_cases p os o c) as (�
     by true is rest = subst (λ b. IsSome (cond b (Some p) (find q os))) (sym is) refl
     by false is rest = subst (λ b. IsSome (cond b (Some p) (find q os))) (sym is) (rest is)
 
-pub occur : (os : List OccurrenceRead) (t : Text) → Contains (names_in_order os) t → IsSome (first_occurrence os t)
+pub occur : (os : List OccurrenceRead) (t : NameText) → Contains (names_in_order os) t → IsSome (first_occurrence os t)
 occur os = from_fold (λ t. IsSome (first_occurrence os t)) (meanings os) [] (λ t c. absurd (omega (arith, c.1))) (λ m t c e.
     let o = out_of_map (meaning (full_names os)) os m c in
     found_first (resolves_to os t) os o.0 o.1 (ap (means t) (o.2 ∙ e) ∙ nat_list_eq_equiv.refl t))

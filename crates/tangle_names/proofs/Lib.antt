@@ -7,6 +7,6 @@ mod MeaningLemmas
 mod NumberLemmas
 mod OrderLemmas
 mod ResolvingLemmas
-mod Rows
 mod SortedLemmas
 mod TableLemmas
+mod WorkedWebs

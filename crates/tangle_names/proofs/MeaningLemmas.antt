@@ -5,7 +5,7 @@ use Rattle.std.proofs.lemmas.List.Folds.{list_any-from_Any}
 use Rattle.std.specs.Str.{bytes_eq}
 use Rattle.std.proofs.lemmas.Slice.Eq.{bytes_eq-Decides}
 use Rattle.std.proofs.lemmas.List.Elements.{All-cons, All-nil, Contains-append_right, Contains-append_cases, All-contains, All-filter, All-contains_itself, filter_passes}
-use Rattle.tangle_names.specs.Names.{Text, Nothing, One, Several, only}
+use Rattle.tangle_names.specs.Names.{NameText, Nothing, One, Several, only}
 
 pub here : {X : Type 0} (x : X) (xs : List X) → Contains (x ∷ xs) x
 here x xs = (0, omega arith, refl)
@@ -62,36 +62,36 @@ out_of_filter q xs t c = (
   All-contains (λ x. q x ≡ true) (filter q xs) t (filter_passes q xs) c,
 )
 
-pub only-nothing : (xs : List Text) → ((t : Text) → Contains xs t → ⊥) → Nothing ≡ only xs
+pub only-nothing : (xs : List NameText) → ((t : NameText) → Contains xs t → ⊥) → Nothing ≡ only xs
 only-nothing [] h = refl
 only-nothing (x ∷ xs) h = absurd (h x (here x xs))
 
-pub only-one : (xs : List Text) (t : Text) → Contains xs t → ((u : Text) → Contains xs u → u ≡ t) → One t ≡ only xs
+pub only-one : (xs : List NameText) (t : NameText) → Contains xs t → ((u : NameText) → Contains xs u → u ≡ t) → One t ≡ only xs
 only-one [] t c h = absurd (no_item t c)
 only-one (x ∷ xs) t c h =
     let first : x ≡ t = h x (here x xs) in
     let same : list_all (bytes_eq x) xs ≡ true = list_all-from (bytes_eq x) xs (λ u d. (bytes_eq-Decides x u).1 (first ∙ sym (h u (there x xs u d)))) in
     ap One (sym first) ∙ sym (ap (λ b. cond b (One x) Several) same)
 
-pub only-several : (xs : List Text) (t u : Text) → Contains xs t → Contains xs u → t ≢ u → Several ≡ only xs
+pub only-several : (xs : List NameText) (t u : NameText) → Contains xs t → Contains xs u → t ≢ u → Several ≡ only xs
 only-several [] t u c d apart = absurd (no_item t c)
 only-several (x ∷ xs) t u c d apart = by (list_all (bytes_eq x) xs) refl
   where
-    as_first : list_all (bytes_eq x) xs ≡ true → (v : Text) → Contains (x ∷ xs) v → x ≡ v
+    as_first : list_all (bytes_eq x) xs ≡ true → (v : NameText) → Contains (x ∷ xs) v → x ≡ v
     as_first h v e = elim (cons_cases x xs v e) [ inl f ↦ f | inr f ↦ (bytes_eq-Decides x v).0 (list_all-at (bytes_eq x) xs v h f) ]
 
     by : (b : Bool) → list_all (bytes_eq x) xs ≡ b → Several ≡ cond (list_all (bytes_eq x) xs) (One x) Several
     by true h = absurd (apart (sym (as_first h t c) ∙ as_first h u d))
     by false h = sym (ap (λ b. cond b (One x) Several) h)
 
-as_first : (x : Text) (xs : List Text) → list_all (bytes_eq x) xs ≡ true → (v : Text) → Contains (x ∷ xs) v → x ≡ v
+as_first : (x : NameText) (xs : List NameText) → list_all (bytes_eq x) xs ≡ true → (v : NameText) → Contains (x ∷ xs) v → x ≡ v
 as_first x xs h v e = elim (cons_cases x xs v e) [ inl f ↦ f | inr f ↦ (bytes_eq-Decides x v).0 (list_all-at (bytes_eq x) xs v h f) ]
 
-pub from-one : (xs : List Text) (u : Text) → One u ≡ only xs → Contains xs u × ((v : Text) → Contains xs v → u ≡ v)
+pub from-one : (xs : List NameText) (u : NameText) → One u ≡ only xs → Contains xs u × ((v : NameText) → Contains xs v → u ≡ v)
 from-one [] u e = absurd (cc)
 from-one (x ∷ xs) u e = by (list_all (bytes_eq x) xs) refl
   where
-    by : (b : Bool) → list_all (bytes_eq x) xs ≡ b → Contains (x ∷ xs) u × ((v : Text) → Contains (x ∷ xs) v → u ≡ v)
+    by : (b : Bool) → list_all (bytes_eq x) xs ≡ b → Contains (x ∷ xs) u × ((v : NameText) → Contains (x ∷ xs) v → u ≡ v)
     by true h =
         let one : One u ≡ One x = e ∙ ap (λ b. cond b (One x) Several) h in
         let same : u ≡ x = cc in

@@ -11,10 +11,10 @@ use Rattle.tangle_faults.specs.Faults.{fault_about}
 use Rattle.tangle_scan.specs.Web.{WebRead}
 use Rattle.tangle_lexer.specs.Occurrences.{OccurrenceRead}
 use Rattle.std.specs.List.{list_any, position_or_len}
-use Rattle.tangle_names.specs.Names.{Text, One}
-use Rattle.tangle_names.specs.Resolving.{resolution}
+use Rattle.tangle_names.specs.Names.{NameText, One}
+use Rattle.tangle_names.specs.Resolving.{resolved_meaning}
 use Rattle.tangle_names.specs.Faults.{begins_another, resolution_fault, named_place_of}
-use Rattle.tangle_names.specs.Numbers.{is_number, is_counted, first_by_number, NotesNumber, Flags, fault_of_number, warning}
+use Rattle.tangle_names.specs.Numbers.{is_number, is_counted, first_by_number, SetsNumber, Flags, fault_of_number, warning}
 
 resolved_at : (f : OccurrenceRead → Resolved) (os : List OccurrenceRead) (rs : List Resolved) (i : ℕ) (o : OccurrenceRead) (r : Resolved) → i < length os → o ≡ get_or os i o
     → rs ≡ map f os → r ≡ get_or rs i r → r ≡ f o
@@ -31,13 +31,13 @@ first_at q os i o h read =
     by true = omega arith
     by false = omega arith
 
-pub number_step : (f : OccurrenceRead → Resolved) (counted : Counted) (os : List OccurrenceRead) (rs : List Resolved) (i id : ℕ) (o : OccurrenceRead) (r : Resolved) (counts : Bool) (old new : List ℕ)
-    → i < length os → o ≡ get_or os i o → rs ≡ map f os → r ≡ get_or rs i r → counts ≡ is_counted counted o → id < length old
-    → get_or old id 0 ≡ i + 1 + first_by_number f counted (drop (i + 1) os) id → NotesNumber old new counts i r
+pub number_step : (f : OccurrenceRead → Resolved) (counted : Counted) (os : List OccurrenceRead) (rs : List Resolved) (i id : ℕ) (o : OccurrenceRead) (r : Resolved) (included : Bool) (old new : List ℕ)
+    → i < length os → o ≡ get_or os i o → rs ≡ map f os → r ≡ get_or rs i r → included ≡ is_counted counted o → id < length old
+    → get_or old id 0 ≡ i + 1 + first_by_number f counted (drop (i + 1) os) id → SetsNumber old new included i r
     → get_or new id 0 ≡ i + first_by_number f counted (drop i os) id
-number_step f counted os rs i id o r counts old new h read all at is within sofar notes =
+number_step f counted os rs i id o r included old new h read all at is within sofar is_set =
     let resolved = resolved_at f os rs i o r h read all at in
-    notes.numbers id within ∙ ((λ j. cond (is j && is_number id (resolved j)) i (sofar j)) ∙ sym (first_at (λ (o : OccurrenceRead). is_counted counted o && is_number id (f o)) os i o h read))
+    is_set.numbers id within ∙ ((λ j. cond (is j && is_number id (resolved j)) i (sofar j)) ∙ sym (first_at (λ (o : OccurrenceRead). is_counted counted o && is_number id (f o)) os i o h read))
 
 pub flags-made : (old new : List Bool) (r s : Resolved) (b : Bool) → Flags old new true r → b ≡ true → r ≡ s → Flags old new b s
 flags-made old new r s b flags is same = record {
@@ -56,16 +56,16 @@ flags-kept old r b is = record {
     none false = refl
 
 -- one more name that may begin another
-pub beginning_step : (texts names : List Text) (i id : ℕ) (old new : List Bool) → i < length texts → id < length old
-    → get_or old id false ≡ list_any (λ (t : Text). begins_another texts t && is_number id (resolution names (One t))) (take i texts)
-    → Flags old new (begins_another texts (get_or texts i [])) (resolution names (One (get_or texts i [])))
-    → get_or new id false ≡ list_any (λ (t : Text). begins_another texts t && is_number id (resolution names (One t))) (take (i + 1) texts)
+pub beginning_step : (texts names : List NameText) (i id : ℕ) (old new : List Bool) → i < length texts → id < length old
+    → get_or old id false ≡ list_any (λ (t : NameText). begins_another texts t && is_number id (resolved_meaning names (One t))) (take i texts)
+    → Flags old new (begins_another texts (get_or texts i [])) (resolved_meaning names (One (get_or texts i [])))
+    → get_or new id false ≡ list_any (λ (t : NameText). begins_another texts t && is_number id (resolved_meaning names (One t))) (take (i + 1) texts)
 beginning_step texts names i id old new inside h sofar flags =
-    let test : Text → Bool = λ (t : Text). begins_another texts t && is_number id (resolution names (One t)) in
+    let test : NameText → Bool = λ (t : NameText). begins_another texts t && is_number id (resolved_meaning names (One t)) in
     flags.flags id h ∙ (ap (λ b. b || test (get_or texts i [])) sofar ∙ sym (list_any_more test texts i [] inside))
 
 -- no occurrence, no warning and no fault
-pub no_warning : (web : WebRead) (first : ℕ) (name : Text) → length web.occurrences ≤ first → warning web first name ≡ []
+pub no_warning : (web : WebRead) (first : ℕ) (name : NameText) → length web.occurrences ≤ first → warning web first name ≡ []
 no_warning web first name past =
     ap (λ found. map (λ (o : OccurrenceRead). fault_about kind.PrefixName (named_place_of web.file_names o.origin) name) (option_to_list found)) (slice_get_past web.occurrences first past)
 

@@ -4,14 +4,14 @@ use Rattle.std.specs.Ordering.{nat_cmp, ordering_then, is_lt, is_gt}
 use Rattle.std.specs.declared.cmp.Ordering.{Ordering}
 use Rattle.std.specs.Cmp.Lexicographic.{slice_cmp}
 use Rattle.std.proofs.lemmas.Bool.Decides.{nat_tests}
-use Rattle.tangle_names.specs.Names.{Text, begins_with}
+use Rattle.tangle_names.specs.Names.{NameText, begins_with}
 
 step_above : (b c : ℕ) (r : Ordering) (e : Bool) → (e ≡ true → is_lt r ≡ false)
     → (nat_eq c b && e) ≡ true → is_lt (ordering_then (nat_cmp b c) r) ≡ false
 step_above b c r e more begun = grind (arith, nat_tests)
 
 -- a text that begins with the prefix isn't below it
-pub begins-above : (p t : Text) → begins_with p t ≡ true → is_lt (slice_cmp nat_cmp t p) ≡ false
+pub begins-above : (p t : NameText) → begins_with p t ≡ true → is_lt (slice_cmp nat_cmp t p) ≡ false
 begins-above [] [] begun = refl
 begins-above [] (b ∷ t) begun = refl
 begins-above (c ∷ p) [] begun = absurd (cc)
@@ -23,7 +23,7 @@ step_between : (a b c : ℕ) (r s : Ordering) (d e : Bool) → (is_lt r ≡ fals
 step_between a b c r s d e more low high begun = grind (arith, nat_tests)
 
 -- a text that lies between a prefix and a text that begins with it begins with it, too
-pub begins-between : (p t u : Text) → is_lt (slice_cmp nat_cmp t p) ≡ false → is_gt (slice_cmp nat_cmp t u) ≡ false
+pub begins-between : (p t u : NameText) → is_lt (slice_cmp nat_cmp t p) ≡ false → is_gt (slice_cmp nat_cmp t u) ≡ false
     → begins_with p u ≡ true → begins_with p t ≡ true
 begins-between [] t u low high begun = refl
 begins-between (c ∷ p) [] u low high begun = absurd (cc)

@@ -1,5 +1,5 @@
 -- The faults of names.
-use Rattle.std.specs.Prelude.{Bool, not, List, [], ◌∷◌, ◌++◌, option_to_list, flat_map, map, ◌&&◌, slice_index_or, if◌then◌else◌}
+use Rattle.std.specs.Prelude.{ℕ, Bool, not, List, [], ◌∷◌, ◌++◌, option_to_list, flat_map, map, ◌&&◌, slice_index_or, if◌then◌else◌}
 use Rattle.std.specs.List.{list_any}
 use Rattle.std.specs.Str.{bytes_eq}
 use Rattle.tangle_names.specs.declared.Resolved.{Resolved}
@@ -9,29 +9,29 @@ use Rattle.tangle_faults.specs.declared.faults.FaultKind.TheVariants as kind
 use Rattle.tangle_faults.specs.Faults.{FaultRead, PlaceRead, fault_about}
 use Rattle.tangle_scan.specs.Web.{WebRead}
 use Rattle.tangle_lexer.specs.Occurrences.{OccurrenceRead}
-use Rattle.tangle_names.specs.Names.{Text, full_names, begins_with}
+use Rattle.tangle_names.specs.Names.{NameText, full_names, begins_with}
 use Rattle.tangle_names.specs.Resolving.{names_in_order, resolve, first_occurrence}
 
 -- the line of an origin, by its file's name
-abbrev pub named_place_of : List Text → Origin → PlaceRead
+abbrev pub named_place_of : List (List ℕ) → Origin → PlaceRead
 named_place_of files origin = record { file = slice_index_or files origin.file []; line = origin.line }
 
 -- the fault of an occurrence that resolves to no name
-abbrev pub resolution_fault : List Text → Resolved → OccurrenceRead → List FaultRead
+abbrev pub resolution_fault : List (List ℕ) → Resolved → OccurrenceRead → List FaultRead
 resolution_fault files (Name id) o = []
 resolution_fault files NoFullName o = fault_about kind.NoFullName (named_place_of files o.origin) o.text ∷ []
 resolution_fault files Ambiguous o = fault_about kind.Ambiguous (named_place_of files o.origin) o.text ∷ []
 
 -- the faults of the occurrences, by what each resolves to
-abbrev pub resolution_faults : List Text → (OccurrenceRead → Resolved) → List OccurrenceRead → List FaultRead
+abbrev pub resolution_faults : List (List ℕ) → (OccurrenceRead → Resolved) → List OccurrenceRead → List FaultRead
 resolution_faults files f os = flat_map (λ o. resolution_fault files (f o) o) os
 
 -- another of the names begins with the name
-abbrev pub begins_another : List Text → Text → Bool
+abbrev pub begins_another : List NameText → NameText → Bool
 begins_another full name = list_any (λ other. begins_with name other && not (bytes_eq name other)) full
 
 -- the warning for a name that begins another, at its first occurrence
-abbrev pub prefix_fault : WebRead → Text → List FaultRead
+abbrev pub prefix_fault : WebRead → NameText → List FaultRead
 prefix_fault web name = if begins_another (full_names web.occurrences) name
     then map (λ o. fault_about kind.PrefixName (named_place_of web.file_names o.origin) name)
     (option_to_list (first_occurrence web.occurrences name))

@@ -3,22 +3,22 @@ use Rattle.std.specs.Prelude.{◌≡◌, ◌≢◌, ◌<◌, ℕ, true, false, L
 use Rattle.tangle_names.specs.declared.Resolved.{Resolved}
 use Rattle.tangle_names.specs.declared.Resolved.TheVariants.{Name, NoFullName, Ambiguous}
 use Rattle.tangle_lexer.specs.Occurrences.{OccurrenceRead}
-use Rattle.tangle_names.specs.Names.{Text, begins_with}
+use Rattle.tangle_names.specs.Names.{NameText, begins_with}
 use Rattle.tangle_names.specs.Resolving.{resolve}
 
 -- the name with this number has this text
-pub record IsNumberOf (names : List Text) (id : ℕ) (text : Text) : Type 0 where
+pub record IsNumberOf (names : List NameText) (id : ℕ) (text : NameText) : Type 0 where
   pub inside : id < length names
   pub at : slice_index_or names id [] ≡ text
 
 -- of the full names this one alone begins with the prefix
-pub record IsOnlyWith (full : List Text) (p name : Text) : Type 0 where
+pub record IsOnlyWith (full : List NameText) (p name : NameText) : Type 0 where
   pub is_full : Contains full name
   pub begins : begins_with p name ≡ true
-  pub only : (other : Text) → Contains full other → begins_with p other ≡ true → other ≡ name
+  pub only : (other : NameText) → Contains full other → begins_with p other ≡ true → other ≡ name
 
 -- of the full names these two begin with the prefix, and they differ
-pub record BothBegin (full : List Text) (p name other : Text) : Type 0 where
+pub record BothBegin (full : List NameText) (p name other : NameText) : Type 0 where
   pub first_is_full : Contains full name
   pub second_is_full : Contains full other
   pub first_begins : begins_with p name ≡ true
@@ -26,16 +26,16 @@ pub record BothBegin (full : List Text) (p name other : Text) : Type 0 where
   pub differ : name ≢ other
 
 -- what a full name resolves to: the number of its own text
-abbrev pub ResolvesFull : List Text → Text → Resolved → Type 0
+abbrev pub ResolvesFull : List NameText → NameText → Resolved → Type 0
 ResolvesFull names text (Name id) = IsNumberOf names id text
 ResolvesFull names text NoFullName = ⊥
 ResolvesFull names text Ambiguous = ⊥
 
 -- what an abbreviation with the prefix resolves to: the number of the one full name that begins with it, if there is exactly one
-abbrev pub ResolvesPrefix : List Text → List Text → Text → Resolved → Type 0
-ResolvesPrefix names full p (Name id) = (name : Text) × IsNumberOf names id name × IsOnlyWith full p name
-ResolvesPrefix names full p NoFullName = (name : Text) → Contains full name → begins_with p name ≡ false
-ResolvesPrefix names full p Ambiguous = (name : Text) × (other : Text) × BothBegin full p name other
+abbrev pub ResolvesPrefix : List NameText → List NameText → NameText → Resolved → Type 0
+ResolvesPrefix names full p (Name id) = (name : NameText) × IsNumberOf names id name × IsOnlyWith full p name
+ResolvesPrefix names full p NoFullName = (name : NameText) → Contains full name → begins_with p name ≡ false
+ResolvesPrefix names full p Ambiguous = (name : NameText) × (other : NameText) × BothBegin full p name other
 
 -- the occurrence with this number resolves to the name, and no earlier one does
 pub record IsFirst (os : List OccurrenceRead) (id number : ℕ) : Type 0 where
@@ -53,6 +53,6 @@ pub record IsFirstAsFile (os : List OccurrenceRead) (id number : ℕ) : Type 0 w
   pub no_earlier : (n : ℕ) (o : OccurrenceRead) → n < number → slice_get os n ≡ Some o → o.is_file ≡ true → resolve os o ≢ Name id
 
 -- the number of a name's first occurrence as a file; there is none only where no occurrence with `@(` resolves to it
-abbrev pub IsFirstFile : List OccurrenceRead → ℕ → Option ℕ → Type 0
-IsFirstFile os id (Some number) = IsFirstAsFile os id number
-IsFirstFile os id None = (o : OccurrenceRead) → Contains os o → o.is_file ≡ true → resolve os o ≢ Name id
+abbrev pub IsFirstAsFileIfAny : List OccurrenceRead → ℕ → Option ℕ → Type 0
+IsFirstAsFileIfAny os id (Some number) = IsFirstAsFile os id number
+IsFirstAsFileIfAny os id None = (o : OccurrenceRead) → Contains os o → o.is_file ≡ true → resolve os o ≢ Name id

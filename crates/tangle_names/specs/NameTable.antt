@@ -4,14 +4,14 @@ use Rattle.tangle_names.specs.declared.Resolved.{Resolved}
 use Rattle.tangle_faults.specs.Faults.{FaultRead}
 use Rattle.tangle_lexer.specs.Occurrences.{OccurrenceRead}
 use Rattle.tangle_scan.specs.Web.{WebRead}
-use Rattle.tangle_names.specs.Names.{Text}
+use Rattle.tangle_names.specs.Names.{NameText}
 use Rattle.tangle_names.specs.Resolving.{first_file_number, first_number, names_in_order, resolve}
 use Rattle.tangle_names.specs.Faults.{faults}
 
 -- The full names, what each occurrence resolves to, for each name the number of its first occurrence and of its first one
 -- as a file, and the faults.
 pub record TableRead : Type 0 where
-  pub names : List Text
+  pub names : List NameText
   pub resolved : List Resolved
   pub first_occurrences : List ℕ
   pub first_file_occurrences : List (Option ℕ)
@@ -38,9 +38,9 @@ table_over os faults = record {
 }
 
 -- how an occurrence is written: its text, whether it is an abbreviation, and whether it has `@(`
-abbrev pub written_name : OccurrenceRead → Text × Bool × Bool
-written_name o = (o.text, o.is_abbreviation, o.is_file)
+abbrev pub written_form : OccurrenceRead → NameText × Bool × Bool
+written_form o = (o.text, o.is_abbreviation, o.is_file)
 
 -- there are as many old occurrences as new ones, and each is written as the new one of its number
 abbrev pub AreWrittenAlike : List OccurrenceRead → List OccurrenceRead → Type 0
-AreWrittenAlike old new = map written_name old ≡ map written_name new
+AreWrittenAlike old new = map written_form old ≡ map written_form new

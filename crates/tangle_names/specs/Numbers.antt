@@ -13,12 +13,12 @@ use Rattle.tangle_faults.specs.Faults.{fault_about, FaultRead}
 use Rattle.tangle_scan.specs.Web.{WebRead}
 use Rattle.tangle_lexer.specs.Occurrences.{OccurrenceRead}
 use Rattle.tangle_names.specs.Faults.{resolution_fault, named_place_of}
-use Rattle.tangle_names.specs.Names.{Text, One}
-use Rattle.tangle_names.specs.Resolving.{resolution}
+use Rattle.tangle_names.specs.Names.{NameText, One}
+use Rattle.tangle_names.specs.Resolving.{resolved_meaning}
 use Rattle.tangle_names.specs.Faults.{begins_another}
 
 -- the texts of the names of a set, in its order
-abbrev pub key_texts : List (Vec ℕ Global) → List Text
+abbrev pub key_texts : List (Vec ℕ Global) → List NameText
 key_texts keys = map (λ (v : Vec ℕ Global). v.items) keys
 
 -- it resolves to the name with this number
@@ -43,11 +43,11 @@ is_counted Uses o = is_use o.role
 abbrev pub first_by_number : (OccurrenceRead → Resolved) → Counted → List OccurrenceRead → ℕ → ℕ
 first_by_number f counted os id = position_or_len (λ o. is_counted counted o && is_number id (f o)) os
 
--- the name that is resolved to has this number in place of its own, if the occurrence counts
-pub record NotesNumber (old new : List ℕ) (counts : Bool) (number : ℕ) (resolved : Resolved) : Type 0 where
+-- the name that is resolved to has this number instead of its own, if the occurrence is counted
+pub record SetsNumber (old new : List ℕ) (is_included : Bool) (number : ℕ) (resolved : Resolved) : Type 0 where
   pub size : length new ≡ length old
   pub numbers : (id : ℕ) → id < length old → slice_index_or new id 0
-      ≡ (if counts && is_number id resolved then number else slice_index_or old id 0)
+      ≡ (if is_included && is_number id resolved then number else slice_index_or old id 0)
 
 -- a number below the count
 abbrev pub number_below : ℕ → ℕ → Option ℕ
@@ -76,16 +76,16 @@ fault_of_number web resolved n =
     (option_to_list (slice_get web.occurrences n))
 
 -- the warning for a name that begins another and whose first occurrence has this number
-abbrev pub warning : WebRead → ℕ → Text → List FaultRead
+abbrev pub warning : WebRead → ℕ → NameText → List FaultRead
 warning web first name =
     map (λ o. fault_about kind.PrefixName (named_place_of web.file_names o.origin) name)
     (option_to_list (slice_get web.occurrences first))
 
 -- the warning for the name with this number
-abbrev pub warning_of_number : WebRead → List Text → List ℕ → ℕ → List FaultRead
-warning_of_number web names firsts id =
-    warning web (slice_index_or firsts id 0) (slice_index_or names id [])
+abbrev pub warning_of_number : WebRead → List NameText → List ℕ → ℕ → List FaultRead
+warning_of_number web names first_occurrences id =
+    warning web (slice_index_or first_occurrences id 0) (slice_index_or names id [])
 
 -- the name with this number begins another of the texts
-abbrev pub begins_another_by_number : List Text → List Text → ℕ → Bool
-begins_another_by_number names texts id = list_any (λ t. begins_another texts t && is_number id (resolution names (One t))) texts
+abbrev pub begins_another_by_number : List NameText → List NameText → ℕ → Bool
+begins_another_by_number names texts id = list_any (λ t. begins_another texts t && is_number id (resolved_meaning names (One t))) texts

@@ -13,21 +13,21 @@ abbrev pub table_read : Resolution → List FaultRead → TableRead
 table_read r faults = record {
   names = key_texts r.names.keys;
   resolved = r.resolved.items;
-  first_occurrences = r.firsts.items;
-  first_file_occurrences = map (number_below (length r.resolved.items)) r.first_files.items;
+  first_occurrences = r.first_occurrences.items;
+  first_file_occurrences = map (number_below (length r.resolved.items)) r.first_file_occurrences.items;
   faults = faults;
 }
 
 -- The names and what resolves to them give the numbers that are kept besides: each name has a first
 -- occurrence, and the occurrences without a name and the names that begin others are listed.
-pub record IsWellKept (r : Resolution) : Type 0 where
-  pub firsts : length r.firsts.items ≡ length r.names.keys
-  pub first_files : length r.first_files.items ≡ length r.names.keys
+pub record ResolutionInvariant (r : Resolution) : Type 0 where
+  pub first_occurrences : length r.first_occurrences.items ≡ length r.names.keys
+  pub first_file_occurrences : length r.first_file_occurrences.items ≡ length r.names.keys
   pub unresolved : r.unresolved.items ≡ numbers_from is_unresolved 0 r.resolved.items
-  pub beginnings : r.beginnings.items
+  pub beginning_numbers : r.beginning_numbers.items
       ≡ numbers_from (begins_another (key_texts r.names.keys)) 0 (key_texts r.names.keys)
 
 -- it is what the occurrences resolve to
 pub record IsResolutionOf (os : List OccurrenceRead) (r : Resolution) : Type 0 where
   pub table : table_read r [] ≡ table_over os []
-  pub kept : IsWellKept r
+  pub kept : ResolutionInvariant r

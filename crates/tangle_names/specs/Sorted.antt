@@ -6,11 +6,11 @@ use Rattle.std.specs.List.Sorted.{IsStrictlySortedBy}
 use Rattle.std.specs.Borrow.{Bor}
 use Rattle.tangle_names.specs.declared.sorted.Meaning.{Meaning as Found}
 use Rattle.tangle_names.specs.declared.sorted.Meaning.TheVariants as found
-use Rattle.tangle_names.specs.Names.{Text, Meaning, Nothing, One, Several, begins_with}
+use Rattle.tangle_names.specs.Names.{NameText, Meaning, Nothing, One, Several, begins_with}
 
 -- the texts that slices show
-abbrev pub borrowed_names : List (Bor Text) → List Text
-borrowed_names slices = map (λ (b : Bor Text). b.now) slices
+abbrev pub borrowed_names : List (Bor NameText) → List NameText
+borrowed_names slices = map (λ (b : Bor NameText). b.now) slices
 
 -- a meaning, as the code has it
 abbrev pub meaning_of : Found → Meaning
@@ -19,14 +19,14 @@ meaning_of (found.One text) = One text.now
 meaning_of found.Several = Several
 
 -- each text is below the next one
-abbrev pub IsInOrder : List Text → Type 0
+abbrev pub IsInOrder : List NameText → Type 0
 IsInOrder texts = IsStrictlySortedBy (slice_cmp nat_cmp) texts
 
 -- the two lists have the same texts
-pub record SameTexts (xs ys : List Text) : Type 0 where
-  pub over : (t : Text) → Contains xs t → Contains ys t
-  pub back : (t : Text) → Contains ys t → Contains xs t
+pub record SameTexts (xs ys : List NameText) : Type 0 where
+  pub over : (t : NameText) → Contains xs t → Contains ys t
+  pub back : (t : NameText) → Contains ys t → Contains xs t
 
 -- at this position is a text that begins with the prefix
-abbrev pub BeginsAt : List Text → Text → ℕ → Type 0
+abbrev pub BeginsAt : List NameText → NameText → ℕ → Type 0
 BeginsAt texts p position = (position < length texts) × (begins_with p (slice_index_or texts position []) ≡ true)

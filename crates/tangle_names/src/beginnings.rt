@@ -5,16 +5,16 @@ ghost use Rattle.tangle_names.specs.Faults.{begins_another};
 ghost use Rattle.tangle_names.specs.Names.{One};
 ghost use Rattle.tangle_names.specs.Numbers.{begins_another_by_number, key_texts};
 ghost use Rattle.tangle_names.specs.Numbers.{numbers_from, Flags};
-ghost use Rattle.tangle_names.specs.Resolving.{resolution};
+ghost use Rattle.tangle_names.specs.Resolving.{resolved_meaning};
 ghost use Rattle.tangle_names.specs.Sorted.{IsInOrder, borrowed_names};
 
-use crate::numbers::{list_if, number};
+use crate::numbers::{number, push_if};
 use crate::sorted::begins_at;
 use indexmap::IndexSet;
 use std::alloc::{AllocError, Global};
 
 /// Which names begin another one. In the order of their bytes such a name begins the next one.
-pub(crate) fn beginnings(
+pub(crate) fn beginning_flags(
     alloc: Global,
     sorted: &[&[u8]],
     names: &IndexSet<Vec<u8>>,
@@ -43,7 +43,7 @@ fn flag_beginning(
     requires inside { position < length sorted.now }
     ensures { let text = slice_index_or (borrowed_names sorted.now) position [] in
         Flags flags.old.items flags.new.items (begins_another (borrowed_names sorted.now) text)
-        (resolution (key_texts names.now.keys) (One text)) }
+        (resolved_meaning (key_texts names.now.keys) (One text)) }
 {
     if begins_at(sorted, position + 1, sorted[position]) {
         flag(flags, number(names, sorted[position]));
@@ -65,7 +65,7 @@ pub(crate) fn flagged_numbers(alloc: Global, flags: &[bool]) -> Result<Vec<usize
 {
     let mut numbers = Vec::new(alloc);
     for number in 0..flags.len() {
-        list_if(&mut numbers, flags[number], number)?;
+        push_if(&mut numbers, flags[number], number)?;
     }
     Ok(numbers)
 }

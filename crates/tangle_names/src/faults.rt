@@ -12,8 +12,8 @@ use std::alloc::Global;
 use tangle_lines::{Fault, FaultKind, NoMemory, Origin};
 use tangle_scan::{Occurrence, Web};
 
-/// Puts a fault about a name last.
-fn add(
+/// Adds a fault about a name.
+fn add_fault(
     alloc: Global,
     faults: &mut Vec<Fault>,
     web: &Web,
@@ -29,7 +29,7 @@ fn add(
     Ok(())
 }
 
-/// Puts the fault of an occurrence last, if it resolves to no name.
+/// Adds the fault of an occurrence, if it resolves to no name.
 fn add_resolution_fault(
     alloc: Global,
     faults: &mut Vec<Fault>,
@@ -44,12 +44,12 @@ fn add_resolution_fault(
     let text = occurrence.text();
     match resolved {
         Resolved::Name(_) => Ok(()),
-        Resolved::NoFullName => add(alloc, faults, web, FaultKind::NoFullName, origin, text),
-        Resolved::Ambiguous => add(alloc, faults, web, FaultKind::Ambiguous, origin, text),
+        Resolved::NoFullName => add_fault(alloc, faults, web, FaultKind::NoFullName, origin, text),
+        Resolved::Ambiguous => add_fault(alloc, faults, web, FaultKind::Ambiguous, origin, text),
     }
 }
 
-/// Puts the fault of the occurrence with this number last, by what it resolves to.
+/// Adds the fault of the occurrence with this number, by what it resolves to.
 fn add_fault_of_number(
     alloc: Global,
     faults: &mut Vec<Fault>,
@@ -67,7 +67,7 @@ fn add_fault_of_number(
     Ok(())
 }
 
-/// Puts the faults of the occurrences with these numbers last, by what each resolves to.
+/// Adds the faults of the occurrences with these numbers, by what each resolves to.
 fn add_faults_of_numbers(
     alloc: Global,
     faults: &mut Vec<Fault>,
@@ -85,7 +85,7 @@ fn add_faults_of_numbers(
     Ok(())
 }
 
-/// Puts the warning last for a name that begins another.
+/// Adds the warning for a name that begins another, at the occurrence with this number.
 fn add_warning(
     alloc: Global,
     faults: &mut Vec<Fault>,
@@ -97,32 +97,33 @@ fn add_warning(
 {
     if let Some(occurrence) = web.occurrences().get(first) {
         let origin = occurrence.origin();
-        add(alloc, faults, web, FaultKind::PrefixName, origin, name)?;
+        add_fault(alloc, faults, web, FaultKind::PrefixName, origin, name)?;
     }
     Ok(())
 }
 
-/// Puts the warnings last for the names with these numbers, which begin others.
+/// Adds the warnings for the names with these numbers, which begin others.
 fn add_warnings(
     alloc: Global,
     faults: &mut Vec<Fault>,
     web: &Web,
     names: &[Vec<u8>],
-    firsts: &[usize],
+    first_occurrences: &[usize],
     ids: &[usize],
 ) -> Result<(), NoMemory>
-    requires firsts { length firsts.now ≡ length names.now }
+    requires first_occurrences { length first_occurrences.now ≡ length names.now }
     requires inside { All (λ id. id < length names.now) ids.now }
     ensures { OnOk result (faults.new.items ≡ faults.old.items
-        ++ flat_map (warning_of_number web.now (key_texts names.now) firsts.now) ids.now) }
+        ++ flat_map (warning_of_number web.now (key_texts names.now) first_occurrences.now)
+        ids.now) }
 {
     for id in ids {
-        add_warning(alloc, faults, web, firsts[*id], &names[*id])?;
+        add_warning(alloc, faults, web, first_occurrences[*id], &names[*id])?;
     }
     Ok(())
 }
 
-/// The faults of the names of a web that resolve so.
+/// The faults of names of a web with this resolution.
 pub(crate) fn faults(
     alloc: Global,
     web: &Web,
@@ -135,14 +136,14 @@ pub(crate) fn faults(
     let resolved = &resolution.resolved;
     add_faults_of_numbers(alloc, &mut faults, web, resolved, &resolution.unresolved)?;
     let names = resolution.names.as_slice();
-    let firsts = &resolution.firsts;
+    let first_occurrences = &resolution.first_occurrences;
     add_warnings(
         alloc,
         &mut faults,
         web,
         names,
-        firsts,
-        &resolution.beginnings,
+        first_occurrences,
+        &resolution.beginning_numbers,
     )?;
     Ok(faults)
 }

@@ -29,13 +29,13 @@ pub struct NameTable {
 
 impl Model for NameTable {
     ghost use Rattle.tangle_names.specs.NameTable.{TableRead};
-    ghost use Rattle.tangle_names.specs.Resolution.{IsWellKept, table_read};
+    ghost use Rattle.tangle_names.specs.Resolution.{ResolutionInvariant, table_read};
 
     ghost Value = { TableRead };
 
     ghost view = { λ t. table_read t.resolution.value t.faults.items };
 
-    ghost invariant = { λ t. IsWellKept t.resolution.value };
+    ghost invariant = { λ t. ResolutionInvariant t.resolution.value };
 }
 
 impl NameTable {
@@ -57,9 +57,9 @@ impl NameTable {
         NameTable::over(alloc, web, Rc::new(alloc, resolution)?)
     }
 
-    /// The same table, built beside that of a web that was read before: where each occurrence is
-    /// written as the old one of its number, what the names resolve to is shared with the old
-    /// table, and nothing is sorted or looked up. Faults are placed anew in each case.
+    /// The table that `build` gives, made with the table and the occurrences of an older web. If
+    /// each occurrence is written as the old one of its number, what they resolve to is shared with
+    /// the old table, and nothing is sorted or looked up. The faults are made anew.
     ///
     /// # Errors
     ///
@@ -80,7 +80,7 @@ impl NameTable {
         }
     }
 
-    /// The table of a web whose names resolve so.
+    /// The table of a web with this resolution.
     fn over(alloc: Global, web: &Web, resolution: Rc<Resolution>) -> Result<NameTable, NoMemory>
         requires { IsResolutionOf web.now.occurrences resolution.value }
         ensures { IfOk result (λ table. table ≡ table_of web.now) }
@@ -139,7 +139,7 @@ impl NameTable {
         requires { id < length self.now.names }
         ensures { result ≡ slice_index_or self.now.first_occurrences id 0 }
     {
-        self.resolution.firsts[id]
+        self.resolution.first_occurrences[id]
     }
 
     /// The number of the first occurrence with `@(` that resolves to the full name of this number,
@@ -148,7 +148,7 @@ impl NameTable {
         requires { id < length self.now.names }
         ensures { result ≡ slice_index_or self.now.first_file_occurrences id None }
     {
-        let number = self.resolution.first_files[id];
+        let number = self.resolution.first_file_occurrences[id];
         if number < self.resolution.resolved.len() {
             Some(number)
         } else {
@@ -164,8 +164,8 @@ impl NameTable {
         self.first_file_occurrence(id).is_some()
     }
 
-    /// Of each full name the number of the first of the web's occurrences that resolves to it and is
-    /// counted. It is the count of occurrences where there is none.
+    /// For each full name, the number of the first counted occurrence of the web that resolves to
+    /// it, or the count of occurrences where there is none. The occurrences are those of the web.
     ///
     /// # Errors
     ///
@@ -178,9 +178,10 @@ impl NameTable {
     ) -> Result<Vec<usize>, AllocError>
         requires { length self.now.resolved ≡ length occurrences.now }
         ensures size { IfOk result (λ v. length v.items ≡ length self.now.names) }
-        ensures numbers { IfOk result (λ v. (f : OccurrenceRead → Resolved)
-            → self.now.resolved ≡ map f occurrences.now → (id : ℕ) → id < length self.now.names
-            → slice_index_or v.items id 0 ≡ first_by_number f counted occurrences.now id) }
+        ensures numbers { IfOk result (λ v. (resolve : OccurrenceRead → Resolved)
+            → self.now.resolved ≡ map resolve occurrences.now
+            → (id : ℕ) → id < length self.now.names
+            → slice_index_or v.items id 0 ≡ first_by_number resolve counted occurrences.now id) }
     {
         let resolved = self.resolution.resolved.as_slice();
         first_numbers(alloc, occurrences, resolved, self.count(), counted)
@@ -195,19 +196,12 @@ impl NameTable {
         self.faults.as_slice()
     }
 
-    /// The faults of names, for one who keeps them with others. The table has none from then on.
+    /// Takes the faults out of the table, which has none from then on.
     pub fn take_faults(&mut self) -> Vec<Fault>
         ensures taken { result.items ≡ self.old.faults }
         ensures others { self.new ≡ record self.old { faults = [] } }
     {
         let alloc = *self.faults.allocator();
         replace(&mut self.faults, Vec::new(alloc))
-    }
-
-    /// The same faults, for one who is done with the table.
-    pub fn into_faults(self) -> Vec<Fault>
-        ensures { result.items ≡ self.faults }
-    {
-        self.faults
     }
 }

@@ -1,4 +1,4 @@
-//! The full names of a web, for those who keep them beside its table.
+//! The full names of a web, shared with its table.
 ghost use Rattle.std.specs.Prelude.{◌≡◌, ◌<◌, [], IfOk, IfSome, None, length, position};
 ghost use Rattle.std.specs.Prelude.{slice_index_or};
 ghost use Rattle.std.specs.Str.{bytes_eq};
@@ -9,8 +9,8 @@ use std::marker::Model;
 use std::rc::Rc;
 use tangle_lines::NoMemory;
 
-/// The full names of a web, each under its number. What keeps them shares them with the table, so
-/// that their bytes are there once.
+/// The full names of a web, each under its number. They are shared with the table, so that their
+/// bytes are stored once.
 #[derive(Drop)]
 pub struct Names {
     resolution: Rc<Resolution>,
@@ -18,16 +18,16 @@ pub struct Names {
 
 impl Model for Names {
     ghost use Rattle.std.specs.Prelude.{List};
-    ghost use Rattle.tangle_names.specs.Names.{Text};
+    ghost use Rattle.tangle_names.specs.Names.{NameText};
     ghost use Rattle.tangle_names.specs.Numbers.{key_texts};
 
-    ghost Value = { List Text };
+    ghost Value = { List NameText };
 
     ghost view = { λ n. key_texts n.resolution.value.names.keys };
 }
 
 impl Names {
-    /// The names of what occurrences resolve to.
+    /// The names of a resolution.
     pub(crate) fn new(resolution: Rc<Resolution>) -> Names
         ensures { result ≡ key_texts resolution.value.names.keys }
     {
@@ -70,8 +70,8 @@ impl Names {
         self.resolution.find(text)
     }
 
-    /// The same, where the text is compared with that of the name of this number first. After most
-    /// edits a name has the number of before, and then nothing is looked up.
+    /// The number of the name with this text, if it is one. The text is compared with that of name
+    /// number `id` first: after most edits a name has its old number, and nothing is looked up.
     pub fn find_from(&self, id: usize, text: &[u8]) -> Option<usize>
         ensures some { IfSome result (λ n. (n < length self.now)
             × (slice_index_or self.now n [] ≡ text.now)) }

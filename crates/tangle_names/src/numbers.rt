@@ -4,7 +4,7 @@ ghost use Rattle.std.specs.List.{position_or_len};
 ghost use Rattle.std.specs.Str.{bytes_eq};
 ghost use Rattle.tangle_names.specs.Names.{One, full_names};
 ghost use Rattle.tangle_names.specs.Numbers.{is_unresolved, key_texts, numbers_from};
-ghost use Rattle.tangle_names.specs.Resolving.{names_in_order, names_of, resolution, resolve};
+ghost use Rattle.tangle_names.specs.Resolving.{names_in_order, names_of, resolve, resolved_meaning};
 ghost use Rattle.tangle_names.specs.Resolving.{with_name};
 ghost use Rattle.tangle_names.specs.Sorted.{IsInOrder, SameTexts, meaning_of, borrowed_names};
 
@@ -14,7 +14,7 @@ use indexmap::IndexSet;
 use std::alloc::{AllocError, Global};
 use tangle_scan::Occurrence;
 
-/// The number of a full name; a name that isn't there goes last.
+/// The number of a full name, which is added if it is new.
 fn intern(alloc: Global, names: &mut IndexSet<Vec<u8>>, text: &[u8]) -> Result<usize, AllocError>
     ensures names { OnOk result (key_texts names.new.keys
         ≡ with_name (key_texts names.old.keys) (One text.now)) }
@@ -29,8 +29,8 @@ fn intern(alloc: Global, names: &mut IndexSet<Vec<u8>>, text: &[u8]) -> Result<u
     Ok(id)
 }
 
-/// What is meant, by the number of its name; a name that isn't there goes last.
-fn resolve(
+/// Resolves a meaning. Its name is added if it is new.
+fn resolve_meaning(
     alloc: Global,
     names: &mut IndexSet<Vec<u8>>,
     meaning: Meaning,
@@ -38,7 +38,7 @@ fn resolve(
     ensures names { OnOk result (key_texts names.new.keys
         ≡ with_name (key_texts names.old.keys) (meaning_of meaning.entry)) }
     ensures number { IfOk result (λ resolved. resolved
-        ≡ resolution (key_texts names.old.keys) (meaning_of meaning.entry)) }
+        ≡ resolved_meaning (key_texts names.old.keys) (meaning_of meaning.entry)) }
 {
     match meaning {
         Meaning::One(text) => Ok(Resolved::Name(intern(alloc, names, text)?)),
@@ -58,11 +58,11 @@ fn resolve_all(
     ensures names { OnOk result
         (key_texts names.new.keys ≡ names_of (map meaning_of meanings.now)) }
     ensures resolved { let meant = map meaning_of meanings.now in
-        IfOk result (λ resolved. resolved.items ≡ map (resolution (names_of meant)) meant) }
+        IfOk result (λ resolved. resolved.items ≡ map (resolved_meaning (names_of meant)) meant) }
 {
     let mut resolved = Vec::new(alloc);
     for meaning in meanings {
-        resolved.push(resolve(alloc, names, *meaning)?)?;
+        resolved.push(resolve_meaning(alloc, names, *meaning)?)?;
     }
     Ok(resolved)
 }
@@ -85,7 +85,7 @@ pub(crate) fn resolve_occurrences(
     resolve_all(alloc, names, &meanings)
 }
 
-/// Whether it resolves to no name.
+/// Whether an occurrence with this result resolves to no name.
 fn is_unresolved(resolved: Resolved) -> bool
     ensures { result ≡ is_unresolved resolved }
 {
@@ -95,8 +95,8 @@ fn is_unresolved(resolved: Resolved) -> bool
     }
 }
 
-/// Puts the number last, if it is to be listed.
-pub(crate) fn list_if(
+/// Adds the number at the end of the list, if it is to be listed.
+pub(crate) fn push_if(
     numbers: &mut Vec<usize>,
     is_listed: bool,
     number: usize,
@@ -119,12 +119,12 @@ pub(crate) fn unresolved_numbers(
 {
     let mut numbers = Vec::new(alloc);
     for number in 0..resolved.len() {
-        list_if(&mut numbers, is_unresolved(resolved[number]), number)?;
+        push_if(&mut numbers, is_unresolved(resolved[number]), number)?;
     }
     Ok(numbers)
 }
 
-/// The number of a full name.
+/// The number of a full name, or the count of names where it is none of them.
 pub(crate) fn number(names: &IndexSet<Vec<u8>>, text: &[u8]) -> usize
     ensures { result ≡ position_or_len (bytes_eq text.now) (key_texts names.now.keys) }
 {

@@ -3,12 +3,12 @@
 ghost use Rattle.std.specs.Prelude.{◌≡◌, ◌↔◌, ◌<◌, [], IfOk, IsTrue, length, position};
 ghost use Rattle.std.specs.Prelude.{slice_index_or};
 ghost use Rattle.std.specs.Str.{bytes_eq};
-ghost use Rattle.tangle_names.specs.NameTable.{AreWrittenAlike, written_name};
+ghost use Rattle.tangle_names.specs.NameTable.{AreWrittenAlike, written_form};
 ghost use Rattle.tangle_names.specs.Numbers.{key_texts};
 ghost use Rattle.tangle_names.specs.Resolution.{IsResolutionOf};
 
 use crate::Resolved;
-use crate::beginnings::{beginnings, flagged_numbers};
+use crate::beginnings::{beginning_flags, flagged_numbers};
 use crate::first_numbers::{Counted, first_numbers};
 use crate::numbers::{resolve_occurrences, unresolved_numbers};
 use crate::sorted::sorted_names;
@@ -23,14 +23,14 @@ pub(crate) struct Resolution {
     pub(crate) names: IndexSet<Vec<u8>>,
     pub(crate) resolved: Vec<Resolved>,
     // The number of each name's first occurrence.
-    pub(crate) firsts: Vec<usize>,
+    pub(crate) first_occurrences: Vec<usize>,
     // The number of each name's first occurrence as a file; the count of occurrences, where it has
     // none.
-    pub(crate) first_files: Vec<usize>,
+    pub(crate) first_file_occurrences: Vec<usize>,
     // The numbers of the occurrences that resolve to no name.
     pub(crate) unresolved: Vec<usize>,
     // The numbers of the names that begin others.
-    pub(crate) beginnings: Vec<usize>,
+    pub(crate) beginning_numbers: Vec<usize>,
 }
 
 impl Resolution {
@@ -41,8 +41,14 @@ impl Resolution {
         let sorted = sorted_names(alloc, occurrences)?;
         let mut names = IndexSet::new(alloc);
         let resolved = resolve_occurrences(alloc, &mut names, &sorted, occurrences)?;
-        let firsts = first_numbers(alloc, occurrences, &resolved, names.len(), Counted::All)?;
-        let first_files = first_numbers(
+        let first_occurrences = first_numbers(
+            alloc,
+            occurrences,
+            &resolved,
+            names.len(),
+            Counted::All,
+        )?;
+        let first_file_occurrences = first_numbers(
             alloc,
             occurrences,
             &resolved,
@@ -50,15 +56,15 @@ impl Resolution {
             Counted::Files,
         )?;
         let unresolved = unresolved_numbers(alloc, &resolved)?;
-        let flags = beginnings(alloc, &sorted, &names)?;
-        let beginnings = flagged_numbers(alloc, &flags)?;
+        let flags = beginning_flags(alloc, &sorted, &names)?;
+        let beginning_numbers = flagged_numbers(alloc, &flags)?;
         Ok(Resolution {
             names,
             resolved,
-            firsts,
-            first_files,
+            first_occurrences,
+            first_file_occurrences,
             unresolved,
-            beginnings,
+            beginning_numbers,
         })
     }
 
@@ -89,7 +95,7 @@ impl Resolution {
 /// Whether the two occurrences are written alike: with the same text, both abbreviated or neither,
 /// and both with `@(` or neither.
 fn is_written_alike(old: &Occurrence, new: &Occurrence) -> bool
-    ensures { IsTrue result ↔ (written_name old.now ≡ written_name new.now) }
+    ensures { IsTrue result ↔ (written_form old.now ≡ written_form new.now) }
 {
     old.is_file() == new.is_file()
         && old.is_abbreviation() == new.is_abbreviation()

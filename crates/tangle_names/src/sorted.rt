@@ -1,6 +1,5 @@
-//! The full names of a web in the order of their bytes, and what a name means among them.
-ghost use Rattle.std.specs.Prelude.{◌≡◌, ◌<◌, ◌+◌, ◌↔◌, List, ℕ, IfOk, IsTrue};
-ghost use Rattle.std.specs.Prelude.{map};
+//! The full names of a web in the order of their bytes, and what an occurrence means among them.
+ghost use Rattle.std.specs.Prelude.{◌≡◌, ◌↔◌, List, ℕ, IfOk, IsTrue, map};
 ghost use Rattle.std.specs.Ordering.{nat_cmp, is_lt};
 ghost use Rattle.std.specs.Cmp.Lexicographic.{slice_cmp};
 ghost use Rattle.tangle_names.specs.Names.{full_names, meaning, only_with, prefix};
@@ -10,7 +9,7 @@ ghost use Rattle.tangle_names.specs.Sorted.{borrowed_names};
 use std::alloc::{AllocError, Global};
 use tangle_scan::Occurrence;
 
-/// The full names that a name may represent.
+/// What an occurrence may mean: no full name, one, or several.
 #[derive(Clone, Copy)]
 pub(crate) enum Meaning<'a> {
     Nothing,

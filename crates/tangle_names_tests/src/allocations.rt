@@ -8,7 +8,7 @@ use std::test::Fail;
 use tangle_lines::{Files, NoMemory, Refusal, Roles, Source, read_source};
 use tangle_names::NameTable;
 use tangle_scan::{Web, scan};
-use tangle_test_support::{end_refusals, fail_allocation, files_with, read};
+use tangle_test_support::{end_failures, fail_allocation, files_with, read};
 
 // Whether the table has the file; else it has none.
 fn has_file(rt: &impl Abort, files: &Files) -> bool {
@@ -18,25 +18,25 @@ fn has_file(rt: &impl Abort, files: &Files) -> bool {
 }
 
 // Adds a file with this allocation failing, and says whether none did.
-fn addition_is_spared(rt: &impl Abort, alloc: Global, files: &mut Files, nth: u32) -> bool {
-    let is_harnessed = fail_allocation(alloc, nth);
+fn addition_without_failure(rt: &impl Abort, alloc: Global, files: &mut Files, nth: u32) -> bool {
+    let has_library = fail_allocation(alloc, nth);
     let refusal = files.add(b"a.w", b"@ A.\n@c\n\nint x;").err();
-    let was_spared = end_refusals(alloc, is_harnessed);
-    let expected = if was_spared {
+    let none_failed = end_failures(alloc, has_library);
+    let expected = if none_failed {
         None
     } else {
         Some(Refusal::NoMemory)
     };
     assert_eq!(rt; refusal, expected);
-    assert_eq!(rt; has_file(rt, files), was_spared);
-    was_spared
+    assert_eq!(rt; has_file(rt, files), none_failed);
+    none_failed
 }
 
 #[test]
 fn each_allocation_of_add_failing(rt: HostRuntime) -> Result<(), Fail> {
     let mut files = Files::new(rt.alloc());
     for nth in 1..100 {
-        if addition_is_spared(&rt, rt.alloc(), &mut files, nth) {
+        if addition_without_failure(&rt, rt.alloc(), &mut files, nth) {
             return Ok(());
         }
     }
@@ -44,20 +44,20 @@ fn each_allocation_of_add_failing(rt: HostRuntime) -> Result<(), Fail> {
 }
 
 // Copies a table with this allocation failing, and says whether none did.
-fn copy_is_spared(rt: &impl Abort, alloc: Global, files: &Files, nth: u32) -> bool {
-    let is_harnessed = fail_allocation(alloc, nth);
+fn copy_without_failure(rt: &impl Abort, alloc: Global, files: &Files, nth: u32) -> bool {
+    let has_library = fail_allocation(alloc, nth);
     let count = files.copy().map(|copy| copy.count()).ok();
-    let was_spared = end_refusals(alloc, is_harnessed);
-    let expected = if was_spared { Some(2) } else { None };
+    let none_failed = end_failures(alloc, has_library);
+    let expected = if none_failed { Some(2) } else { None };
     assert_eq!(rt; count, expected);
-    was_spared
+    none_failed
 }
 
 #[test]
 fn each_allocation_of_copy_failing(rt: HostRuntime) -> Result<(), Fail> {
     let files = faulty_files(rt.alloc())?;
     for nth in 1..100 {
-        if copy_is_spared(&rt, rt.alloc(), &files, nth) {
+        if copy_without_failure(&rt, rt.alloc(), &files, nth) {
             return Ok(());
         }
     }
@@ -65,23 +65,23 @@ fn each_allocation_of_copy_failing(rt: HostRuntime) -> Result<(), Fail> {
 }
 
 // Makes roles with this allocation failing, and says whether none did.
-fn roles_are_spared(rt: &impl Abort, alloc: Global, nth: u32) -> bool {
-    let is_harnessed = fail_allocation(alloc, nth);
+fn roles_without_failure(rt: &impl Abort, alloc: Global, nth: u32) -> bool {
+    let has_library = fail_allocation(alloc, nth);
     let refusal = Roles::new(alloc, b"a.w", Some(b"a.ch"), b"a.c").err();
-    let was_spared = end_refusals(alloc, is_harnessed);
-    let expected = if was_spared {
+    let none_failed = end_failures(alloc, has_library);
+    let expected = if none_failed {
         None
     } else {
         Some(Refusal::NoMemory)
     };
     assert_eq!(rt; refusal, expected);
-    was_spared
+    none_failed
 }
 
 #[test]
 fn each_allocation_of_roles_failing(rt: HostRuntime) -> Result<(), Fail> {
     for nth in 1..100 {
-        if roles_are_spared(&rt, rt.alloc(), nth) {
+        if roles_without_failure(&rt, rt.alloc(), nth) {
             return Ok(());
         }
     }
@@ -95,14 +95,20 @@ fn count_faults(alloc: Global, files: &Files, roles: &Roles) -> Result<usize, No
 }
 
 // Reads these files with this allocation failing, and says whether none did.
-fn reading_is_spared(rt: &impl Abort, alloc: Global, files: &Files, roles: &Roles, nth: u32) -> bool
+fn reading_without_failure(
+    rt: &impl Abort,
+    alloc: Global,
+    files: &Files,
+    roles: &Roles,
+    nth: u32,
+) -> bool
     requires { fits files.now roles.now ≡ true }
 {
-    let is_harnessed = fail_allocation(alloc, nth);
+    let has_library = fail_allocation(alloc, nth);
     let faults = count_faults(alloc, files, roles);
-    let was_spared = end_refusals(alloc, is_harnessed);
-    assert_eq!(rt; matches!(faults, Ok(count) if count > 4), was_spared);
-    was_spared
+    let none_failed = end_failures(alloc, has_library);
+    assert_eq!(rt; matches!(faults, Ok(count) if count > 4), none_failed);
+    none_failed
 }
 
 // A web that includes itself.
@@ -123,7 +129,7 @@ fn each_allocation_of_reading_failing(rt: HostRuntime) -> Result<(), Fail> {
         return Err(Fail::from("a file of the roles is not there"));
     }
     for nth in 1..1000 {
-        if reading_is_spared(&rt, rt.alloc(), &files, &roles, nth) {
+        if reading_without_failure(&rt, rt.alloc(), &files, &roles, nth) {
             return Ok(());
         }
     }
@@ -135,12 +141,12 @@ fn count_pieces(alloc: Global, source: &Source) -> Result<usize, NoMemory> {
 }
 
 // Scans a source of two pieces with this allocation failing, and says whether none did.
-fn scanning_is_spared(rt: &impl Abort, alloc: Global, source: &Source, nth: u32) -> bool {
-    let is_harnessed = fail_allocation(alloc, nth);
+fn scanning_without_failure(rt: &impl Abort, alloc: Global, source: &Source, nth: u32) -> bool {
+    let has_library = fail_allocation(alloc, nth);
     let pieces = count_pieces(alloc, source);
-    let was_spared = end_refusals(alloc, is_harnessed);
-    assert_eq!(rt; matches!(pieces, Ok(2)), was_spared);
-    was_spared
+    let none_failed = end_failures(alloc, has_library);
+    assert_eq!(rt; matches!(pieces, Ok(2)), none_failed);
+    none_failed
 }
 
 #[test]
@@ -149,7 +155,7 @@ fn each_allocation_of_scan_failing(rt: HostRuntime) -> Result<(), Fail> {
     let files = files_with(rt.alloc(), &[(b"a.w", text)])?;
     let source = read(rt.alloc(), &files, None)?;
     for nth in 1..1000 {
-        if scanning_is_spared(&rt, rt.alloc(), &source, nth) {
+        if scanning_without_failure(&rt, rt.alloc(), &source, nth) {
             return Ok(());
         }
     }
@@ -163,18 +169,18 @@ fn count_names(alloc: Global, web: &Web) -> Result<(usize, usize), NoMemory> {
 
 // Builds the table of a web of four names and three faults with this allocation failing, and says
 // whether none did.
-fn building_is_spared(rt: &impl Abort, alloc: Global, web: &Web, nth: u32) -> bool {
-    let is_harnessed = fail_allocation(alloc, nth);
+fn building_without_failure(rt: &impl Abort, alloc: Global, web: &Web, nth: u32) -> bool {
+    let has_library = fail_allocation(alloc, nth);
     let names = count_names(alloc, web);
-    let was_spared = end_refusals(alloc, is_harnessed);
-    assert_eq!(rt; matches!(names, Ok((4, 3))), was_spared);
-    was_spared
+    let none_failed = end_failures(alloc, has_library);
+    assert_eq!(rt; matches!(names, Ok((4, 3))), none_failed);
+    none_failed
 }
 
 // Fails each allocation of building the table of that web, until none is left.
-fn refuse_each_building(rt: &impl Abort, alloc: Global, web: &Web) -> Result<(), Fail> {
+fn fail_each_of_building(rt: &impl Abort, alloc: Global, web: &Web) -> Result<(), Fail> {
     for nth in 1..1000 {
-        if building_is_spared(rt, alloc, web, nth) {
+        if building_without_failure(rt, alloc, web, nth) {
             return Ok(());
         }
     }
@@ -187,5 +193,5 @@ fn each_allocation_of_build_failing(rt: HostRuntime) -> Result<(), Fail> {
     let files = files_with(rt.alloc(), &[(b"a.w", text)])?;
     let source = read(rt.alloc(), &files, None)?;
     let web = scan(rt.alloc(), &source)?;
-    refuse_each_building(&rt, rt.alloc(), &web)
+    fail_each_of_building(&rt, rt.alloc(), &web)
 }

@@ -5,22 +5,22 @@ use std::alloc::Global;
 use std::process::Abort;
 use std::test::Fail;
 use tangle_lines::{Edit, Files, Refusal};
-use tangle_test_support::{Kind, edit, end_refusals, fail_allocation, files_with, repeated};
+use tangle_test_support::{EditKind, edit, end_failures, fail_allocation, files_with, repeated};
 
-/// What is asked of a table: a kind of edit, the file, the line, and the text.
-type Request<'a> = (Kind, &'a [u8], usize, &'a [u8]);
+/// An edit: its kind, the file, the line and the text.
+type EditRow<'a> = (EditKind, &'a [u8], usize, &'a [u8]);
 
 /// A file of a table: its name and its lines.
 type Content = (&'static [u8], &'static [&'static [u8]]);
 
-fn edit_of(alloc: Global, request: Request) -> Result<Edit, Fail> {
-    let (kind, file, at, text) = request;
+fn edit_of(alloc: Global, row: EditRow) -> Result<Edit, Fail> {
+    let (kind, file, at, text) = row;
     Ok(edit(alloc, kind, file, at, text)?)
 }
 
 // Makes the edit.
-fn make(alloc: Global, files: &mut Files, request: Request) -> Result<(), Fail> {
-    files.edit(&edit_of(alloc, request)?)?;
+fn make(alloc: Global, files: &mut Files, row: EditRow) -> Result<(), Fail> {
+    files.edit(&edit_of(alloc, row)?)?;
     Ok(())
 }
 
@@ -29,10 +29,10 @@ fn refuse(
     rt: &impl Abort,
     alloc: Global,
     files: &mut Files,
-    request: Request,
+    row: EditRow,
     refusal: Refusal,
 ) -> Result<(), Fail> {
-    let edit = edit_of(alloc, request)?;
+    let edit = edit_of(alloc, row)?;
     assert_eq!(rt; files.edit(&edit), Err(refusal));
     Ok(())
 }
@@ -81,36 +81,36 @@ fn two_files(alloc: Global) -> Result<Files, Fail> {
 fn check_refused(
     rt: &impl Abort,
     alloc: Global,
-    request: Request,
+    row: EditRow,
     refusal: Refusal,
 ) -> Result<(), Fail> {
     let mut files = two_files(alloc)?;
-    refuse(rt, alloc, &mut files, request, refusal)?;
+    refuse(rt, alloc, &mut files, row, refusal)?;
     assert_files(rt, &files, &TWO_FILES)
 }
 
 // Edits that the two files refuse: lines that are not there, line feeds, files that are not there
 // or are, and what is no file name.
-const REFUSED: [(Request<'static>, Refusal); 13] = [
-    ((Kind::Insert, b"a.w", 7, b"x"), Refusal::NoSuchLine),
-    ((Kind::Insert, b"a.w", 0, b"x"), Refusal::NoSuchLine),
-    ((Kind::Remove, b"a.w", 6, b""), Refusal::NoSuchLine),
-    ((Kind::Replace, b"a.w", 9, b"x\ny"), Refusal::NoSuchLine),
-    ((Kind::Insert, b"a.w", 1, b"x\ny"), Refusal::BadLine),
-    ((Kind::Replace, b"a.w", 5, b"\n"), Refusal::BadLine),
-    ((Kind::Remove, b"zz", 1, b""), Refusal::UnknownFile),
-    ((Kind::Insert, b"zz", 9, b"\n"), Refusal::UnknownFile),
-    ((Kind::Discard, b"zz", 0, b""), Refusal::UnknownFile),
-    ((Kind::Create, b"a.w", 0, b""), Refusal::FileExists),
-    ((Kind::Create, b"", 0, b""), Refusal::BadName),
-    ((Kind::Discard, b"a\nw", 0, b""), Refusal::BadName),
-    ((Kind::Replace, b"", 9, b"\n"), Refusal::BadName),
+const REFUSED: [(EditRow<'static>, Refusal); 13] = [
+    ((EditKind::Insert, b"a.w", 7, b"x"), Refusal::NoSuchLine),
+    ((EditKind::Insert, b"a.w", 0, b"x"), Refusal::NoSuchLine),
+    ((EditKind::Remove, b"a.w", 6, b""), Refusal::NoSuchLine),
+    ((EditKind::Replace, b"a.w", 9, b"x\ny"), Refusal::NoSuchLine),
+    ((EditKind::Insert, b"a.w", 1, b"x\ny"), Refusal::BadLine),
+    ((EditKind::Replace, b"a.w", 5, b"\n"), Refusal::BadLine),
+    ((EditKind::Remove, b"zz", 1, b""), Refusal::UnknownFile),
+    ((EditKind::Insert, b"zz", 9, b"\n"), Refusal::UnknownFile),
+    ((EditKind::Discard, b"zz", 0, b""), Refusal::UnknownFile),
+    ((EditKind::Create, b"a.w", 0, b""), Refusal::FileExists),
+    ((EditKind::Create, b"", 0, b""), Refusal::BadName),
+    ((EditKind::Discard, b"a\nw", 0, b""), Refusal::BadName),
+    ((EditKind::Replace, b"", 9, b"\n"), Refusal::BadName),
 ];
 
 #[test]
 fn edits_that_are_refused(rt: HostRuntime) -> Result<(), Fail> {
-    for (request, refusal) in &REFUSED {
-        check_refused(&rt, rt.alloc(), *request, *refusal)?;
+    for (row, refusal) in &REFUSED {
+        check_refused(&rt, rt.alloc(), *row, *refusal)?;
     }
     Ok(())
 }
@@ -120,52 +120,52 @@ fn edits_that_are_refused(rt: HostRuntime) -> Result<(), Fail> {
 fn a_long_text_with_a_line_feed(rt: HostRuntime) -> Result<(), Fail> {
     let mut long = repeated(rt.alloc(), b'x', 65_536)?;
     long.push(b'\n')?;
-    let request = (Kind::Insert, b"a.w".as_slice(), 1, long.as_slice());
-    check_refused(&rt, rt.alloc(), request, Refusal::BadLine)
+    let row = (EditKind::Insert, b"a.w".as_slice(), 1, long.as_slice());
+    check_refused(&rt, rt.alloc(), row, Refusal::BadLine)
 }
 
-// Edits that are made of the two files in turn, and all files behind each: insertions behind the
+// Edits that are made of the two files in turn, and all files after each: insertions after the
 // last line and before the first, a replacement, a removal, a new file, one that is discarded, a
-// line that comes and goes, and how line marks are written, which changes no file.
-const MADE: [(Request<'static>, &[Content]); 10] = [
+// line that is inserted and removed, and how line marks are written, which changes no file.
+const MADE: [(EditRow<'static>, &[Content]); 10] = [
     (
-        (Kind::Insert, b"b.w", 3, b"% end  "),
+        (EditKind::Insert, b"b.w", 3, b"% end  "),
         &[WEB, (b"b.w", &[b"b", b"c", b"% end"])],
     ),
     (
-        (Kind::Insert, b"b.w", 1, b"  "),
+        (EditKind::Insert, b"b.w", 1, b"  "),
         &[WEB, (b"b.w", &[b"", b"b", b"c", b"% end"])],
     ),
     (
-        (Kind::Replace, b"b.w", 3, b" d "),
+        (EditKind::Replace, b"b.w", 3, b" d "),
         &[WEB, (b"b.w", &[b"", b"b", b" d", b"% end"])],
     ),
     (
-        (Kind::Remove, b"b.w", 2, b""),
+        (EditKind::Remove, b"b.w", 2, b""),
         &[WEB, (b"b.w", &[b"", b" d", b"% end"])],
     ),
     (
-        (Kind::Create, b"c.w", 0, b""),
+        (EditKind::Create, b"c.w", 0, b""),
         &[WEB, (b"b.w", &[b"", b" d", b"% end"]), (b"c.w", &[])],
     ),
     (
-        (Kind::Discard, b"a.w", 0, b""),
+        (EditKind::Discard, b"a.w", 0, b""),
         &[(b"b.w", &[b"", b" d", b"% end"]), (b"c.w", &[])],
     ),
     (
-        (Kind::Insert, b"c.w", 1, b"c"),
+        (EditKind::Insert, b"c.w", 1, b"c"),
         &[(b"b.w", &[b"", b" d", b"% end"]), (b"c.w", &[b"c"])],
     ),
     (
-        (Kind::Remove, b"c.w", 1, b""),
+        (EditKind::Remove, b"c.w", 1, b""),
         &[(b"b.w", &[b"", b" d", b"% end"]), (b"c.w", &[])],
     ),
     (
-        (Kind::BareMarks, b"", 0, b""),
+        (EditKind::BareMarks, b"", 0, b""),
         &[(b"b.w", &[b"", b" d", b"% end"]), (b"c.w", &[])],
     ),
     (
-        (Kind::FullMarks, b"", 0, b""),
+        (EditKind::FullMarks, b"", 0, b""),
         &[(b"b.w", &[b"", b" d", b"% end"]), (b"c.w", &[])],
     ),
 ];
@@ -173,8 +173,8 @@ const MADE: [(Request<'static>, &[Content]); 10] = [
 #[test]
 fn edits_that_are_made(rt: HostRuntime) -> Result<(), Fail> {
     let mut files = two_files(rt.alloc())?;
-    for (request, expected) in &MADE {
-        make(rt.alloc(), &mut files, *request)?;
+    for (row, expected) in &MADE {
+        make(rt.alloc(), &mut files, *row)?;
         assert_files(&rt, &files, expected)?;
     }
     Ok(())
@@ -184,7 +184,7 @@ fn edits_that_are_made(rt: HostRuntime) -> Result<(), Fail> {
 fn edit_of_a_copy(rt: HostRuntime) -> Result<(), Fail> {
     let files = two_files(rt.alloc())?;
     let mut copy = files.copy()?;
-    make(rt.alloc(), &mut copy, (Kind::Replace, b"b.w", 1, b"x"))?;
+    make(rt.alloc(), &mut copy, (EditKind::Replace, b"b.w", 1, b"x"))?;
     assert_files(&rt, &files, &TWO_FILES)?;
     assert_files(&rt, &copy, &[WEB, (b"b.w", &[b"x", b"c"])])
 }
@@ -195,7 +195,7 @@ fn longest_text(rt: HostRuntime) -> Result<(), Fail> {
     let mut long = line.clone()?;
     long.extend_from_slice(b"   ")?;
     let mut files = two_files(rt.alloc())?;
-    make(rt.alloc(), &mut files, (Kind::Insert, b"b.w", 2, &long))?;
+    make(rt.alloc(), &mut files, (EditKind::Insert, b"b.w", 2, &long))?;
     assert_file(&rt, &files, 1, b"b.w", &[b"b", &line, b"c"])
 }
 
@@ -204,18 +204,28 @@ fn a_text_that_is_too_long(rt: HostRuntime) -> Result<(), Fail> {
     let mut long = repeated(rt.alloc(), b' ', 65_535)?;
     long.push(b'x')?;
     let refusal = Refusal::LineTooLong;
-    check_refused(&rt, rt.alloc(), (Kind::Insert, b"b.w", 2, &long), refusal)?;
-    check_refused(&rt, rt.alloc(), (Kind::Replace, b"b.w", 2, &long), refusal)
+    check_refused(
+        &rt,
+        rt.alloc(),
+        (EditKind::Insert, b"b.w", 2, &long),
+        refusal,
+    )?;
+    check_refused(
+        &rt,
+        rt.alloc(),
+        (EditKind::Replace, b"b.w", 2, &long),
+        refusal,
+    )
 }
 
-// Behind the most lines.
-const ONE_MORE: Request<'static> = (Kind::Insert, b"a.w", 1_000_001, b"x");
+// After the most lines.
+const ONE_MORE: EditRow<'static> = (EditKind::Insert, b"a.w", 1_000_001, b"x");
 
 // The file refuses a line that is too long.
 fn refuse_long_line(rt: &impl Abort, alloc: Global, files: &mut Files) -> Result<(), Fail> {
     let long = repeated(alloc, b'x', 65_536)?;
-    let request = (Kind::Insert, b"a.w".as_slice(), 1, long.as_slice());
-    refuse(rt, alloc, files, request, Refusal::LineTooLong)
+    let row = (EditKind::Insert, b"a.w".as_slice(), 1, long.as_slice());
+    refuse(rt, alloc, files, row, Refusal::LineTooLong)
 }
 
 // A file of the most lines refuses one more, and first a line that is too long.
@@ -225,10 +235,10 @@ fn refuse_more_lines(rt: &impl Abort, alloc: Global, files: &mut Files) -> Resul
 }
 
 // Edits that keep the most lines.
-const AMONG_MOST_LINES: [Request<'static>; 3] = [
-    (Kind::Replace, b"a.w", 1_000_000, b"y"),
-    (Kind::Remove, b"a.w", 1, b""),
-    (Kind::Insert, b"a.w", 1_000_000, b"x"),
+const AMONG_MOST_LINES: [EditRow<'static>; 3] = [
+    (EditKind::Replace, b"a.w", 1_000_000, b"y"),
+    (EditKind::Remove, b"a.w", 1, b""),
+    (EditKind::Insert, b"a.w", 1_000_000, b"x"),
 ];
 
 #[test]
@@ -236,22 +246,23 @@ fn most_lines(rt: HostRuntime) -> Result<(), Fail> {
     let text = repeated(rt.alloc(), b'\n', 1_000_000)?;
     let mut files = files_with(rt.alloc(), &[(b"a.w", text.as_slice())])?;
     refuse_more_lines(&rt, rt.alloc(), &mut files)?;
-    for request in &AMONG_MOST_LINES {
-        make(rt.alloc(), &mut files, *request)?;
+    for row in &AMONG_MOST_LINES {
+        make(rt.alloc(), &mut files, *row)?;
     }
     assert_eq!(rt; files.lines(b"a.w").ok_or("the file")?.len(), 1_000_000);
     Ok(())
 }
 
-// Behind 255 files: the last that goes in, one more, one that is there, and room for one more.
+// After 255 files: the last that the table takes, one more, one that is there, and one more after
+// one is discarded.
 fn fill(rt: &impl Abort, alloc: Global, files: &mut Files) -> Result<(), Fail> {
-    let one_more = (Kind::Create, b"b.w".as_slice(), 0, b"".as_slice());
-    let again = (Kind::Create, b"a.w".as_slice(), 0, b"".as_slice());
+    let one_more = (EditKind::Create, b"b.w".as_slice(), 0, b"".as_slice());
+    let again = (EditKind::Create, b"a.w".as_slice(), 0, b"".as_slice());
     make(alloc, files, again)?;
     refuse(rt, alloc, files, one_more, Refusal::TooManyFiles)?;
     refuse(rt, alloc, files, again, Refusal::FileExists)?;
     assert_eq!(rt; files.count(), 256);
-    make(alloc, files, (Kind::Discard, b"f", 0, b""))?;
+    make(alloc, files, (EditKind::Discard, b"f", 0, b""))?;
     make(alloc, files, one_more)
 }
 
@@ -264,24 +275,29 @@ fn most_files(rt: HostRuntime) -> Result<(), Fail> {
 }
 
 // Makes the edit with this allocation failing, and says whether none did.
-fn edit_is_spared(rt: &impl Abort, alloc: Global, edit: &Edit, nth: u32) -> Result<bool, Fail> {
+fn edit_without_failure(
+    rt: &impl Abort,
+    alloc: Global,
+    edit: &Edit,
+    nth: u32,
+) -> Result<bool, Fail> {
     let mut files = two_files(alloc)?;
-    let is_harnessed = fail_allocation(alloc, nth);
+    let has_library = fail_allocation(alloc, nth);
     let refusal = files.edit(edit).err();
-    let was_spared = end_refusals(alloc, is_harnessed);
-    if was_spared {
+    let none_failed = end_failures(alloc, has_library);
+    if none_failed {
         assert_eq!(rt; refusal, None);
     } else {
         assert_eq!(rt; refusal, Some(Refusal::NoMemory));
         assert_files(rt, &files, &TWO_FILES)?;
     }
-    Ok(was_spared)
+    Ok(none_failed)
 }
 
-fn fail_each_allocation(rt: &impl Abort, alloc: Global, request: Request) -> Result<(), Fail> {
-    let edit = edit_of(alloc, request)?;
+fn fail_each_allocation(rt: &impl Abort, alloc: Global, row: EditRow) -> Result<(), Fail> {
+    let edit = edit_of(alloc, row)?;
     for nth in 1..100 {
-        if edit_is_spared(rt, alloc, &edit, nth)? {
+        if edit_without_failure(rt, alloc, &edit, nth)? {
             return Ok(());
         }
     }
@@ -289,20 +305,20 @@ fn fail_each_allocation(rt: &impl Abort, alloc: Global, request: Request) -> Res
 }
 
 // An edit of each kind.
-const EACH_KIND: [Request<'static>; 7] = [
-    (Kind::Insert, b"a.w", 2, b"% top"),
-    (Kind::Remove, b"a.w", 5, b""),
-    (Kind::Replace, b"a.w", 1, b"@ B."),
-    (Kind::Create, b"c.w", 0, b""),
-    (Kind::Discard, b"a.w", 0, b""),
-    (Kind::FullMarks, b"", 0, b""),
-    (Kind::BareMarks, b"", 0, b""),
+const EACH_KIND: [EditRow<'static>; 7] = [
+    (EditKind::Insert, b"a.w", 2, b"% top"),
+    (EditKind::Remove, b"a.w", 5, b""),
+    (EditKind::Replace, b"a.w", 1, b"@ B."),
+    (EditKind::Create, b"c.w", 0, b""),
+    (EditKind::Discard, b"a.w", 0, b""),
+    (EditKind::FullMarks, b"", 0, b""),
+    (EditKind::BareMarks, b"", 0, b""),
 ];
 
 #[test]
 fn each_allocation_of_edits_failing(rt: HostRuntime) -> Result<(), Fail> {
-    for request in &EACH_KIND {
-        fail_each_allocation(&rt, rt.alloc(), *request)?;
+    for row in &EACH_KIND {
+        fail_each_allocation(&rt, rt.alloc(), *row)?;
     }
     Ok(())
 }

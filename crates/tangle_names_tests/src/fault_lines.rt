@@ -1,11 +1,11 @@
-//! What a fault's line reads like, and what of it is where the stream takes no more.
+//! The lines of faults, and what is written of a line where the stream takes no more.
 use std::alloc::Global;
 use std::io::{self, ErrorKind, Write};
 use std::process::Abort;
 use std::test::Fail;
 use tangle_folders::MemorySink;
-use tangle_lines::{Fault, FaultKind, IoSink, Sink, WriteFault, put, write_fault};
-use tangle_test_support::lines_of;
+use tangle_lines::{Fault, FaultKind, IoSink, Sink, WriteFault, write_after, write_fault};
+use tangle_test_support::lines_of_faults;
 
 // The lines of faults of every kind, as a user reads them. A fault in a file is at line 7 of `a.w`.
 const PLAIN_FAULTS: [(FaultKind, &[u8]); 19] = [
@@ -125,7 +125,7 @@ pub(crate) fn assert_faults(
     faults: &[Fault],
     lines: &[u8],
 ) -> Result<(), Fail> {
-    assert!(rt; lines_of(alloc, faults)?.bytes() == lines);
+    assert!(rt; lines_of_faults(alloc, faults)?.bytes() == lines);
     Ok(())
 }
 
@@ -188,21 +188,27 @@ fn a_fault_that_counts(rt: HostRuntime) -> Result<(), Fail> {
     assert_place(&rt, &fault)
 }
 
-// Into so little room goes the front of the line that fits.
-fn assert_cut_off(rt: &impl Abort, alloc: Global, fault: &Fault, line: &[u8], room: usize) {
-    let mut sink = MemorySink::new(alloc, room);
+// A stream of so little capacity takes the front of the line.
+fn assert_cut_off(rt: &impl Abort, alloc: Global, fault: &Fault, line: &[u8], capacity: usize) {
+    let mut sink = MemorySink::new(alloc, capacity);
     let written = write_fault(fault, &mut sink);
-    assert_eq!(rt; written, Err(WriteFault(room as u128)));
+    assert_eq!(rt; written, Err(WriteFault(capacity as u128)));
     assert_eq!(rt; sink.failures(), 1);
-    assert!(rt; sink.bytes().len() == room && line.starts_with(sink.bytes()));
+    assert!(rt; sink.bytes().len() == capacity && line.starts_with(sink.bytes()));
 }
 
 #[test]
 fn a_fault_line_cut_off_after_each_byte(rt: HostRuntime) -> Result<(), Fail> {
     let alloc = rt.alloc();
     let fault = Fault::about(alloc, FaultKind::Undefined, b"a.w", 7, b"n")?;
-    for room in 0..29 {
-        assert_cut_off(&rt, alloc, &fault, b"a.w:7: error: undefined: <n>\n", room);
+    for capacity in 0..29 {
+        assert_cut_off(
+            &rt,
+            alloc,
+            &fault,
+            b"a.w:7: error: undefined: <n>\n",
+            capacity,
+        );
     }
     Ok(())
 }
@@ -240,7 +246,7 @@ impl Write for Stuck {
 #[test]
 fn a_failed_flush_is_a_failure(rt: HostRuntime) -> Result<(), Fail> {
     let mut sink = IoSink::new(Stuck);
-    let written = put(&mut sink, Ok(0), b"kept back");
+    let written = write_after(&mut sink, Ok(0), b"kept back");
     let failures = sink.failures();
     sink.flush();
     assert_eq!(rt; written, Ok(9));
@@ -252,7 +258,7 @@ fn a_failed_flush_is_a_failure(rt: HostRuntime) -> Result<(), Fail> {
 #[test]
 fn a_flush_that_works_is_no_failure(rt: HostRuntime) -> Result<(), Fail> {
     let mut sink = IoSink::new(Vec::new(rt.alloc()));
-    let written = put(&mut sink, Ok(0), b"passed on");
+    let written = write_after(&mut sink, Ok(0), b"passed on");
     sink.flush();
     assert_eq!(rt; written, Ok(9));
     assert_eq!(rt; sink.failures(), 0);

@@ -22,7 +22,7 @@ fn one_file(alloc: Global, byte: u8, count: usize) -> Result<Files, Fail> {
     Ok(files_with(alloc, &[(b"full", bytes.as_slice())])?)
 }
 
-// A file `a.w` with so many line feeds, and so many bytes behind them, is refused.
+// A file `a.w` with so many line feeds, and so many bytes after them, is refused.
 fn check_refused(
     rt: &impl Abort,
     alloc: Global,

@@ -1,4 +1,4 @@
-//! What the reasons of this project say where a program prints them.
+//! The messages of `NoMemory`, `WriteFault` and `Refusal`.
 use std::test::Fail;
 use tangle_lines::{NoMemory, Refusal, WriteFault};
 

@@ -57,7 +57,7 @@ fn assert_changed(rt: &impl Abort, source: &Source) {
     assert!(rt; source.file_name(source.origin(1)) == b"a.ch".as_slice());
 }
 
-// A web, the file that it includes, and a change whose old lines begin there and go on behind the
+// A web, the file that it includes, and a change whose old lines begin there and go on after the
 // inclusion.
 fn files_with_a_change(alloc: Global) -> Result<Files, Fail> {
     let change = b"@x\nint a;\nint b;\ny\n@y\nint z;\n@z\n@x\nno\n@y\n@z\n";

@@ -11,7 +11,7 @@ use std::test::Fail;
 use tangle_lines::NoMemory;
 use tangle_names::NameTable;
 use tangle_scan::{Web, scan};
-use tangle_test_support::{end_refusals, fail_allocation, files_with, read};
+use tangle_test_support::{end_failures, fail_allocation, files_with, read};
 
 // Four names and three faults.
 const OLD: &[u8] = b"@ A.\n@c\n@<a...@>@<a@>@<ab@>@<c...@>@<b@>@(d@>\n";
@@ -29,8 +29,8 @@ fn rebuilt(alloc: Global, old: &Web, table: &NameTable, new: &Web) -> Result<Nam
     NameTable::rebuild(alloc, new, table, old.occurrences())
 }
 
-// Rebuilds the table with this allocation refused, and says whether none was.
-fn rebuilding_is_spared(
+// Rebuilds the table with this allocation failing, and says whether none did.
+fn rebuilding_without_failure(
     rt: &impl Abort,
     alloc: Global,
     old: &Web,
@@ -40,15 +40,15 @@ fn rebuilding_is_spared(
 ) -> bool
     requires { table.now ≡ table_of old.now }
 {
-    let is_harnessed = fail_allocation(alloc, nth);
+    let has_library = fail_allocation(alloc, nth);
     let counts = rebuilt(alloc, old, table, new).map(|made| (made.count(), made.faults().len()));
-    let was_spared = end_refusals(alloc, is_harnessed);
-    assert_eq!(rt; matches!(counts, Ok((4, 3))), was_spared);
-    was_spared
+    let none_failed = end_failures(alloc, has_library);
+    assert_eq!(rt; matches!(counts, Ok((4, 3))), none_failed);
+    none_failed
 }
 
-// Refuses each allocation of rebuilding the table, until none is left.
-fn refuse_each(
+// Fails each allocation of rebuilding the table, until none is left.
+fn fail_each_allocation(
     rt: &impl Abort,
     alloc: Global,
     old: &Web,
@@ -58,7 +58,7 @@ fn refuse_each(
     requires { table.now ≡ table_of old.now }
 {
     for nth in 1..1000 {
-        if rebuilding_is_spared(rt, alloc, old, table, new, nth) {
+        if rebuilding_without_failure(rt, alloc, old, table, new, nth) {
             return Ok(());
         }
     }
@@ -66,7 +66,7 @@ fn refuse_each(
 }
 
 // The table of the web with this text, built beside that of the old web, has faults on these lines.
-// Each of its allocations is refused first.
+// First each of its allocations fails in turn.
 fn check_rebuilt(rt: &impl Abort, alloc: Global, new: &[u8], lines: &[u8]) -> Result<(), Fail> {
     let old_files = files_with(alloc, &[(b"a.w", OLD)])?;
     let old_source = read(alloc, &old_files, None)?;
@@ -75,7 +75,7 @@ fn check_rebuilt(rt: &impl Abort, alloc: Global, new: &[u8], lines: &[u8]) -> Re
     let files = files_with(alloc, &[(b"a.w", new)])?;
     let source = read(alloc, &files, None)?;
     let web = scan(alloc, &source)?;
-    refuse_each(rt, alloc, &old, &table, &web)?;
+    fail_each_allocation(rt, alloc, &old, &table, &web)?;
     let made = rebuilt(alloc, &old, &table, &web)?;
     assert_names(rt, &made, &[b"a", b"ab", b"b", b"d"]);
     assert_faults(rt, alloc, made.faults(), lines)
@@ -96,7 +96,7 @@ const EDITED: [(&[u8], &[u8]); 2] = [
 ];
 
 #[test]
-fn tables_built_beside_that_of_before(rt: HostRuntime) -> Result<(), Fail> {
+fn tables_built_beside_the_old_one(rt: HostRuntime) -> Result<(), Fail> {
     for (new, lines) in &EDITED {
         check_rebuilt(&rt, rt.alloc(), new, lines)?;
     }

@@ -1,14 +1,14 @@
-//! What the items, origins, names and faults of small webs are.
+//! What the items, origins, occurrences and faults of small webs are.
 ghost use Rattle.std.specs.List.{All};
 ghost use Rattle.tangle_scan.specs.SourceOrder.{IsInRange};
 
 use std::alloc::Global;
 use std::test::Fail;
 use tangle_scan::{Item, Occurrence, OccurrenceRole, Web, scan};
-use tangle_test_support::{files_with, lines_of, read};
+use tangle_test_support::{files_with, lines_of_faults, read};
 
-// Webs, and what they are: sections, macros, pieces, names and faults. An item is its kind with its
-// text: `w` a word, `s` a sign, `q` quoted, `v` verbatim, `_` a blank, `/` a line end.
+// Webs, and what they are: sections, macros, pieces, occurrences and faults. An item is its kind
+// with its text: `w` a word, `s` a sign, `q` quoted, `v` verbatim, `_` a blank, `/` a line end.
 const WEBS: [(&[u8], &[u8]); 6] = [
     // Definitions, and their use.
     (
@@ -17,7 +17,7 @@ const WEBS: [(&[u8], &[u8]); 6] = [
           macro w:N _ w:10 / \n\
           1 at 3 / defs mark:a.w:4 / w:int _ w:x s:= w:N s:; / \n",
     ),
-    // Comments, codes, a constant, cut quoted texts, verbatim and control texts.
+    // Comments, control codes, a constant, cut quoted texts, verbatim and control texts.
     (
         b"@ A.\n@c\na /* b */ c // d\nreturn@,x+@'A';@^idx@>\n\"q@@\"@=v@> @t\\TeX@>z\n",
         b"1 sections\n\
@@ -42,7 +42,7 @@ const WEBS: [(&[u8], &[u8]); 6] = [
           a.w:4: error: missing section start before a definition\n\
           a.w:6: error: section name did not end\n",
     ),
-    // A named piece of a file, behind an unnamed one.
+    // A named piece of a file, after an unnamed one.
     (
         b"@ A.\n@c\nx\n@*B.\n@(a\n\tb@@c.h@> +==\ny\n",
         b"2 sections\n\
@@ -105,21 +105,25 @@ fn show_items(alloc: Global, shown: &mut Vec<u8>, web: &Web, items: &[Item]) -> 
 }
 
 /// Writes an occurrence of a name.
-fn show_occurrence(alloc: Global, shown: &mut Vec<u8>, name: &Occurrence) -> Result<(), Fail> {
-    shown.extend_from_slice(match name.role() {
+fn show_occurrence(
+    alloc: Global,
+    shown: &mut Vec<u8>,
+    occurrence: &Occurrence,
+) -> Result<(), Fail> {
+    shown.extend_from_slice(match occurrence.role() {
         OccurrenceRole::Definition => b"definition".as_slice(),
         OccurrenceRole::Use => b"use",
         OccurrenceRole::Mention => b"mention",
     })?;
-    shown.extend_from_slice(format!(in alloc; " at {}", name.origin().line)?.as_bytes())?;
-    if name.is_abbreviation() {
+    shown.extend_from_slice(format!(in alloc; " at {}", occurrence.origin().line)?.as_bytes())?;
+    if occurrence.is_abbreviation() {
         shown.extend_from_slice(b", abbreviated")?;
     }
-    if name.is_file() {
+    if occurrence.is_file() {
         shown.extend_from_slice(b", file")?;
     }
     shown.extend_from_slice(b": ")?;
-    shown.extend_from_slice(name.text())?;
+    shown.extend_from_slice(occurrence.text())?;
     shown.push(b'\n')?;
     Ok(())
 }
@@ -136,8 +140,8 @@ fn show_pieces(alloc: Global, shown: &mut Vec<u8>, web: &Web) -> Result<(), Fail
     for piece in web.pieces() {
         let line = piece.origin().line;
         shown.extend_from_slice(format!(in alloc; "{} at {line} ", piece.section())?.as_bytes())?;
-        if let Some(name) = piece.occurrence() {
-            shown.extend_from_slice(format!(in alloc; "named {name} ")?.as_bytes())?;
+        if let Some(occurrence) = piece.occurrence() {
+            shown.extend_from_slice(format!(in alloc; "named {occurrence} ")?.as_bytes())?;
         }
         show_items(alloc, shown, web, piece.items())?;
     }
@@ -155,8 +159,8 @@ fn show_sections(alloc: Global, shown: &mut Vec<u8>, web: &Web) -> Result<(), Fa
 }
 
 fn show_occurrences(alloc: Global, shown: &mut Vec<u8>, web: &Web) -> Result<(), Fail> {
-    for name in web.occurrences() {
-        show_occurrence(alloc, shown, name)?;
+    for occurrence in web.occurrences() {
+        show_occurrence(alloc, shown, occurrence)?;
     }
     Ok(())
 }
@@ -168,7 +172,7 @@ fn show_web(alloc: Global, web: &Web) -> Result<Vec<u8>, Fail> {
     show_macros(alloc, &mut shown, web)?;
     show_pieces(alloc, &mut shown, web)?;
     show_occurrences(alloc, &mut shown, web)?;
-    shown.extend_from_slice(lines_of(alloc, web.faults())?.bytes())?;
+    shown.extend_from_slice(lines_of_faults(alloc, web.faults())?.bytes())?;
     Ok(shown)
 }
 

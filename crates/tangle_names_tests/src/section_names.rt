@@ -88,7 +88,7 @@ const WEBS: [(&[u8], &[&[u8]], &[Resolved], &[u8]); 4] = [
         &[Resolved::Name(0), Resolved::Name(0)],
         b"",
     ),
-    // Dots in front of other bytes, and bytes past 127.
+    // Dots before other bytes, and bytes past 127.
     (
         b"@ A.\n@c\n@<....@>@<...@>\n@<.x@>@<@>@<\xFF\x80@>@<\xFF...@>\n",
         &[b".x", b"", b"\xFF\x80"],

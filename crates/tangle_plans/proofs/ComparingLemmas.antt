@@ -10,17 +10,17 @@ use Rattle.tangle_scan.specs.SourceOrder.{IsInRange}
 use Rattle.tangle_scan.specs.Web.{PieceRead}
 use Rattle.tangle_names.specs.NameTable.{TableRead}
 use Rattle.tangle_plans.specs.Tags.{piece_end, shape_tags, shape_bytes}
-use Rattle.tangle_plans.specs.ItemTags.{bytes_in, tag_in, names_in, piece_tags, pieces_tags, pieces_bytes, pieces_names, shape_of}
+use Rattle.tangle_plans.specs.ItemTags.{bytes_in, tag_in, uses_in, piece_tags, pieces_tags, pieces_bytes, pieces_uses, shape_of}
 use Rattle.tangle_plans.specs.ItemSlots.{pieces_at, no_piece}
-use Rattle.tangle_plans.specs.NodeBodies.{HoldsShape, texts_at}
-use Rattle.tangle_plans.specs.Runs.{IsRunOver, IsTextOf, run_bytes}
+use Rattle.tangle_plans.specs.NodeBodies.{HoldsShape, names_at}
+use Rattle.tangle_plans.specs.Ranges.{IsRangeOver, IsSpanOf, range_bytes}
 use Rattle.tangle_plans.specs.Comparing.{HasItemsOf}
-use Rattle.tangle_plans.specs.Fronts.{Lists, GoOnAs, IsBehind, IsNotBehind, with_tag, with_bytes, with_text, with_item, with_items, with_pieces, with_shape, with_range, lists_at, no_lists, lists_of, IsBehindPosition, IsNotBehindPosition, GoesBehind}
+use Rattle.tangle_plans.specs.Fronts.{Lists, GoOnAs, IsAfter, IsNotAfter, with_tag, with_bytes, with_span, with_item, with_items, with_pieces, with_shape, with_range, lists_at, no_lists, lists_of, IsAfterPosition, IsNotAfterPosition, GoesAfter}
 use Rattle.tangle_plans.specs.declared.tags.ItemTag.{ItemTag}
 use Rattle.tangle_plans.specs.declared.tags.ItemKind.{ItemKind}
 use Rattle.tangle_plans.specs.declared.comparing.Position.{Position}
 use Rattle.tangle_plans.specs.declared.nodes.NodeBody.{NodeBody}
-use Rattle.tangle_plans.specs.declared.runs.Run.{Run}
+use Rattle.tangle_plans.specs.declared.ranges.LineRange.{LineRange}
 use Rattle.tangle_plans.proofs.DropLemmas.{drop_all}
 use Rattle.tangle_plans.proofs.HeldLemmas.{tags_held, bytes_held, names_held}
 
@@ -30,12 +30,12 @@ lists_same a b tags bytes uses =
     ∙ ap (λ l. record { tags = b.tags; bytes = l; uses = a.uses }) bytes
     ∙ ap (λ l. record { tags = b.tags; bytes = b.bytes; uses = l }) uses
 
--- one step behind another
+-- one step after another
 
 pub and_then : (a b c : Lists) (f g h : Lists → Lists) → GoOnAs a f b g → GoOnAs b g c h → GoOnAs a f c h
 and_then a b c f g h p q = λ more. ((λ e. (q more).0 ((p more).0 e)), λ e. (p more).1 ((q more).1 e))
 
-pub and_not : (a b : Lists) (f g : Lists → Lists) → GoOnAs a f b g → IsNotBehind g b → IsNotBehind f a
+pub and_not : (a b : Lists) (f g : Lists → Lists) → GoOnAs a f b g → IsNotAfter g b → IsNotAfter f a
 and_not a b f g p q = λ more e. q more ((p more).0 e)
 
 -- fronts that say the same
@@ -43,7 +43,7 @@ and_not a b f g p q = λ more e. q more ((p more).0 e)
 pub front_same : (a b : Lists) (f f' g : Lists → Lists) → ((more : Lists) → f' more ≡ f more) → GoOnAs a f b g → GoOnAs a f' b g
 front_same a b f f' g same p = λ more. ((λ e. (p more).0 (e ∙ same more)), λ e. (p more).1 e ∙ sym (same more))
 
-pub not_same : (a : Lists) (f f' : Lists → Lists) → ((more : Lists) → f' more ≡ f more) → IsNotBehind f a → IsNotBehind f' a
+pub not_same : (a : Lists) (f f' : Lists → Lists) → ((more : Lists) → f' more ≡ f more) → IsNotAfter f a → IsNotAfter f' a
 not_same a f f' same p = λ more e. p more (e ∙ same more)
 
 pub back_same : (a b : Lists) (f g g' : Lists → Lists) → ((more : Lists) → g more ≡ g' more) → GoOnAs a f b g → GoOnAs a f b g'
@@ -61,20 +61,20 @@ other_tag tag first tags bytes uses differ more e =
 abbrev pub with_all : ItemTag → List ℕ → List ℕ → Lists → Lists
 with_all tag bytes uses more = record { tags = tag ∷ more.tags; bytes = bytes ++ more.bytes; uses = uses ++ more.uses }
 
-pub bytes_not : (tag : ItemTag) (bytes uses : List ℕ) (l : Lists) → ((rest : List ℕ) → l.bytes ≢ bytes ++ rest) → IsNotBehind (with_all tag bytes uses) l
+pub bytes_not : (tag : ItemTag) (bytes uses : List ℕ) (l : Lists) → ((rest : List ℕ) → l.bytes ≢ bytes ++ rest) → IsNotAfter (with_all tag bytes uses) l
 bytes_not tag bytes uses l differ = λ more e. differ more.bytes (ap (λ (m : Lists). m.bytes) e)
 
-pub uses_not : (tag : ItemTag) (bytes uses : List ℕ) (l : Lists) → ((rest : List ℕ) → l.uses ≢ uses ++ rest) → IsNotBehind (with_all tag bytes uses) l
+pub uses_not : (tag : ItemTag) (bytes uses : List ℕ) (l : Lists) → ((rest : List ℕ) → l.uses ≢ uses ++ rest) → IsNotAfter (with_all tag bytes uses) l
 uses_not tag bytes uses l differ = λ more e. differ more.uses (ap (λ (m : Lists). m.uses) e)
 
-pub all_behind : (tag first : ItemTag) (bytes uses : List ℕ) (l : Lists) (tags : List ItemTag) (text rest : List ℕ)
-    → first ≡ tag → l.tags ≡ first ∷ tags → l.bytes ≡ bytes ++ text → l.uses ≡ uses ++ rest
-    → IsBehind (with_all tag bytes uses) l (record { tags = tags; bytes = text; uses = rest })
-all_behind tag first bytes uses l tags text rest same is b u = λ more. (
+pub all_after : (tag first : ItemTag) (bytes uses : List ℕ) (l : Lists) (tags : List ItemTag) (left rest : List ℕ)
+    → first ≡ tag → l.tags ≡ first ∷ tags → l.bytes ≡ bytes ++ left → l.uses ≡ uses ++ rest
+    → IsAfter (with_all tag bytes uses) l (record { tags = tags; bytes = left; uses = rest })
+all_after tag first bytes uses l tags left rest same is b u = λ more. (
   (λ e.
       let both : (first ∷ tags) ≡ tag ∷ more.tags = sym is ∙ ap (λ (m : Lists). m.tags) e in
-      lists_same (record { tags = tags; bytes = text; uses = rest }) more (cc)
-      (append_cancel_left bytes text more.bytes (sym b ∙ ap (λ (m : Lists). m.bytes) e))
+      lists_same (record { tags = tags; bytes = left; uses = rest }) more (cc)
+      (append_cancel_left bytes left more.bytes (sym b ∙ ap (λ (m : Lists). m.bytes) e))
       (append_cancel_left uses rest more.uses (sym u ∙ ap (λ (m : Lists). m.uses) e))),
   λ e.
       lists_same l (with_all tag bytes uses more)
@@ -83,41 +83,40 @@ all_behind tag first bytes uses l tags text rest same is b u = λ more. (
       (u ∙ ap (λ r. uses ++ r) (ap (λ (m : Lists). m.uses) e)),
 )
 
-pub cut_not : (run bytes text rest : List ℕ) → text ≡ run ++ rest → ((more : List ℕ) → rest ≢ bytes ++ more) → (more : List ℕ) → text ≢ run ++ (bytes ++ more)
-cut_not run bytes text rest is differ more e = differ more (append_cancel_left run rest (bytes ++ more) (sym is ∙ e))
+pub cut_not : (first bytes whole rest : List ℕ) → whole ≡ first ++ rest → ((more : List ℕ) → rest ≢ bytes ++ more) → (more : List ℕ) → whole ≢ first ++ (bytes ++ more)
+cut_not first bytes whole rest is differ more e = differ more (append_cancel_left first rest (bytes ++ more) (sym is ∙ e))
 
--- an item of one byte, behind which no range is left
--- texts and items behind the bytes of a range
+-- spans and items after the bytes of a range
 
 module _ (texts : List (List ℕ)) where
-  -- a text that begins another range
-  pub text_cut : (run next : List ℕ) (kind : ItemKind) (s : Span) → next ≡ span_text texts s
-      → (more : Lists) → with_bytes run (with_text texts kind s more) ≡ with_tag (record { kind = kind; size = s.end - s.start }) (with_bytes run (with_bytes next more))
-  text_cut run next kind s is more =
-      ap (λ b. record { tags = record { kind = kind; size = s.end - s.start } ∷ more.tags; bytes = run ++ (b ++ more.bytes); uses = more.uses }) (sym is)
+  -- a span that begins another range
+  pub span_cut : (first next : List ℕ) (kind : ItemKind) (s : Span) → next ≡ span_text texts s
+      → (more : Lists) → with_bytes first (with_span texts kind s more) ≡ with_tag (record { kind = kind; size = s.end - s.start }) (with_bytes first (with_bytes next more))
+  span_cut first next kind s is more =
+      ap (λ b. record { tags = record { kind = kind; size = s.end - s.start } ∷ more.tags; bytes = first ++ (b ++ more.bytes); uses = more.uses }) (sym is)
 
 module _ (texts : List (List ℕ)) (table : TableRead) where
-  -- an item that is its text
-  pub item_is_text : (x : Item) (kind : ItemKind) (s : Span) → IsTextOf x kind s → (more : Lists) → with_item texts table x more ≡ with_text texts kind s more
-  item_is_text x kind s is more =
-      lists_same (with_item texts table x more) (with_text texts kind s more)
+  -- an item that has a span
+  pub item_is_span : (x : Item) (kind : ItemKind) (s : Span) → IsSpanOf x kind s → (more : Lists) → with_item texts table x more ≡ with_span texts kind s more
+  item_is_span x kind s is more =
+      lists_same (with_item texts table x more) (with_span texts kind s more)
       (ap (λ c. c ∷ more.tags) (is.tag table)) (ap (λ b. b ++ more.bytes) (is.bytes texts)) (ap (λ u. u ++ more.uses) (is.no_use table))
 
-  -- another item, behind which no range is left
-  pub item_cut : (x : Item) (run next : List ℕ) → next ≡ []
-      → (more : Lists) → with_bytes run (with_item texts table x more) ≡ with_all (tag_in table x) (run ++ bytes_in texts x) (names_in table x) (with_bytes next more)
-  item_cut x run next none more =
-      ap (λ b. record { tags = tag_in table x ∷ more.tags; bytes = b; uses = names_in table x ++ more.uses })
-      (sym (append_assoc run (bytes_in texts x) more.bytes) ∙ ap (λ n. (run ++ bytes_in texts x) ++ (n ++ more.bytes)) (sym none))
+  -- another item, after which no range is left
+  pub item_cut : (x : Item) (first next : List ℕ) → next ≡ []
+      → (more : Lists) → with_bytes first (with_item texts table x more) ≡ with_all (tag_in table x) (first ++ bytes_in texts x) (uses_in table x) (with_bytes next more)
+  item_cut x first next none more =
+      ap (λ b. record { tags = tag_in table x ∷ more.tags; bytes = b; uses = uses_in table x ++ more.uses })
+      (sym (append_assoc first (bytes_in texts x) more.bytes) ∙ ap (λ n. (first ++ bytes_in texts x) ++ (n ++ more.bytes)) (sym none))
 
-  -- what is said of a text is said of the item
-  pub position_of_item : (x : Item) (kind : ItemKind) (s : Span) (tag : ItemTag) (position : Position) (r : Option Position) → IsTextOf x kind s
-      → GoesBehind (with_text texts kind s) tag position r → GoesBehind (with_item texts table x) tag position r
+  -- what is said of a span is said of the item
+  pub position_of_item : (x : Item) (kind : ItemKind) (s : Span) (tag : ItemTag) (position : Position) (r : Option Position) → IsSpanOf x kind s
+      → GoesAfter (with_span texts kind s) tag position r → GoesAfter (with_item texts table x) tag position r
   position_of_item x kind s tag position None is p =
-      λ tags more e. p tags more (e ∙ ap (with_range position) (item_is_text x kind s is more))
+      λ tags more e. p tags more (e ∙ ap (with_range position) (item_is_span x kind s is more))
   position_of_item x kind s tag position (Some next) is p =
-      λ tags. front_same (lists_at (tag ∷ tags) position) (lists_at tags next) (λ more. with_range position (with_text texts kind s more))
-      (λ more. with_range position (with_item texts table x more)) (with_range next) (λ more. ap (with_range position) (item_is_text x kind s is more)) (p tags)
+      λ tags. front_same (lists_at (tag ∷ tags) position) (lists_at tags next) (λ more. with_range position (with_span texts kind s more))
+      (λ more. with_range position (with_item texts table x more)) (with_range next) (λ more. ap (with_range position) (item_is_span x kind s is more)) (p tags)
 
   -- the items of a piece, one by one
   pub items_on : (items : List Item) (i : ℕ) (x : Item) → i < length items → x ≡ get_or items i x
@@ -127,21 +126,21 @@ module _ (texts : List (List ℕ)) (table : TableRead) where
       let next : drop i items ≡ x ∷ rest = drop-cons items i x h ∙ ap (λ y. y ∷ drop (suc i) items) (sym is) ∙ ap (λ j. x ∷ drop j items) (sym (add-one i)) in
       ap (λ l. with_items texts table l more) next
       ∙ lists_same (with_items texts table (x ∷ rest) more) (with_item texts table x (with_items texts table rest more))
-      refl (append_assoc (bytes_in texts x) (flat_map (bytes_in texts) rest) more.bytes) (append_assoc (names_in table x) (flat_map (names_in table) rest) more.uses)
+      refl (append_assoc (bytes_in texts x) (flat_map (bytes_in texts) rest) more.bytes) (append_assoc (uses_in table x) (flat_map (uses_in table) rest) more.uses)
 
   -- one of them at a position, with its tag
   tags_on : (tags : List ItemTag) (i : ℕ) (tag d : ItemTag) → i < length tags → tag ≡ get_or tags i d → drop i tags ≡ tag ∷ drop (i + 1) tags
   tags_on tags i tag d h is = drop-cons tags i d h ∙ ap (λ c. c ∷ drop (suc i) tags) (sym is) ∙ ap (λ j. tag ∷ drop j tags) (sym (add-one i))
 
   pub item_not_next : (tags : List ItemTag) (i : ℕ) (tag d : ItemTag) (items : List Item) (x : Item) (position : Position)
-      → i < length tags → tag ≡ get_or tags i d → i < length items → x ≡ get_or items i x → IsNotBehindPosition (with_item texts table x) tag position
-      → IsNotBehind (λ more. with_range position (with_items texts table (drop i items) more)) (lists_at (drop i tags) position)
+      → i < length tags → tag ≡ get_or tags i d → i < length items → x ≡ get_or items i x → IsNotAfterPosition (with_item texts table x) tag position
+      → IsNotAfter (λ more. with_range position (with_items texts table (drop i items) more)) (lists_at (drop i tags) position)
   item_not_next tags i tag d items x position low is low' is' p =
       λ more e. p (drop (i + 1) tags) (with_items texts table (drop (i + 1) items) more)
       (ap (λ l. lists_at l position) (sym (tags_on tags i tag d low is)) ∙ e ∙ ap (with_range position) (items_on items i x low' is' more))
 
   pub item_next : (tags : List ItemTag) (i : ℕ) (tag d : ItemTag) (items : List Item) (x : Item) (position next : Position)
-      → i < length tags → tag ≡ get_or tags i d → i < length items → x ≡ get_or items i x → IsBehindPosition (with_item texts table x) tag position next
+      → i < length tags → tag ≡ get_or tags i d → i < length items → x ≡ get_or items i x → IsAfterPosition (with_item texts table x) tag position next
       → GoOnAs (lists_at (drop i tags) position) (λ more. with_range position (with_items texts table (drop i items) more))
       (lists_at (drop (i + 1) tags) next) (λ more. with_range next (with_items texts table (drop (i + 1) items) more))
   item_next tags i tag d items x position next low is low' is' p = λ more.
@@ -155,37 +154,37 @@ module _ (texts : List (List ℕ)) (table : TableRead) where
   items_over items i h more = ap (λ l. with_items texts table l more) (drop_all items i h)
 
   -- items that are passed at once, with their tags
-  pub items_passed : (tags slice : List ItemTag) (items rest : List Item) (k n : ℕ) (position : Position) (more : Run) → slice ≡ drop k tags → rest ≡ drop k items
-      → take n slice ≡ map (tag_in table) (take n rest) → IsRunOver texts position.run (take n rest) more
+  pub items_passed : (tags slice : List ItemTag) (items rest : List Item) (k n : ℕ) (position : Position) (more : LineRange) → slice ≡ drop k tags → rest ≡ drop k items
+      → take n slice ≡ map (tag_in table) (take n rest) → IsRangeOver texts position.range (take n rest) more
       → GoOnAs (lists_at (drop k tags) position) (λ l. with_range position (with_items texts table (drop k items) l))
-      (lists_at (drop (k + n) tags) (record position { run = more })) (λ l. with_range (record position { run = more }) (with_items texts table (drop (k + n) items) l))
+      (lists_at (drop (k + n) tags) (record position { range = more })) (λ l. with_range (record position { range = more }) (with_items texts table (drop (k + n) items) l))
   items_passed tags slice items rest k n position more tags_same items_same tagged over = λ l.
       let passed = take n rest in
-      let behind = drop (k + n) items in
-      let next = record position { run = more } in
+      let after = drop (k + n) items in
+      let next = record position { range = more } in
       let bytes = flat_map (bytes_in texts) in
-      let names = flat_map (names_in table) in
-      let all : drop k items ≡ passed ++ behind
+      let names = flat_map (uses_in table) in
+      let all : drop k items ≡ passed ++ after
       = sym items_same ∙ sym (take-append-drop n rest) ∙ ap (λ r. passed ++ r) (ap (drop n) items_same ∙ drop-drop n k items ∙ ap (λ j. drop j items) (omega arith)) in
       let tags_all : drop k tags ≡ map (tag_in table) passed ++ drop (k + n) tags
       = sym tags_same ∙ sym (take-append-drop n slice) ∙ ap (λ r. r ++ drop n slice) tagged ∙ ap (λ r. map (tag_in table) passed ++ r) (ap (drop n) tags_same ∙ drop-drop n k tags ∙ ap (λ j. drop j tags) (omega arith)) in
       let left = with_range position (with_items texts table (drop k items) l) in
-      let right = with_range next (with_items texts table behind l) in
+      let right = with_range next (with_items texts table after l) in
       let tags_is : left.tags ≡ map (tag_in table) passed ++ right.tags
       = ap (λ r. piece_tags table r ++ l.tags) all
-      ∙ ap (λ r. (r ++ piece_end ∷ []) ++ l.tags) (map-append (tag_in table) passed behind)
-      ∙ ap (λ r. r ++ l.tags) (append_assoc (map (tag_in table) passed) (map (tag_in table) behind) (piece_end ∷ []))
-      ∙ append_assoc (map (tag_in table) passed) (piece_tags table behind) l.tags in
+      ∙ ap (λ r. (r ++ piece_end ∷ []) ++ l.tags) (map-append (tag_in table) passed after)
+      ∙ ap (λ r. r ++ l.tags) (append_assoc (map (tag_in table) passed) (map (tag_in table) after) (piece_end ∷ []))
+      ∙ append_assoc (map (tag_in table) passed) (piece_tags table after) l.tags in
       let bytes_is : left.bytes ≡ right.bytes
-      = ap (λ r. run_bytes position.run ++ (bytes r ++ l.bytes)) all
-      ∙ ap (λ r. run_bytes position.run ++ (r ++ l.bytes)) (flat_map-append (bytes_in texts) passed behind)
-      ∙ ap (λ r. run_bytes position.run ++ r) (append_assoc (bytes passed) (bytes behind) l.bytes)
-      ∙ sym (append_assoc (run_bytes position.run) (bytes passed) (bytes behind ++ l.bytes))
-      ∙ ap (λ r. r ++ (bytes behind ++ l.bytes)) over.bytes in
+      = ap (λ r. range_bytes position.range ++ (bytes r ++ l.bytes)) all
+      ∙ ap (λ r. range_bytes position.range ++ (r ++ l.bytes)) (flat_map-append (bytes_in texts) passed after)
+      ∙ ap (λ r. range_bytes position.range ++ r) (append_assoc (bytes passed) (bytes after) l.bytes)
+      ∙ sym (append_assoc (range_bytes position.range) (bytes passed) (bytes after ++ l.bytes))
+      ∙ ap (λ r. r ++ (bytes after ++ l.bytes)) over.bytes in
       let uses_is : left.uses ≡ right.uses
       = ap (λ r. names r ++ l.uses) all
-      ∙ ap (λ r. r ++ l.uses) (flat_map-append (names_in table) passed behind)
-      ∙ ap (λ r. (r ++ names behind) ++ l.uses) (over.no_uses table) in (
+      ∙ ap (λ r. r ++ l.uses) (flat_map-append (uses_in table) passed after)
+      ∙ ap (λ r. (r ++ names after) ++ l.uses) (over.no_uses table) in (
         (λ e. lists_same (lists_at (drop (k + n) tags) next) right
             (append_cancel_left (map (tag_in table) passed) (drop (k + n) tags) right.tags (sym tags_all ∙ ap (λ (m : Lists). m.tags) e ∙ tags_is))
             (ap (λ (m : Lists). m.bytes) e ∙ bytes_is) (ap (λ (m : Lists). m.uses) e ∙ uses_is)),
@@ -195,12 +194,12 @@ module _ (texts : List (List ℕ)) (table : TableRead) where
       )
 
   -- the end of a piece
-  pub end_behind : (tags : List ItemTag) (i : ℕ) (tag d : ItemTag) (run text : List ℕ) (position : Position) → i < length tags → tag ≡ get_or tags i d → tag ≡ piece_end
-      → run ≡ run_bytes position.run → position.text.now ≡ run ++ text
-      → GoOnAs (lists_at (drop i tags) position) (λ more. with_range position (with_tag piece_end more)) (record { tags = drop (i + 1) tags; bytes = text; uses = position.uses.now }) (λ more. more)
-  end_behind tags i tag d run text position low is same ours text_is =
-      all_behind piece_end tag (run_bytes position.run) [] (lists_at (drop i tags) position) (drop (i + 1) tags) text position.uses.now
-      same (tags_on tags i tag d low is) (text_is ∙ ap (λ r. r ++ text) ours) refl
+  pub end_after : (tags : List ItemTag) (i : ℕ) (tag d : ItemTag) (first left : List ℕ) (position : Position) → i < length tags → tag ≡ get_or tags i d → tag ≡ piece_end
+      → first ≡ range_bytes position.range → position.bytes.now ≡ first ++ left
+      → GoOnAs (lists_at (drop i tags) position) (λ more. with_range position (with_tag piece_end more)) (record { tags = drop (i + 1) tags; bytes = left; uses = position.uses.now }) (λ more. more)
+  end_after tags i tag d first left position low is same ours left_is =
+      all_after piece_end tag (range_bytes position.range) [] (lists_at (drop i tags) position) (drop (i + 1) tags) left position.uses.now
+      same (tags_on tags i tag d low is) (left_is ∙ ap (λ r. r ++ left) ours) refl
 
   -- the pieces, one by one
   pub pieces_on : (pieces : List PieceRead) (numbers : List ℕ) (i n : ℕ) (p : PieceRead) (items : List Item) → i < length numbers → n ≡ get_or numbers i 0 → n < length pieces → p ≡ get_or pieces n p → items ≡ p.items
@@ -216,7 +215,7 @@ module _ (texts : List (List ℕ)) (table : TableRead) where
       ∙ lists_same (with_pieces texts table (p ∷ others) more) (with_items texts table p.items (with_pieces texts table others more))
       (append_assoc (piece_tags table p.items) (pieces_tags table others) more.tags)
       (append_assoc (flat_map (bytes_in texts) p.items) (pieces_bytes texts others) more.bytes)
-      (append_assoc (flat_map (names_in table) p.items) (pieces_names table others) more.uses)
+      (append_assoc (flat_map (uses_in table) p.items) (pieces_uses table others) more.uses)
       ∙ ap (λ l. with_items texts table l (with_pieces texts table others more)) (sym ours)
 
   pub pieces_over : (pieces : List PieceRead) (numbers : List ℕ) (i : ℕ) → length numbers ≤ i → (more : Lists) → with_pieces texts table (pieces_at pieces (drop i numbers)) more ≡ more
@@ -229,24 +228,24 @@ module _ (texts : List (List ℕ)) (table : TableRead) where
       lists_same (with_shape texts table pieces more) (with_pieces texts table pieces more)
       (ap (λ l. l ++ more.tags) (sym (tags_held texts table pieces spans))) (ap (λ l. l ++ more.bytes) (sym (bytes_held texts table pieces))) refl
 
-  -- with nothing behind
-  pub has_items : (pieces : List PieceRead) (node : NodeBody) → lists_of node ≡ with_shape texts table pieces no_lists → HasItemsOf texts table pieces node
-  has_items pieces node e = record {
+  -- with nothing after
+  pub has_items : (pieces : List PieceRead) (body : NodeBody) → lists_of body ≡ with_shape texts table pieces no_lists → HasItemsOf texts table pieces body
+  has_items pieces body e = record {
     tags = ap (λ (m : Lists). m.tags) e ∙ append-nil (shape_tags (shape_of texts table pieces));
     bytes = ap (λ (m : Lists). m.bytes) e ∙ append-nil (shape_bytes (shape_of texts table pieces));
-    uses = ap (λ (m : Lists). m.uses) e ∙ append-nil (pieces_names table pieces);
+    uses = ap (λ (m : Lists). m.uses) e ∙ append-nil (pieces_uses table pieces);
   }
 
-  pub items_had : (pieces : List PieceRead) (node : NodeBody) → HasItemsOf texts table pieces node → lists_of node ≡ with_shape texts table pieces no_lists
-  items_had pieces node h =
-      lists_same (lists_of node) (with_shape texts table pieces no_lists)
+  pub items_had : (pieces : List PieceRead) (body : NodeBody) → HasItemsOf texts table pieces body → lists_of body ≡ with_shape texts table pieces no_lists
+  items_had pieces body h =
+      lists_same (lists_of body) (with_shape texts table pieces no_lists)
       (h.tags ∙ sym (append-nil (shape_tags (shape_of texts table pieces))))
       (h.bytes ∙ sym (append-nil (shape_bytes (shape_of texts table pieces))))
-      (h.uses ∙ sym (append-nil (pieces_names table pieces)))
+      (h.uses ∙ sym (append-nil (pieces_uses table pieces)))
 
-  pub shape_had : (pieces : List PieceRead) (node : NodeBody) → HasItemsOf texts table pieces node → HoldsShape table.names (shape_of texts table pieces) node
-  shape_had pieces node h = record {
+  pub shape_had : (pieces : List PieceRead) (body : NodeBody) → HasItemsOf texts table pieces body → HoldsShape table.names (shape_of texts table pieces) body
+  shape_had pieces body h = record {
     tags = h.tags;
     bytes = h.bytes;
-    names_used = ap (texts_at table.names) h.uses ∙ names_held texts table pieces;
+    names_used = ap (names_at table.names) h.uses ∙ names_held texts table pieces;
   }

@@ -1,4 +1,4 @@
--- Lists from a place on.
+-- Lists from a position on.
 use Rattle.std.proofs.Common.{◌≡◌, ◌∙◌, ℕ, ◌+◌, ◌<◌, ◌≤◌, suc, List, [], ◌∷◌, drop, length, get_or, ap, sym, drop-cons, add-one}
 use Rattle.std.proofs.lemmas.List.{at_drop_all}
 

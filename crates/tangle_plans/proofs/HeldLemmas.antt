@@ -1,4 +1,4 @@
--- What is kept of a node determines its shape.
+-- The body of a node determines its shape.
 use Rattle.std.proofs.Common.{◌≡◌, ◌∙◌, ℕ, ◌+◌, ◌-◌, ◌<◌, ◌≤◌, zero, suc, List, [], ◌∷◌, ◌++◌, map, length, drop, refl, ap, sym, append_assoc, arith, get_or, drop-cons, add-one, length-drop, append-nil, All}
 use Rattle.std.specs.Prelude.{flat_map}
 use Rattle.std.proofs.lemmas.List.{map-append, get_or_default, length-take}
@@ -14,8 +14,8 @@ use Rattle.tangle_names.specs.NameTable.{TableRead}
 use Rattle.tangle_plans.specs.WebShapes.{use_of, resolved_at, shape_item}
 use Rattle.tangle_plans.specs.Tags.{item_tag, piece_end, item_bytes, item_names, shape_tags, shape_bytes, shape_names}
 use Rattle.tangle_plans.specs.ItemSlots.{pieces_at, no_piece}
-use Rattle.tangle_plans.specs.ItemTags.{use_tag, names_resolved, tag_in, pieces_tags, names_in, pieces_names, bytes_in, pieces_bytes, shape_of}
-use Rattle.tangle_plans.specs.NodeBodies.{texts_at}
+use Rattle.tangle_plans.specs.ItemTags.{use_tag, uses_resolved, tag_in, pieces_tags, uses_in, pieces_uses, bytes_in, pieces_bytes, shape_of}
+use Rattle.tangle_plans.specs.NodeBodies.{names_at}
 use Rattle.tangle_plans.proofs.DropLemmas.{drop_all}
 use Rattle.tangle_plans.specs.declared.tags.ItemKind.{ItemKind}
 use Rattle.tangle_plans.specs.declared.tags.ItemKind.TheVariants as tag
@@ -34,7 +34,7 @@ pieces_next f pieces numbers i n p made whole h is low at e =
     ∙ ap (λ l. made ++ flat_map f (pieces_at pieces l)) (sym next)
     ∙ e
 
--- behind the last of them
+-- after the last of them
 pub pieces_done : {A : Type 0} (f : PieceRead → List A) (pieces : List PieceRead) (numbers : List ℕ) (i : ℕ) (made whole : List A)
     → length numbers ≤ i → made ++ flat_map f (pieces_at pieces (drop i numbers)) ≡ whole → made ≡ whole
 pieces_done f pieces numbers i made whole h e = sym (append-nil made) ∙ ap (λ l. made ++ flat_map f (pieces_at pieces l)) (sym (drop_all numbers i h)) ∙ e
@@ -48,8 +48,8 @@ span_length texts s h =
 abbrev sized : ItemKind → ℕ → ItemTag
 sized kind n = record { kind = kind; size = n }
 
-text_held : (kind : ItemKind) (texts : List (List ℕ)) (s : Span) → IsSpan texts s → sized kind (s.end - s.start) ≡ sized kind (length (span_text texts s))
-text_held kind texts s h = ap (sized kind) (sym (span_length texts s h))
+span_held : (kind : ItemKind) (texts : List (List ℕ)) (s : Span) → IsSpan texts s → sized kind (s.end - s.start) ≡ sized kind (length (span_text texts s))
+span_held kind texts s h = ap (sized kind) (sym (span_length texts s h))
 
 use_held : (table : TableRead) (r : Resolved) → use_tag r ≡ item_tag (use_of table r)
 use_held table (Name id) = refl
@@ -57,11 +57,11 @@ use_held table NoFullName = refl
 use_held table Ambiguous = refl
 
 tag_held : (texts : List (List ℕ)) (table : TableRead) (x : Item) → IsInRange texts x → tag_in table x ≡ item_tag (shape_item texts table x)
-tag_held texts table (item.Word s) h = text_held tag.Word texts s h
-tag_held texts table (item.Sign s) h = text_held tag.Sign texts s h
-tag_held texts table (item.Quoted s) h = text_held tag.Quoted texts s h
+tag_held texts table (item.Word s) h = span_held tag.Word texts s h
+tag_held texts table (item.Sign s) h = span_held tag.Sign texts s h
+tag_held texts table (item.Quoted s) h = span_held tag.Quoted texts s h
 tag_held texts table item.QuoteBreak h = refl
-tag_held texts table (item.Verbatim s) h = text_held tag.Verbatim texts s h
+tag_held texts table (item.Verbatim s) h = span_held tag.Verbatim texts s h
 tag_held texts table (item.Code value) h = refl
 tag_held texts table item.Blank h = refl
 tag_held texts table item.LineEnd h = refl
@@ -126,12 +126,12 @@ bytes_held texts table (p ∷ pieces) =
 
 -- names
 
-use_names : (table : TableRead) (r : Resolved) → texts_at table.names (names_resolved r) ≡ item_names (use_of table r)
+use_names : (table : TableRead) (r : Resolved) → names_at table.names (uses_resolved r) ≡ item_names (use_of table r)
 use_names table (Name id) = refl
 use_names table NoFullName = refl
 use_names table Ambiguous = refl
 
-name_held : (texts : List (List ℕ)) (table : TableRead) (x : Item) → texts_at table.names (names_in table x) ≡ item_names (shape_item texts table x)
+name_held : (texts : List (List ℕ)) (table : TableRead) (x : Item) → names_at table.names (uses_in table x) ≡ item_names (shape_item texts table x)
 name_held texts table (item.Word s) = refl
 name_held texts table (item.Sign s) = refl
 name_held texts table (item.Quoted s) = refl
@@ -145,19 +145,19 @@ name_held texts table (item.UseOf occurrence) = use_names table (resolved_at tab
 name_held texts table item.Defs = refl
 
 item_names_held : (texts : List (List ℕ)) (table : TableRead) (items : List Item)
-    → texts_at table.names (flat_map (names_in table) items) ≡ flat_map item_names (map (shape_item texts table) items)
+    → names_at table.names (flat_map (uses_in table) items) ≡ flat_map item_names (map (shape_item texts table) items)
 item_names_held texts table [] = refl
 item_names_held texts table (x ∷ items) =
-    map-append _ (names_in table x) (flat_map (names_in table) items)
-    ∙ ap (λ l. l ++ texts_at table.names (flat_map (names_in table) items)) (name_held texts table x)
+    map-append _ (uses_in table x) (flat_map (uses_in table) items)
+    ∙ ap (λ l. l ++ names_at table.names (flat_map (uses_in table) items)) (name_held texts table x)
     ∙ ap (λ l. item_names (shape_item texts table x) ++ l) (item_names_held texts table items)
 
 pub names_held : (texts : List (List ℕ)) (table : TableRead) (pieces : List PieceRead)
-    → texts_at table.names (pieces_names table pieces) ≡ shape_names (shape_of texts table pieces)
+    → names_at table.names (pieces_uses table pieces) ≡ shape_names (shape_of texts table pieces)
 names_held texts table [] = refl
 names_held texts table (p ∷ pieces) =
-    map-append _ (flat_map (names_in table) p.items) (pieces_names table pieces)
-    ∙ ap (λ l. l ++ texts_at table.names (pieces_names table pieces)) (item_names_held texts table p.items)
+    map-append _ (flat_map (uses_in table) p.items) (pieces_uses table pieces)
+    ∙ ap (λ l. l ++ names_at table.names (pieces_uses table pieces)) (item_names_held texts table p.items)
     ∙ ap (λ l. flat_map item_names (map (shape_item texts table) p.items) ++ l) (names_held texts table pieces)
 
 -- one more item of a list

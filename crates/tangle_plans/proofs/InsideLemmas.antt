@@ -10,10 +10,10 @@ use Rattle.tangle_names.specs.Resolving.{names_in_order, resolve}
 use Rattle.tangle_names.specs.Laws.{ResolvesFull, ResolvesPrefix}
 use Rattle.tangle_plans.specs.WebShapes.{IsNameBelow}
 
-full_inside : (names : List (List ℕ)) (text : List ℕ) (r : Resolved) → ResolvesFull names text r → IsNameBelow (length names) r
-full_inside names text (Name id) h = h.inside
-full_inside names text NoFullName h = tt
-full_inside names text Ambiguous h = tt
+full_inside : (names : List (List ℕ)) (name : List ℕ) (r : Resolved) → ResolvesFull names name r → IsNameBelow (length names) r
+full_inside names name (Name id) h = h.inside
+full_inside names name NoFullName h = tt
+full_inside names name Ambiguous h = tt
 
 prefix_inside : (names full : List (List ℕ)) (p : List ℕ) (r : Resolved) → ResolvesPrefix names full p r → IsNameBelow (length names) r
 prefix_inside names full p (Name id) h = h.1.inside

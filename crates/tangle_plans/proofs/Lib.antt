@@ -4,7 +4,7 @@ pub mod ShapeLemmas
 pub mod SameNames
 pub mod DropLemmas
 pub mod PlanningLemmas
-pub mod RunLemmas
+pub mod RangeLemmas
 pub mod TagLemmas
 pub mod CountLemmas
 pub mod HeldLemmas

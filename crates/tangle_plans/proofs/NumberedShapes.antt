@@ -1,4 +1,4 @@
--- Tags, bytes and uses of pieces report their slots.
+-- Tags, bytes and uses of pieces determine their slots.
 use Rattle.std.proofs.Common.{◌≡◌, ◌∙◌, ℕ, ◌+◌, Bool, List, [], ◌∷◌, ◌++◌, map, refl, ap, sym}
 use Rattle.std.specs.Prelude.{flat_map, if◌then◌else◌, decimal}
 use Rattle.std.proofs.lemmas.List.{map-append}
@@ -12,27 +12,27 @@ use Rattle.tangle_names.specs.declared.Resolved.TheVariants.{Name, NoFullName, A
 use Rattle.tangle_names.specs.NameTable.{TableRead}
 use Rattle.tangle_plans.specs.Shapes.{Title, ShapeItem, Written, Mark, Use, NoUse, Shape}
 use Rattle.tangle_plans.specs.Shapes as shape
-use Rattle.tangle_plans.specs.Flat.{Byte, Opening, MarkOf, Closing, AllMacros, marks_behind}
+use Rattle.tangle_plans.specs.Flat.{Byte, Opening, MarkOf, Closing, AllMacros, marks_after_shape_item}
 use Rattle.tangle_plans.specs.WebShapes.{use_of, resolved_at, shape_item}
 use Rattle.tangle_plans.specs.Slots.{Slot, Own, Used, byte_slots}
 use Rattle.tangle_plans.specs.Tags.{item_tag, piece_end, item_bytes, item_names, shape_tags, shape_bytes, shape_names}
-use Rattle.tangle_plans.specs.ItemTags.{names_resolved, names_in, pieces_names, shape_of}
-use Rattle.tangle_plans.specs.ItemSlots.{marks_behind_item, name_slots, item_slots, items_slots, pieces_slots}
+use Rattle.tangle_plans.specs.ItemTags.{uses_resolved, uses_in, pieces_uses, shape_of}
+use Rattle.tangle_plans.specs.ItemSlots.{marks_after_item, name_slots, item_slots, items_slots, pieces_slots}
 use Rattle.tangle_plans.specs.Comparing.{HasItemsOf}
 use Rattle.tangle_plans.specs.declared.nodes.NodeBody.{NodeBody}
 use Rattle.tangle_plans.proofs.TagLemmas.{same_by_tags}
 
--- A shape in which each name is its number, as a text of one byte.
+-- A shape in which each name is its number, as a name of one byte.
 
-abbrev as_text : ℕ → List ℕ
-as_text id = id ∷ []
+abbrev as_name : ℕ → List ℕ
+as_name id = id ∷ []
 
 abbrev number_of : List ℕ → ℕ
 number_of [] = 0
 number_of (id ∷ rest) = id
 
 abbrev use_numbered : Resolved → ShapeItem
-use_numbered (Name id) = Use (as_text id)
+use_numbered (Name id) = Use (as_name id)
 use_numbered NoFullName = NoUse
 use_numbered Ambiguous = NoUse
 
@@ -117,12 +117,12 @@ module _ (texts : List (List ℕ)) (table : TableRead) where
 
   -- its names are the numbers
 
-  use_names_numbered : (r : Resolved) → item_names (use_numbered r) ≡ map as_text (names_resolved r)
+  use_names_numbered : (r : Resolved) → item_names (use_numbered r) ≡ map as_name (uses_resolved r)
   use_names_numbered (Name id) = refl
   use_names_numbered NoFullName = refl
   use_names_numbered Ambiguous = refl
 
-  name_numbered : (x : Item) → item_names (numbered x) ≡ map as_text (names_in table x)
+  name_numbered : (x : Item) → item_names (numbered x) ≡ map as_name (uses_in table x)
   name_numbered (item.Word span) = refl
   name_numbered (item.Sign span) = refl
   name_numbered (item.Quoted span) = refl
@@ -135,19 +135,19 @@ module _ (texts : List (List ℕ)) (table : TableRead) where
   name_numbered (item.UseOf occurrence) = use_names_numbered (resolved_at table occurrence)
   name_numbered item.Defs = refl
 
-  item_names_numbered : (items : List Item) → flat_map item_names (map numbered items) ≡ map as_text (flat_map (names_in table) items)
+  item_names_numbered : (items : List Item) → flat_map item_names (map numbered items) ≡ map as_name (flat_map (uses_in table) items)
   item_names_numbered [] = refl
   item_names_numbered (x ∷ items) =
       ap (λ l. l ++ flat_map item_names (map numbered items)) (name_numbered x)
-      ∙ ap (λ l. map as_text (names_in table x) ++ l) (item_names_numbered items)
-      ∙ sym (map-append as_text (names_in table x) (flat_map (names_in table) items))
+      ∙ ap (λ l. map as_name (uses_in table x) ++ l) (item_names_numbered items)
+      ∙ sym (map-append as_name (uses_in table x) (flat_map (uses_in table) items))
 
-  names_numbered : (pieces : List PieceRead) → shape_names (shape_numbered pieces) ≡ map as_text (pieces_names table pieces)
+  names_numbered : (pieces : List PieceRead) → shape_names (shape_numbered pieces) ≡ map as_name (pieces_uses table pieces)
   names_numbered [] = refl
   names_numbered (p ∷ pieces) =
       ap (λ l. l ++ shape_names (shape_numbered pieces)) (item_names_numbered p.items)
-      ∙ ap (λ l. map as_text (flat_map (names_in table) p.items) ++ l) (names_numbered pieces)
-      ∙ sym (map-append as_text (flat_map (names_in table) p.items) (pieces_names table pieces))
+      ∙ ap (λ l. map as_name (flat_map (uses_in table) p.items) ++ l) (names_numbered pieces)
+      ∙ sym (map-append as_name (flat_map (uses_in table) p.items) (pieces_uses table pieces))
 
 -- the slots of such a shape
 
@@ -161,7 +161,7 @@ module _ (has_piece : ℕ → Bool) (node : Title) where
 
   abbrev shape_items_slots : ℕ → ℕ → List ShapeItem → List Slot
   shape_items_slots piece marks [] = Own (Closing node piece) ∷ []
-  shape_items_slots piece marks (x ∷ items) = shape_item_slots piece marks x ++ shape_items_slots piece (marks_behind marks x) items
+  shape_items_slots piece marks (x ∷ items) = shape_item_slots piece marks x ++ shape_items_slots piece (marks_after_shape_item marks x) items
 
   abbrev shape_slots : ℕ → Shape → List Slot
   shape_slots piece [] = []
@@ -186,12 +186,12 @@ module _ (has_piece : ℕ → Bool) (node : Title) where
     slot_numbered piece marks (item.UseOf occurrence) = name_slots_numbered piece marks (resolved_at table occurrence)
     slot_numbered piece marks item.Defs = refl
 
-    use_marks_numbered : (marks : ℕ) (r : Resolved) → marks ≡ marks_behind marks (use_numbered r)
+    use_marks_numbered : (marks : ℕ) (r : Resolved) → marks ≡ marks_after_shape_item marks (use_numbered r)
     use_marks_numbered marks (Name id) = refl
     use_marks_numbered marks NoFullName = refl
     use_marks_numbered marks Ambiguous = refl
 
-    marks_numbered : (marks : ℕ) (x : Item) → marks_behind_item marks x ≡ marks_behind marks (numbered texts table x)
+    marks_numbered : (marks : ℕ) (x : Item) → marks_after_item marks x ≡ marks_after_shape_item marks (numbered texts table x)
     marks_numbered marks (item.Word span) = refl
     marks_numbered marks (item.Sign span) = refl
     marks_numbered marks (item.Quoted span) = refl
@@ -208,8 +208,8 @@ module _ (has_piece : ℕ → Bool) (node : Title) where
         → items_slots texts table has_piece node piece marks items ≡ shape_items_slots piece marks (map (numbered texts table) items)
     items_slots_numbered piece marks [] = refl
     items_slots_numbered piece marks (x ∷ items) =
-        ap (λ l. l ++ items_slots texts table has_piece node piece (marks_behind_item marks x) items) (slot_numbered piece marks x)
-        ∙ ap (λ l. shape_item_slots piece marks (numbered texts table x) ++ l) (items_slots_numbered piece (marks_behind_item marks x) items)
+        ap (λ l. l ++ items_slots texts table has_piece node piece (marks_after_item marks x) items) (slot_numbered piece marks x)
+        ∙ ap (λ l. shape_item_slots piece marks (numbered texts table x) ++ l) (items_slots_numbered piece (marks_after_item marks x) items)
         ∙ ap (λ m. shape_item_slots piece marks (numbered texts table x) ++ shape_items_slots piece m (map (numbered texts table) items)) (marks_numbered marks x)
 
     slots_numbered : (piece : ℕ) (pieces : List PieceRead)
@@ -220,14 +220,14 @@ module _ (has_piece : ℕ → Bool) (node : Title) where
         ∙ ap (λ l. (Own (Opening node piece) ∷ Own (MarkOf node piece 0) ∷ shape_items_slots piece 0 (map (numbered texts table) p.items)) ++ l) (slots_numbered (piece + 1) pieces)
 
 -- two lists of pieces with the same tags, bytes and uses
-module _ (texts texts' : List (List ℕ)) (table table' : TableRead) (pieces pieces' : List PieceRead) (node : NodeBody)
-    (h : HasItemsOf texts table pieces node) (k : HasItemsOf texts' table' pieces' node) where
+module _ (texts texts' : List (List ℕ)) (table table' : TableRead) (pieces pieces' : List PieceRead) (body : NodeBody)
+    (h : HasItemsOf texts table pieces body) (k : HasItemsOf texts' table' pieces' body) where
   shapes_same : shape_numbered texts table pieces ≡ shape_numbered texts' table' pieces'
   shapes_same =
       same_by_tags (shape_numbered texts table pieces) (shape_numbered texts' table' pieces')
       (tags_numbered texts table pieces ∙ sym h.tags ∙ k.tags ∙ sym (tags_numbered texts' table' pieces'))
       (bytes_numbered texts table pieces ∙ sym h.bytes ∙ k.bytes ∙ sym (bytes_numbered texts' table' pieces'))
-      (names_numbered texts table pieces ∙ ap (map as_text) (sym h.uses ∙ k.uses) ∙ sym (names_numbered texts' table' pieces'))
+      (names_numbered texts table pieces ∙ ap (map as_name) (sym h.uses ∙ k.uses) ∙ sym (names_numbered texts' table' pieces'))
 
   pub slots_same : (has_piece : ℕ → Bool) (title : Title) (piece : ℕ)
       → pieces_slots texts table has_piece title piece pieces ≡ pieces_slots texts' table' has_piece title piece pieces'

@@ -1,4 +1,4 @@
--- A text and a plan that are being made.
+-- Bytes and a plan that are being made.
 use Rattle.std.proofs.Common.{◌≡◌, ◌∙◌, ℕ, ◌+◌, ◌-◌, ◌<◌, ◌≤◌, zero, suc, Bool, true, false, List, [], ◌∷◌, ◌++◌, map, take, drop, length, refl, ap, sym, subst, append_assoc, append-nil, arith, length-append, length-drop, get_or, drop-cons, add-one}
 use Rattle.std.specs.Prelude.{nat_lt, if◌then◌else◌}
 use Rattle.std.specs.List.{AllByRecursion}
@@ -7,13 +7,13 @@ use Rattle.std.proofs.Math.Seq.{take-length}
 use borrow.Author.Tests.{ltb-true, ltb-false}
 use Rattle.tangle_plans.specs.Shapes.{Title}
 use Rattle.tangle_plans.specs.Flat.{Byte}
-use Rattle.tangle_plans.specs.Meaning.{bytes_between, pieces_passed, marks_passed, bytes_passed}
-use Rattle.tangle_plans.specs.Slots.{Slot, Own, step_slots, slots, pieces_after, marks_after, bytes_after, EndsWithin, is_run, last_run, IsMade, byte_slots}
+use Rattle.tangle_plans.specs.Meaning.{bytes_between, pieces_after_step, marks_after_step, bytes_after_step}
+use Rattle.tangle_plans.specs.Slots.{Slot, Own, step_slots, slots, pieces_after_plan, marks_after_plan, bytes_after_plan, EndsWithin, is_run, last_run, IsMade, byte_slots}
 use Rattle.tangle_plans.specs.declared.steps.Step.{Step}
 use Rattle.tangle_plans.specs.declared.steps.Step.TheVariants as step
 use Rattle.tangle_scan.specs.declared.items.Item.{Item}
 use Rattle.tangle_names.specs.NameTable.{TableRead}
-use Rattle.tangle_plans.specs.ItemSlots.{marks_behind_item, item_slots, items_slots, piece_slots, pieces_slots, pieces_at, no_piece}
+use Rattle.tangle_plans.specs.ItemSlots.{marks_after_item, item_slots, items_slots, piece_slots, pieces_slots, pieces_at, no_piece}
 use Rattle.tangle_scan.specs.Web.{PieceRead}
 use Rattle.tangle_plans.proofs.DropLemmas.{drop_all}
 
@@ -22,25 +22,25 @@ drop-append zero xs ys h = refl
 drop-append (suc n) [] ys h = absurd (omega (arith, h))
 drop-append (suc n) (x ∷ xs) ys h = drop-append n xs ys (omega (arith, h))
 
-slots-append : (node : Title) (text : List ℕ) (piece marks start : ℕ) (plan more : List Step)
-    → slots node text piece marks start (plan ++ more)
-    ≡ slots node text piece marks start plan ++ slots node text (pieces_after piece plan) (marks_after marks plan) (bytes_after start plan) more
-slots-append node text piece marks start [] more = refl
-slots-append node text piece marks start (s ∷ plan) more =
-    ap (λ l. step_slots node text piece marks start s ++ l) (slots-append node text (pieces_passed piece s) (marks_passed marks s) (bytes_passed start s) plan more)
-    ∙ sym (append_assoc (step_slots node text piece marks start s) _ _)
+slots-append : (node : Title) (bytes : List ℕ) (piece marks start : ℕ) (plan more : List Step)
+    → slots node bytes piece marks start (plan ++ more)
+    ≡ slots node bytes piece marks start plan ++ slots node bytes (pieces_after_plan piece plan) (marks_after_plan marks plan) (bytes_after_plan start plan) more
+slots-append node bytes piece marks start [] more = refl
+slots-append node bytes piece marks start (s ∷ plan) more =
+    ap (λ l. step_slots node bytes piece marks start s ++ l) (slots-append node bytes (pieces_after_step piece s) (marks_after_step marks s) (bytes_after_step start s) plan more)
+    ∙ sym (append_assoc (step_slots node bytes piece marks start s) _ _)
 
-pieces_after-append : (piece : ℕ) (plan more : List Step) → pieces_after piece (plan ++ more) ≡ pieces_after (pieces_after piece plan) more
-pieces_after-append piece [] more = refl
-pieces_after-append piece (s ∷ plan) more = pieces_after-append (pieces_passed piece s) plan more
+pieces_after_plan-append : (piece : ℕ) (plan more : List Step) → pieces_after_plan piece (plan ++ more) ≡ pieces_after_plan (pieces_after_plan piece plan) more
+pieces_after_plan-append piece [] more = refl
+pieces_after_plan-append piece (s ∷ plan) more = pieces_after_plan-append (pieces_after_step piece s) plan more
 
-marks_after-append : (marks : ℕ) (plan more : List Step) → marks_after marks (plan ++ more) ≡ marks_after (marks_after marks plan) more
-marks_after-append marks [] more = refl
-marks_after-append marks (s ∷ plan) more = marks_after-append (marks_passed marks s) plan more
+marks_after_plan-append : (marks : ℕ) (plan more : List Step) → marks_after_plan marks (plan ++ more) ≡ marks_after_plan (marks_after_plan marks plan) more
+marks_after_plan-append marks [] more = refl
+marks_after_plan-append marks (s ∷ plan) more = marks_after_plan-append (marks_after_step marks s) plan more
 
-bytes_after-append : (start : ℕ) (plan more : List Step) → bytes_after start (plan ++ more) ≡ bytes_after (bytes_after start plan) more
-bytes_after-append start [] more = refl
-bytes_after-append start (s ∷ plan) more = bytes_after-append (bytes_passed start s) plan more
+bytes_after_plan-append : (start : ℕ) (plan more : List Step) → bytes_after_plan start (plan ++ more) ≡ bytes_after_plan (bytes_after_plan start plan) more
+bytes_after_plan-append start [] more = refl
+bytes_after_plan-append start (s ∷ plan) more = bytes_after_plan-append (bytes_after_step start s) plan more
 
 ends-append : (most : ℕ) (plan more : List Step) → AllByRecursion (EndsWithin most) plan → AllByRecursion (EndsWithin most) more → AllByRecursion (EndsWithin most) (plan ++ more)
 ends-append most [] more h k = k
@@ -59,55 +59,55 @@ ends-longer : (n m : ℕ) (plan : List Step) → n ≤ m → AllByRecursion (End
 ends-longer n m [] le h = tt
 ends-longer n m (s ∷ plan) le h = (end-longer n m s le h.0, ends-longer n m plan le h.1)
 
--- what lies within a text is there in a longer one
-between-longer : (text bytes : List ℕ) (start end : ℕ) → end ≤ length text → bytes_between (text ++ bytes) start end ≡ bytes_between text start end
-between-longer text bytes start end h = by (nat_lt start end) refl
+-- what is within the bytes is there in a longer list
+between-longer : (bytes more : List ℕ) (start end : ℕ) → end ≤ length bytes → bytes_between (bytes ++ more) start end ≡ bytes_between bytes start end
+between-longer bytes more start end h = by (nat_lt start end) refl
   where
-    by : (t : Bool) → nat_lt start end ≡ t → bytes_between (text ++ bytes) start end ≡ bytes_between text start end
+    by : (t : Bool) → nat_lt start end ≡ t → bytes_between (bytes ++ more) start end ≡ bytes_between bytes start end
     by true e =
         let low : start < end = ltb-true start end e in
-        ap (take (end - start)) (drop-append start text bytes (omega (arith, low, h)))
-        ∙ take-append-le (end - start) (drop start text) bytes (omega (arith, low, h, length-drop start text))
+        ap (take (end - start)) (drop-append start bytes more (omega (arith, low, h)))
+        ∙ take-append-le (end - start) (drop start bytes) more (omega (arith, low, h, length-drop start bytes))
     by false e =
         let high : end ≤ start = ltb-false start end e in
         let none : end - start ≡ 0 = omega (arith, high) in
-        ap (λ n. take n (drop start (text ++ bytes))) none ∙ sym (ap (λ n. take n (drop start text)) none)
+        ap (λ n. take n (drop start (bytes ++ more))) none ∙ sym (ap (λ n. take n (drop start bytes)) none)
 
-step_slots-longer : (node : Title) (text bytes : List ℕ) (piece marks start : ℕ) (s : Step) → EndsWithin (length text) s
-    → step_slots node (text ++ bytes) piece marks start s ≡ step_slots node text piece marks start s
-step_slots-longer node text bytes piece marks start (step.Run end) h = ap (map (λ b. Own (Byte b))) (between-longer text bytes start end h)
-step_slots-longer node text bytes piece marks start step.Open h = refl
-step_slots-longer node text bytes piece marks start step.Mark h = refl
-step_slots-longer node text bytes piece marks start step.AllMacros h = refl
-step_slots-longer node text bytes piece marks start step.Space h = refl
-step_slots-longer node text bytes piece marks start (step.Use id) h = refl
-step_slots-longer node text bytes piece marks start step.Close h = refl
+step_slots-longer : (node : Title) (bytes more : List ℕ) (piece marks start : ℕ) (s : Step) → EndsWithin (length bytes) s
+    → step_slots node (bytes ++ more) piece marks start s ≡ step_slots node bytes piece marks start s
+step_slots-longer node bytes more piece marks start (step.Run end) h = ap (map (λ b. Own (Byte b))) (between-longer bytes more start end h)
+step_slots-longer node bytes more piece marks start step.Open h = refl
+step_slots-longer node bytes more piece marks start step.Mark h = refl
+step_slots-longer node bytes more piece marks start step.AllMacros h = refl
+step_slots-longer node bytes more piece marks start step.Space h = refl
+step_slots-longer node bytes more piece marks start (step.Use id) h = refl
+step_slots-longer node bytes more piece marks start step.Close h = refl
 
-slots-longer : (node : Title) (text bytes : List ℕ) (piece marks start : ℕ) (plan : List Step) → AllByRecursion (EndsWithin (length text)) plan
-    → slots node (text ++ bytes) piece marks start plan ≡ slots node text piece marks start plan
-slots-longer node text bytes piece marks start [] h = refl
-slots-longer node text bytes piece marks start (s ∷ plan) h =
-    ap (λ l. l ++ slots node (text ++ bytes) (pieces_passed piece s) (marks_passed marks s) (bytes_passed start s) plan) (step_slots-longer node text bytes piece marks start s h.0)
-    ∙ ap (λ l. step_slots node text piece marks start s ++ l) (slots-longer node text bytes (pieces_passed piece s) (marks_passed marks s) (bytes_passed start s) plan h.1)
+slots-longer : (node : Title) (bytes more : List ℕ) (piece marks start : ℕ) (plan : List Step) → AllByRecursion (EndsWithin (length bytes)) plan
+    → slots node (bytes ++ more) piece marks start plan ≡ slots node bytes piece marks start plan
+slots-longer node bytes more piece marks start [] h = refl
+slots-longer node bytes more piece marks start (s ∷ plan) h =
+    ap (λ l. l ++ slots node (bytes ++ more) (pieces_after_step piece s) (marks_after_step marks s) (bytes_after_step start s) plan) (step_slots-longer node bytes more piece marks start s h.0)
+    ∙ ap (λ l. step_slots node bytes piece marks start s ++ l) (slots-longer node bytes more (pieces_after_step piece s) (marks_after_step marks s) (bytes_after_step start s) plan h.1)
 
 -- more bytes
-pub bytes_made : (node : Title) (text bytes : List ℕ) (plan : List Step) (piece marks start : ℕ) → IsMade text plan piece marks start
-    → slots node (text ++ bytes) 0 0 0 plan ++ byte_slots (drop start (text ++ bytes)) ≡ (slots node text 0 0 0 plan ++ byte_slots (drop start text)) ++ byte_slots bytes
-bytes_made node text bytes plan piece marks start h =
-    ap (λ l. l ++ byte_slots (drop start (text ++ bytes))) (slots-longer node text bytes 0 0 0 plan h.ends)
-    ∙ ap (λ l. slots node text 0 0 0 plan ++ byte_slots l) (drop-append start text bytes h.within)
-    ∙ ap (λ l. slots node text 0 0 0 plan ++ l) (map-append (λ b. Own (Byte b)) (drop start text) bytes)
-    ∙ sym (append_assoc (slots node text 0 0 0 plan) (byte_slots (drop start text)) (byte_slots bytes))
+pub bytes_made : (node : Title) (bytes more : List ℕ) (plan : List Step) (piece marks start : ℕ) → IsMade bytes plan piece marks start
+    → slots node (bytes ++ more) 0 0 0 plan ++ byte_slots (drop start (bytes ++ more)) ≡ (slots node bytes 0 0 0 plan ++ byte_slots (drop start bytes)) ++ byte_slots more
+bytes_made node bytes more plan piece marks start h =
+    ap (λ l. l ++ byte_slots (drop start (bytes ++ more))) (slots-longer node bytes more 0 0 0 plan h.ends)
+    ∙ ap (λ l. slots node bytes 0 0 0 plan ++ byte_slots l) (drop-append start bytes more h.within)
+    ∙ ap (λ l. slots node bytes 0 0 0 plan ++ l) (map-append (λ b. Own (Byte b)) (drop start bytes) more)
+    ∙ sym (append_assoc (slots node bytes 0 0 0 plan) (byte_slots (drop start bytes)) (byte_slots more))
 
-pub more_bytes : (text bytes : List ℕ) (plan : List Step) (piece marks start : ℕ) → IsMade text plan piece marks start → IsMade (text ++ bytes) plan piece marks start
-more_bytes text bytes plan piece marks start h = record {
+pub more_bytes : (bytes more : List ℕ) (plan : List Step) (piece marks start : ℕ) → IsMade bytes plan piece marks start → IsMade (bytes ++ more) plan piece marks start
+more_bytes bytes more plan piece marks start h = record {
   pieces = h.pieces;
   marks_of_piece = h.marks_of_piece;
   runs = h.runs;
-  within = omega (arith, h.within, length-append text bytes);
+  within = omega (arith, h.within, length-append bytes more);
   pieces_few = h.pieces_few;
   marks_few = h.marks_few;
-  ends = ends-longer (length text) (length (text ++ bytes)) plan (omega (arith, length-append text bytes)) h.ends;
+  ends = ends-longer (length bytes) (length (bytes ++ more)) plan (omega (arith, length-append bytes more)) h.ends;
 }
 
 -- the last run
@@ -115,48 +115,48 @@ more_bytes text bytes plan piece marks start h = record {
 take_all : (xs : List ℕ) (n : ℕ) → n ≡ length xs → take n xs ≡ xs
 take_all xs n e = rw e (take-length xs)
 
-pub run_made : (node : Title) (text : List ℕ) (plan : List Step) (piece marks start : ℕ) → IsMade text plan piece marks start
-    → slots node text 0 0 0 (plan ++ last_run start (length text)) ≡ slots node text 0 0 0 plan ++ byte_slots (drop start text)
-run_made node text plan piece marks start h = slots-append node text 0 0 0 plan (last_run start (length text)) ∙ by (nat_lt start (length text)) refl
+pub run_made : (node : Title) (bytes : List ℕ) (plan : List Step) (piece marks start : ℕ) → IsMade bytes plan piece marks start
+    → slots node bytes 0 0 0 (plan ++ last_run start (length bytes)) ≡ slots node bytes 0 0 0 plan ++ byte_slots (drop start bytes)
+run_made node bytes plan piece marks start h = slots-append node bytes 0 0 0 plan (last_run start (length bytes)) ∙ by (nat_lt start (length bytes)) refl
   where
-    by : (t : Bool) → nat_lt start (length text) ≡ t
-        → slots node text 0 0 0 plan ++ slots node text (pieces_after 0 plan) (marks_after 0 plan) (bytes_after 0 plan) (if t then step.Run (length text) ∷ [] else [])
-        ≡ slots node text 0 0 0 plan ++ byte_slots (drop start text)
+    by : (t : Bool) → nat_lt start (length bytes) ≡ t
+        → slots node bytes 0 0 0 plan ++ slots node bytes (pieces_after_plan 0 plan) (marks_after_plan 0 plan) (bytes_after_plan 0 plan) (if t then step.Run (length bytes) ∷ [] else [])
+        ≡ slots node bytes 0 0 0 plan ++ byte_slots (drop start bytes)
     by true e =
-        ap (λ l. slots node text 0 0 0 plan ++ l)
-        (append-nil (byte_slots (bytes_between text (bytes_after 0 plan) (length text)))
-        ∙ ap (λ n. byte_slots (bytes_between text n (length text))) (sym h.runs)
-        ∙ ap byte_slots (take_all (drop start text) (length text - start) (sym (length-drop start text))))
+        ap (λ l. slots node bytes 0 0 0 plan ++ l)
+        (append-nil (byte_slots (bytes_between bytes (bytes_after_plan 0 plan) (length bytes)))
+        ∙ ap (λ n. byte_slots (bytes_between bytes n (length bytes))) (sym h.runs)
+        ∙ ap byte_slots (take_all (drop start bytes) (length bytes - start) (sym (length-drop start bytes))))
     by false e =
-        let high : length text ≤ start = ltb-false start (length text) e in
-        ap (λ l. slots node text 0 0 0 plan ++ byte_slots l) (sym (drop_all text start high))
+        let high : length bytes ≤ start = ltb-false start (length bytes) e in
+        ap (λ l. slots node bytes 0 0 0 plan ++ byte_slots l) (sym (drop_all bytes start high))
 
-run_keeps : (piece marks start end : ℕ) → (pieces_after piece (last_run start end) ≡ piece) × (marks_after marks (last_run start end) ≡ marks)
+run_keeps : (piece marks start end : ℕ) → (pieces_after_plan piece (last_run start end) ≡ piece) × (marks_after_plan marks (last_run start end) ≡ marks)
 run_keeps piece marks start end = by (nat_lt start end)
   where
-    by : (t : Bool) → (pieces_after piece (if t then step.Run end ∷ [] else []) ≡ piece) × (marks_after marks (if t then step.Run end ∷ [] else []) ≡ marks)
+    by : (t : Bool) → (pieces_after_plan piece (if t then step.Run end ∷ [] else []) ≡ piece) × (marks_after_plan marks (if t then step.Run end ∷ [] else []) ≡ marks)
     by true = (refl, refl)
     by false = (refl, refl)
 
-run_ends : (start end : ℕ) → start ≤ end → (bytes_after start (last_run start end) ≡ end) × AllByRecursion (EndsWithin end) (last_run start end)
+run_ends : (start end : ℕ) → start ≤ end → (bytes_after_plan start (last_run start end) ≡ end) × AllByRecursion (EndsWithin end) (last_run start end)
 run_ends start end le = by (nat_lt start end) refl
   where
-    by : (t : Bool) → nat_lt start end ≡ t → (bytes_after start (if t then step.Run end ∷ [] else []) ≡ end) × AllByRecursion (EndsWithin end) (if t then step.Run end ∷ [] else [])
+    by : (t : Bool) → nat_lt start end ≡ t → (bytes_after_plan start (if t then step.Run end ∷ [] else []) ≡ end) × AllByRecursion (EndsWithin end) (if t then step.Run end ∷ [] else [])
     by true e = (refl, (omega arith, tt))
     by false e = (let high : end ≤ start = ltb-false start end e in (omega (arith, high, le)), tt)
 
 -- a step that is no run
 
-own_step : (node : Title) (text : List ℕ) (piece marks start : ℕ) (s : Step) → is_run s ≡ false → step_slots node text piece marks start s ≡ step_slots node [] piece marks 0 s
-own_step node text piece marks start (step.Run end) e = absurd (cc)
-own_step node text piece marks start step.Open e = refl
-own_step node text piece marks start step.Mark e = refl
-own_step node text piece marks start step.AllMacros e = refl
-own_step node text piece marks start step.Space e = refl
-own_step node text piece marks start (step.Use id) e = refl
-own_step node text piece marks start step.Close e = refl
+own_step : (node : Title) (bytes : List ℕ) (piece marks start : ℕ) (s : Step) → is_run s ≡ false → step_slots node bytes piece marks start s ≡ step_slots node [] piece marks 0 s
+own_step node bytes piece marks start (step.Run end) e = absurd (cc)
+own_step node bytes piece marks start step.Open e = refl
+own_step node bytes piece marks start step.Mark e = refl
+own_step node bytes piece marks start step.AllMacros e = refl
+own_step node bytes piece marks start step.Space e = refl
+own_step node bytes piece marks start (step.Use id) e = refl
+own_step node bytes piece marks start step.Close e = refl
 
-no_end : (most start : ℕ) (s : Step) → is_run s ≡ false → EndsWithin most s × (bytes_passed start s ≡ start)
+no_end : (most start : ℕ) (s : Step) → is_run s ≡ false → EndsWithin most s × (bytes_after_step start s ≡ start)
 no_end most start (step.Run end) e = absurd (cc)
 no_end most start step.Open e = (tt, refl)
 no_end most start step.Mark e = (tt, refl)
@@ -165,89 +165,89 @@ no_end most start step.Space e = (tt, refl)
 no_end most start (step.Use id) e = (tt, refl)
 no_end most start step.Close e = (tt, refl)
 
-pub step_made : (node : Title) (text : List ℕ) (plan plan' : List Step) (piece marks start : ℕ) (s : Step) → IsMade text plan piece marks start → is_run s ≡ false
-    → plan' ≡ (plan ++ last_run start (length text)) ++ s ∷ []
-    → slots node text 0 0 0 plan' ++ byte_slots (drop (length text) text) ≡ (slots node text 0 0 0 plan ++ byte_slots (drop start text)) ++ step_slots node [] piece marks 0 s
-step_made node text plan plan' piece marks start s h own e =
-    let run = last_run start (length text) in
-    let keeps = run_keeps (pieces_after 0 plan) (marks_after 0 plan) start (length text) in
-    ap (λ l. slots node text 0 0 0 l ++ byte_slots (drop (length text) text)) e
-    ∙ ap (λ l. slots node text 0 0 0 ((plan ++ run) ++ s ∷ []) ++ byte_slots l) (drop_all text (length text) (omega arith))
-    ∙ append-nil (slots node text 0 0 0 ((plan ++ run) ++ s ∷ []))
-    ∙ slots-append node text 0 0 0 (plan ++ run) (s ∷ [])
-    ∙ ap (λ l. l ++ slots node text (pieces_after 0 (plan ++ run)) (marks_after 0 (plan ++ run)) (bytes_after 0 (plan ++ run)) (s ∷ [])) (run_made node text plan piece marks start h)
-    ∙ ap (λ l. (slots node text 0 0 0 plan ++ byte_slots (drop start text)) ++ l)
-    (append-nil (step_slots node text (pieces_after 0 (plan ++ run)) (marks_after 0 (plan ++ run)) (bytes_after 0 (plan ++ run)) s)
-    ∙ own_step node text (pieces_after 0 (plan ++ run)) (marks_after 0 (plan ++ run)) (bytes_after 0 (plan ++ run)) s own
-    ∙ ap (λ n. step_slots node [] n (marks_after 0 (plan ++ run)) 0 s) (pieces_after-append 0 plan run ∙ keeps.0 ∙ sym h.pieces)
-    ∙ ap (λ n. step_slots node [] piece n 0 s) (marks_after-append 0 plan run ∙ keeps.1 ∙ sym h.marks_of_piece))
+pub step_made : (node : Title) (bytes : List ℕ) (plan plan' : List Step) (piece marks start : ℕ) (s : Step) → IsMade bytes plan piece marks start → is_run s ≡ false
+    → plan' ≡ (plan ++ last_run start (length bytes)) ++ s ∷ []
+    → slots node bytes 0 0 0 plan' ++ byte_slots (drop (length bytes) bytes) ≡ (slots node bytes 0 0 0 plan ++ byte_slots (drop start bytes)) ++ step_slots node [] piece marks 0 s
+step_made node bytes plan plan' piece marks start s h own e =
+    let run = last_run start (length bytes) in
+    let keeps = run_keeps (pieces_after_plan 0 plan) (marks_after_plan 0 plan) start (length bytes) in
+    ap (λ l. slots node bytes 0 0 0 l ++ byte_slots (drop (length bytes) bytes)) e
+    ∙ ap (λ l. slots node bytes 0 0 0 ((plan ++ run) ++ s ∷ []) ++ byte_slots l) (drop_all bytes (length bytes) (omega arith))
+    ∙ append-nil (slots node bytes 0 0 0 ((plan ++ run) ++ s ∷ []))
+    ∙ slots-append node bytes 0 0 0 (plan ++ run) (s ∷ [])
+    ∙ ap (λ l. l ++ slots node bytes (pieces_after_plan 0 (plan ++ run)) (marks_after_plan 0 (plan ++ run)) (bytes_after_plan 0 (plan ++ run)) (s ∷ [])) (run_made node bytes plan piece marks start h)
+    ∙ ap (λ l. (slots node bytes 0 0 0 plan ++ byte_slots (drop start bytes)) ++ l)
+    (append-nil (step_slots node bytes (pieces_after_plan 0 (plan ++ run)) (marks_after_plan 0 (plan ++ run)) (bytes_after_plan 0 (plan ++ run)) s)
+    ∙ own_step node bytes (pieces_after_plan 0 (plan ++ run)) (marks_after_plan 0 (plan ++ run)) (bytes_after_plan 0 (plan ++ run)) s own
+    ∙ ap (λ n. step_slots node [] n (marks_after_plan 0 (plan ++ run)) 0 s) (pieces_after_plan-append 0 plan run ∙ keeps.0 ∙ sym h.pieces)
+    ∙ ap (λ n. step_slots node [] piece n 0 s) (marks_after_plan-append 0 plan run ∙ keeps.1 ∙ sym h.marks_of_piece))
 
-pieces_passed-few : (piece n : ℕ) (s : Step) → piece ≤ n → pieces_passed piece s ≤ n + 1
-pieces_passed-few piece n (step.Run end) h = omega (arith, h)
-pieces_passed-few piece n step.Open h = omega (arith, h)
-pieces_passed-few piece n step.Mark h = omega (arith, h)
-pieces_passed-few piece n step.AllMacros h = omega (arith, h)
-pieces_passed-few piece n step.Space h = omega (arith, h)
-pieces_passed-few piece n (step.Use id) h = omega (arith, h)
-pieces_passed-few piece n step.Close h = omega (arith, h)
+pieces_after_step-few : (piece n : ℕ) (s : Step) → piece ≤ n → pieces_after_step piece s ≤ n + 1
+pieces_after_step-few piece n (step.Run end) h = omega (arith, h)
+pieces_after_step-few piece n step.Open h = omega (arith, h)
+pieces_after_step-few piece n step.Mark h = omega (arith, h)
+pieces_after_step-few piece n step.AllMacros h = omega (arith, h)
+pieces_after_step-few piece n step.Space h = omega (arith, h)
+pieces_after_step-few piece n (step.Use id) h = omega (arith, h)
+pieces_after_step-few piece n step.Close h = omega (arith, h)
 
-marks_passed-few : (marks n : ℕ) (s : Step) → marks ≤ n → marks_passed marks s ≤ n + 1
-marks_passed-few marks n (step.Run end) h = omega (arith, h)
-marks_passed-few marks n step.Open h = omega arith
-marks_passed-few marks n step.Mark h = omega (arith, h)
-marks_passed-few marks n step.AllMacros h = omega (arith, h)
-marks_passed-few marks n step.Space h = omega (arith, h)
-marks_passed-few marks n (step.Use id) h = omega (arith, h)
-marks_passed-few marks n step.Close h = omega arith
+marks_after_step-few : (marks n : ℕ) (s : Step) → marks ≤ n → marks_after_step marks s ≤ n + 1
+marks_after_step-few marks n (step.Run end) h = omega (arith, h)
+marks_after_step-few marks n step.Open h = omega arith
+marks_after_step-few marks n step.Mark h = omega (arith, h)
+marks_after_step-few marks n step.AllMacros h = omega (arith, h)
+marks_after_step-few marks n step.Space h = omega (arith, h)
+marks_after_step-few marks n (step.Use id) h = omega (arith, h)
+marks_after_step-few marks n step.Close h = omega arith
 
-pub more_steps : (text : List ℕ) (plan plan' : List Step) (piece marks start : ℕ) (s : Step) → IsMade text plan piece marks start → is_run s ≡ false
-    → plan' ≡ (plan ++ last_run start (length text)) ++ s ∷ []
-    → IsMade text plan' (pieces_passed piece s) (marks_passed marks s) (length text)
-more_steps text plan plan' piece marks start s h own e =
-    let run = last_run start (length text) in
-    let keeps = run_keeps (pieces_after 0 plan) (marks_after 0 plan) start (length text) in
-    let ends = run_ends start (length text) h.within in
-    let none = no_end (length text) (length text) s own in
+pub more_steps : (bytes : List ℕ) (plan plan' : List Step) (piece marks start : ℕ) (s : Step) → IsMade bytes plan piece marks start → is_run s ≡ false
+    → plan' ≡ (plan ++ last_run start (length bytes)) ++ s ∷ []
+    → IsMade bytes plan' (pieces_after_step piece s) (marks_after_step marks s) (length bytes)
+more_steps bytes plan plan' piece marks start s h own e =
+    let run = last_run start (length bytes) in
+    let keeps = run_keeps (pieces_after_plan 0 plan) (marks_after_plan 0 plan) start (length bytes) in
+    let ends = run_ends start (length bytes) h.within in
+    let none = no_end (length bytes) (length bytes) s own in
     let longer : length plan + 1 ≤ length plan' = omega (arith, ap length e, length-append (plan ++ run) (s ∷ []), length-append plan run) in
     record {
-      pieces = ap (λ n. pieces_passed n s) (h.pieces ∙ sym keeps.0 ∙ sym (pieces_after-append 0 plan run)) ∙ sym (ap (pieces_after 0) e ∙ pieces_after-append 0 (plan ++ run) (s ∷ []));
-      marks_of_piece = ap (λ n. marks_passed n s) (h.marks_of_piece ∙ sym keeps.1 ∙ sym (marks_after-append 0 plan run)) ∙ sym (ap (marks_after 0) e ∙ marks_after-append 0 (plan ++ run) (s ∷ []));
-      runs = sym (ap (bytes_after 0) e ∙ bytes_after-append 0 (plan ++ run) (s ∷ [])
-          ∙ ap (λ n. bytes_passed n s) (bytes_after-append 0 plan run ∙ ap (λ n. bytes_after n run) (sym h.runs) ∙ ends.0) ∙ none.1);
+      pieces = ap (λ n. pieces_after_step n s) (h.pieces ∙ sym keeps.0 ∙ sym (pieces_after_plan-append 0 plan run)) ∙ sym (ap (pieces_after_plan 0) e ∙ pieces_after_plan-append 0 (plan ++ run) (s ∷ []));
+      marks_of_piece = ap (λ n. marks_after_step n s) (h.marks_of_piece ∙ sym keeps.1 ∙ sym (marks_after_plan-append 0 plan run)) ∙ sym (ap (marks_after_plan 0) e ∙ marks_after_plan-append 0 (plan ++ run) (s ∷ []));
+      runs = sym (ap (bytes_after_plan 0) e ∙ bytes_after_plan-append 0 (plan ++ run) (s ∷ [])
+          ∙ ap (λ n. bytes_after_step n s) (bytes_after_plan-append 0 plan run ∙ ap (λ n. bytes_after_plan n run) (sym h.runs) ∙ ends.0) ∙ none.1);
       within = omega arith;
-      pieces_few = omega (arith, longer, pieces_passed-few piece (length plan) s h.pieces_few);
-      marks_few = omega (arith, longer, marks_passed-few marks (length plan) s h.marks_few);
-      ends = subst (AllByRecursion (EndsWithin (length text))) (sym e) (ends-append (length text) (plan ++ run) (s ∷ []) (ends-append (length text) plan run h.ends ends.1) (none.0, tt));
+      pieces_few = omega (arith, longer, pieces_after_step-few piece (length plan) s h.pieces_few);
+      marks_few = omega (arith, longer, marks_after_step-few marks (length plan) s h.marks_few);
+      ends = subst (AllByRecursion (EndsWithin (length bytes))) (sym e) (ends-append (length bytes) (plan ++ run) (s ∷ []) (ends-append (length bytes) plan run h.ends ends.1) (none.0, tt));
     }
 
-pub with_run : (text : List ℕ) (plan plan' : List Step) (piece marks start : ℕ) → IsMade text plan piece marks start → plan' ≡ plan ++ last_run start (length text)
-    → IsMade text plan' piece marks (length text)
-with_run text plan plan' piece marks start h e =
-    let run = last_run start (length text) in
-    let keeps = run_keeps (pieces_after 0 plan) (marks_after 0 plan) start (length text) in
-    let ends = run_ends start (length text) h.within in
+pub with_run : (bytes : List ℕ) (plan plan' : List Step) (piece marks start : ℕ) → IsMade bytes plan piece marks start → plan' ≡ plan ++ last_run start (length bytes)
+    → IsMade bytes plan' piece marks (length bytes)
+with_run bytes plan plan' piece marks start h e =
+    let run = last_run start (length bytes) in
+    let keeps = run_keeps (pieces_after_plan 0 plan) (marks_after_plan 0 plan) start (length bytes) in
+    let ends = run_ends start (length bytes) h.within in
     let longer : length plan ≤ length plan' = omega (arith, ap length e, length-append plan run) in
     record {
-      pieces = h.pieces ∙ sym (ap (pieces_after 0) e ∙ pieces_after-append 0 plan run ∙ keeps.0);
-      marks_of_piece = h.marks_of_piece ∙ sym (ap (marks_after 0) e ∙ marks_after-append 0 plan run ∙ keeps.1);
-      runs = sym (ap (bytes_after 0) e ∙ bytes_after-append 0 plan run ∙ ap (λ n. bytes_after n run) (sym h.runs) ∙ ends.0);
+      pieces = h.pieces ∙ sym (ap (pieces_after_plan 0) e ∙ pieces_after_plan-append 0 plan run ∙ keeps.0);
+      marks_of_piece = h.marks_of_piece ∙ sym (ap (marks_after_plan 0) e ∙ marks_after_plan-append 0 plan run ∙ keeps.1);
+      runs = sym (ap (bytes_after_plan 0) e ∙ bytes_after_plan-append 0 plan run ∙ ap (λ n. bytes_after_plan n run) (sym h.runs) ∙ ends.0);
       within = omega arith;
       pieces_few = omega (arith, longer, h.pieces_few);
       marks_few = omega (arith, longer, h.marks_few);
-      ends = subst (AllByRecursion (EndsWithin (length text))) (sym e) (ends-append (length text) plan run h.ends ends.1);
+      ends = subst (AllByRecursion (EndsWithin (length bytes))) (sym e) (ends-append (length bytes) plan run h.ends ends.1);
     }
 
 -- one more item of a piece
 pub item_made : (texts : List (List ℕ)) (table : TableRead) (has : ℕ → Bool) (node node' : Title) (piece piece' marks : ℕ) (items : List Item) (i : ℕ) (d : Item) (made whole : List Slot)
     → node' ≡ node → piece' ≡ piece → i < length items
     → made ++ items_slots texts table has node piece marks (drop i items) ≡ whole
-    → (made ++ item_slots texts table has node' piece' marks (get_or items i d)) ++ items_slots texts table has node piece (marks_behind_item marks (get_or items i d)) (drop (i + 1) items) ≡ whole
+    → (made ++ item_slots texts table has node' piece' marks (get_or items i d)) ++ items_slots texts table has node piece (marks_after_item marks (get_or items i d)) (drop (i + 1) items) ≡ whole
 item_made texts table has node node' piece piece' marks items i d made whole en ep h e =
     let x = get_or items i d in
     let next : drop i items ≡ x ∷ drop (i + 1) items = drop-cons items i d h ∙ ap (λ j. x ∷ drop j items) (sym (add-one i)) in
-    append_assoc made (item_slots texts table has node' piece' marks x) (items_slots texts table has node piece (marks_behind_item marks x) (drop (i + 1) items))
-    ∙ ap (λ n. made ++ (item_slots texts table has n piece' marks x ++ items_slots texts table has node piece (marks_behind_item marks x) (drop (i + 1) items))) en
-    ∙ ap (λ p. made ++ (item_slots texts table has node p marks x ++ items_slots texts table has node piece (marks_behind_item marks x) (drop (i + 1) items))) ep
+    append_assoc made (item_slots texts table has node' piece' marks x) (items_slots texts table has node piece (marks_after_item marks x) (drop (i + 1) items))
+    ∙ ap (λ n. made ++ (item_slots texts table has n piece' marks x ++ items_slots texts table has node piece (marks_after_item marks x) (drop (i + 1) items))) en
+    ∙ ap (λ p. made ++ (item_slots texts table has node p marks x ++ items_slots texts table has node piece (marks_after_item marks x) (drop (i + 1) items))) ep
     ∙ ap (λ l. made ++ items_slots texts table has node piece marks l) (sym next)
     ∙ e
 

@@ -1,23 +1,23 @@
--- What is kept of two nodes says whether their shapes are the same.
+-- The bodies of two nodes say whether their shapes are the same.
 use Rattle.std.proofs.Common.{◌≡◌, ◌∙◌, ℕ, Bool, true, false, List, ap, sym, true≢false}
 use Rattle.tangle_plans.specs.Shapes.{Shape}
 use Rattle.tangle_plans.specs.Tags.{shape_tags, shape_bytes, shape_names}
-use Rattle.tangle_plans.specs.NodeBodies.{node_tags, node_bytes, node_uses, texts_at, HoldsShape}
+use Rattle.tangle_plans.specs.NodeBodies.{body_tags, body_bytes, body_uses, names_at, HoldsShape}
 use Rattle.tangle_plans.specs.declared.nodes.NodeBody.{NodeBody}
 use Rattle.tangle_plans.proofs.TagLemmas.{same_by_tags}
 
-module _ (names names' : List (List ℕ)) (node other : NodeBody) where
-  pub items_differ : (node_tags node ≡ node_tags other → node_bytes node ≡ node_bytes other → ⊥)
-      → (shape other_shape : Shape) → HoldsShape names shape node → HoldsShape names' other_shape other
+module _ (names names' : List (List ℕ)) (body other : NodeBody) where
+  pub items_differ : (body_tags body ≡ body_tags other → body_bytes body ≡ body_bytes other → ⊥)
+      → (shape other_shape : Shape) → HoldsShape names shape body → HoldsShape names' other_shape other
       → (false ≡ true → shape ≡ other_shape) × (shape ≡ other_shape → false ≡ true)
   items_differ differ shape other_shape h k = (
     (λ e. absurd (true≢false (sym e))),
     λ same. absurd (differ (h.tags ∙ ap shape_tags same ∙ sym k.tags) (h.bytes ∙ ap shape_bytes same ∙ sym k.bytes)),
   )
 
-  pub names_decide : (t : Bool) → (node_tags node ≡ node_tags other) × (node_bytes node ≡ node_bytes other)
-      → (t ≡ true → texts_at names (node_uses node) ≡ texts_at names' (node_uses other)) × (texts_at names (node_uses node) ≡ texts_at names' (node_uses other) → t ≡ true)
-      → (shape other_shape : Shape) → HoldsShape names shape node → HoldsShape names' other_shape other
+  pub names_decide : (t : Bool) → (body_tags body ≡ body_tags other) × (body_bytes body ≡ body_bytes other)
+      → (t ≡ true → names_at names (body_uses body) ≡ names_at names' (body_uses other)) × (names_at names (body_uses body) ≡ names_at names' (body_uses other) → t ≡ true)
+      → (shape other_shape : Shape) → HoldsShape names shape body → HoldsShape names' other_shape other
       → (t ≡ true → shape ≡ other_shape) × (shape ≡ other_shape → t ≡ true)
   names_decide t items decide shape other_shape h k = (
     (λ e. same_by_tags shape other_shape (sym h.tags ∙ items.0 ∙ k.tags) (sym h.bytes ∙ items.1 ∙ k.bytes) (sym h.names_used ∙ decide.0 e ∙ k.names_used)),

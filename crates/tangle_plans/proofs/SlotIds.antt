@@ -13,10 +13,10 @@ use Rattle.tangle_names.specs.NameTable.{TableRead}
 use Rattle.tangle_plans.specs.Shapes.{Title}
 use Rattle.tangle_plans.specs.Flat.{Byte}
 use Rattle.tangle_plans.specs.WebShapes.{resolved_at}
-use Rattle.tangle_plans.specs.Meaning.{bytes_between, pieces_passed, marks_passed, bytes_passed}
+use Rattle.tangle_plans.specs.Meaning.{bytes_between, pieces_after_step, marks_after_step, bytes_after_step}
 use Rattle.tangle_plans.specs.Slots.{Slot, Own, Used, step_slots, slots, step_uses, uses_of, byte_slots}
-use Rattle.tangle_plans.specs.ItemSlots.{marks_behind_item, name_slots, item_slots, items_slots, pieces_slots}
-use Rattle.tangle_plans.specs.ItemTags.{names_resolved, names_in, pieces_names}
+use Rattle.tangle_plans.specs.ItemSlots.{marks_after_item, name_slots, item_slots, items_slots, pieces_slots}
+use Rattle.tangle_plans.specs.ItemTags.{uses_resolved, uses_in, pieces_uses}
 use Rattle.tangle_plans.specs.declared.steps.Step.{Step}
 use Rattle.tangle_plans.specs.declared.steps.Step.TheVariants as step
 
@@ -29,22 +29,22 @@ unfolding slot_ids
 bytes_ids [] = refl
 bytes_ids (b ∷ bytes) = bytes_ids bytes
 
-step_ids : (node : Title) (text : List ℕ) (piece marks start : ℕ) (s : Step) → flat_map slot_ids (step_slots node text piece marks start s) ≡ step_uses s
+step_ids : (node : Title) (bytes : List ℕ) (piece marks start : ℕ) (s : Step) → flat_map slot_ids (step_slots node bytes piece marks start s) ≡ step_uses s
 unfolding slot_ids
-step_ids node text piece marks start step.Open = refl
-step_ids node text piece marks start (step.Run end) = bytes_ids (bytes_between text start end)
-step_ids node text piece marks start step.Mark = refl
-step_ids node text piece marks start step.AllMacros = refl
-step_ids node text piece marks start step.Space = refl
-step_ids node text piece marks start (step.Use id) = refl
-step_ids node text piece marks start step.Close = refl
+step_ids node bytes piece marks start step.Open = refl
+step_ids node bytes piece marks start (step.Run end) = bytes_ids (bytes_between bytes start end)
+step_ids node bytes piece marks start step.Mark = refl
+step_ids node bytes piece marks start step.AllMacros = refl
+step_ids node bytes piece marks start step.Space = refl
+step_ids node bytes piece marks start (step.Use id) = refl
+step_ids node bytes piece marks start step.Close = refl
 
-pub plan_ids : (node : Title) (text : List ℕ) (piece marks start : ℕ) (plan : List Step) → flat_map slot_ids (slots node text piece marks start plan) ≡ uses_of plan
-plan_ids node text piece marks start [] = refl
-plan_ids node text piece marks start (s ∷ plan) =
-    flat_map-append slot_ids (step_slots node text piece marks start s) (slots node text (pieces_passed piece s) (marks_passed marks s) (bytes_passed start s) plan)
-    ∙ ap (λ l. l ++ flat_map slot_ids (slots node text (pieces_passed piece s) (marks_passed marks s) (bytes_passed start s) plan)) (step_ids node text piece marks start s)
-    ∙ ap (λ l. step_uses s ++ l) (plan_ids node text (pieces_passed piece s) (marks_passed marks s) (bytes_passed start s) plan)
+pub plan_ids : (node : Title) (bytes : List ℕ) (piece marks start : ℕ) (plan : List Step) → flat_map slot_ids (slots node bytes piece marks start plan) ≡ uses_of plan
+plan_ids node bytes piece marks start [] = refl
+plan_ids node bytes piece marks start (s ∷ plan) =
+    flat_map-append slot_ids (step_slots node bytes piece marks start s) (slots node bytes (pieces_after_step piece s) (marks_after_step marks s) (bytes_after_step start s) plan)
+    ∙ ap (λ l. l ++ flat_map slot_ids (slots node bytes (pieces_after_step piece s) (marks_after_step marks s) (bytes_after_step start s) plan)) (step_ids node bytes piece marks start s)
+    ∙ ap (λ l. step_uses s ++ l) (plan_ids node bytes (pieces_after_step piece s) (marks_after_step marks s) (bytes_after_step start s) plan)
 
 filtered : (test : ℕ → Bool) (xs ys : List ℕ) → filter test (xs ++ ys) ≡ filter test xs ++ filter test ys
 filtered test [] ys = refl
@@ -56,7 +56,7 @@ filtered test (x ∷ xs) ys = by (test x) (filtered test xs ys)
     by false e = e
 
 module _ (texts : List (List ℕ)) (table : TableRead) (has_piece : ℕ → Bool) (node : Title) where
-  name_ids : (r : Resolved) → flat_map slot_ids (name_slots has_piece r) ≡ filter has_piece (names_resolved r)
+  name_ids : (r : Resolved) → flat_map slot_ids (name_slots has_piece r) ≡ filter has_piece (uses_resolved r)
   unfolding slot_ids
   name_ids (Name id) = by (has_piece id)
     where
@@ -66,7 +66,7 @@ module _ (texts : List (List ℕ)) (table : TableRead) (has_piece : ℕ → Bool
   name_ids NoFullName = refl
   name_ids Ambiguous = refl
 
-  item_ids : (piece marks : ℕ) (x : Item) → flat_map slot_ids (item_slots texts table has_piece node piece marks x) ≡ filter has_piece (names_in table x)
+  item_ids : (piece marks : ℕ) (x : Item) → flat_map slot_ids (item_slots texts table has_piece node piece marks x) ≡ filter has_piece (uses_in table x)
   unfolding slot_ids
   item_ids piece marks (item.Word span) = bytes_ids (span_text texts span)
   item_ids piece marks (item.Sign span) = bytes_ids (span_text texts span)
@@ -80,22 +80,22 @@ module _ (texts : List (List ℕ)) (table : TableRead) (has_piece : ℕ → Bool
   item_ids piece marks (item.UseOf occurrence) = name_ids (resolved_at table occurrence)
   item_ids piece marks item.Defs = refl
 
-  items_ids : (piece marks : ℕ) (items : List Item) → flat_map slot_ids (items_slots texts table has_piece node piece marks items) ≡ filter has_piece (flat_map (names_in table) items)
+  items_ids : (piece marks : ℕ) (items : List Item) → flat_map slot_ids (items_slots texts table has_piece node piece marks items) ≡ filter has_piece (flat_map (uses_in table) items)
   unfolding slot_ids
   items_ids piece marks [] = refl
   items_ids piece marks (x ∷ items) =
-      let rest = items_slots texts table has_piece node piece (marks_behind_item marks x) items in
+      let rest = items_slots texts table has_piece node piece (marks_after_item marks x) items in
       flat_map-append slot_ids (item_slots texts table has_piece node piece marks x) rest
       ∙ ap (λ l. l ++ flat_map slot_ids rest) (item_ids piece marks x)
-      ∙ ap (λ l. filter has_piece (names_in table x) ++ l) (items_ids piece (marks_behind_item marks x) items)
-      ∙ sym (filtered has_piece (names_in table x) (flat_map (names_in table) items))
+      ∙ ap (λ l. filter has_piece (uses_in table x) ++ l) (items_ids piece (marks_after_item marks x) items)
+      ∙ sym (filtered has_piece (uses_in table x) (flat_map (uses_in table) items))
 
-  pub pieces_ids : (piece : ℕ) (pieces : List PieceRead) → flat_map slot_ids (pieces_slots texts table has_piece node piece pieces) ≡ filter has_piece (pieces_names table pieces)
+  pub pieces_ids : (piece : ℕ) (pieces : List PieceRead) → flat_map slot_ids (pieces_slots texts table has_piece node piece pieces) ≡ filter has_piece (pieces_uses table pieces)
   unfolding slot_ids
   pieces_ids piece [] = refl
   pieces_ids piece (p ∷ pieces) =
       let rest = pieces_slots texts table has_piece node (piece + 1) pieces in
       flat_map-append slot_ids (items_slots texts table has_piece node piece 0 p.items) rest
       ∙ ap (λ l. l ++ flat_map slot_ids rest) (items_ids piece 0 p.items)
-      ∙ ap (λ l. filter has_piece (flat_map (names_in table) p.items) ++ l) (pieces_ids (piece + 1) pieces)
-      ∙ sym (filtered has_piece (flat_map (names_in table) p.items) (pieces_names table pieces))
+      ∙ ap (λ l. filter has_piece (flat_map (uses_in table) p.items) ++ l) (pieces_ids (piece + 1) pieces)
+      ∙ sym (filtered has_piece (flat_map (uses_in table) p.items) (pieces_uses table pieces))

@@ -4,7 +4,7 @@ use Rattle.std.specs.Prelude.{flat_map}
 use Rattle.std.proofs.Math.Seq.{take-append_seam, drop-append_seam}
 use Rattle.tangle_plans.specs.Shapes.{Kind, ShapeItem, Written, Mark, AllMacros, Use, NoUse, Shape}
 use Rattle.tangle_plans.specs.Shapes as kind
-use Rattle.tangle_plans.specs.Tags.{text_kind, item_tag, piece_end, item_bytes, item_names, shape_tags, shape_bytes, shape_names}
+use Rattle.tangle_plans.specs.Tags.{written_kind, item_tag, piece_end, item_bytes, item_names, shape_tags, shape_bytes, shape_names}
 use Rattle.tangle_plans.specs.declared.tags.ItemKind.{ItemKind}
 use Rattle.tangle_plans.specs.declared.tags.ItemKind.TheVariants as tag
 use Rattle.tangle_plans.specs.declared.tags.ItemTag.{ItemTag}
@@ -19,68 +19,68 @@ first_name [] = []
 first_name (name ∷ names) = name
 
 -- the item of a tag, in front of what the bytes and names that it leaves give
-decoded_item : ItemKind → ℕ → List ℕ → List (List ℕ) → (List ℕ → List (List ℕ) → Shape) → Shape
-decoded_item tag.Word n bytes names rest = onto (Written kind.Word (take n bytes)) (rest (drop n bytes) names)
-decoded_item tag.Sign n bytes names rest = onto (Written kind.Sign (take n bytes)) (rest (drop n bytes) names)
-decoded_item tag.Quoted n bytes names rest = onto (Written kind.Quoted (take n bytes)) (rest (drop n bytes) names)
-decoded_item tag.QuoteBreak n bytes names rest = onto (Written kind.QuoteBreak (take n bytes)) (rest (drop n bytes) names)
-decoded_item tag.Verbatim n bytes names rest = onto (Written kind.Verbatim (take n bytes)) (rest (drop n bytes) names)
-decoded_item tag.AsciiConstant n bytes names rest = onto (Written kind.AsciiConstant (take n bytes)) (rest (drop n bytes) names)
-decoded_item tag.Blank n bytes names rest = onto (Written kind.Blank (take n bytes)) (rest (drop n bytes) names)
-decoded_item tag.LineEnd n bytes names rest = onto (Written kind.LineEnd (take n bytes)) (rest (drop n bytes) names)
-decoded_item tag.Mark n bytes names rest = onto Mark (rest bytes names)
-decoded_item tag.AllMacros n bytes names rest = onto AllMacros (rest bytes names)
-decoded_item tag.Use n bytes names rest = onto (Use (first_name names)) (rest bytes (drop 1 names))
-decoded_item tag.NoUse n bytes names rest = onto NoUse (rest bytes names)
-decoded_item tag.PieceEnd n bytes names rest = [] ∷ rest bytes names
+item_from_tag : ItemKind → ℕ → List ℕ → List (List ℕ) → (List ℕ → List (List ℕ) → Shape) → Shape
+item_from_tag tag.Word n bytes names rest = onto (Written kind.Word (take n bytes)) (rest (drop n bytes) names)
+item_from_tag tag.Sign n bytes names rest = onto (Written kind.Sign (take n bytes)) (rest (drop n bytes) names)
+item_from_tag tag.Quoted n bytes names rest = onto (Written kind.Quoted (take n bytes)) (rest (drop n bytes) names)
+item_from_tag tag.QuoteBreak n bytes names rest = onto (Written kind.QuoteBreak (take n bytes)) (rest (drop n bytes) names)
+item_from_tag tag.Verbatim n bytes names rest = onto (Written kind.Verbatim (take n bytes)) (rest (drop n bytes) names)
+item_from_tag tag.AsciiConstant n bytes names rest = onto (Written kind.AsciiConstant (take n bytes)) (rest (drop n bytes) names)
+item_from_tag tag.Blank n bytes names rest = onto (Written kind.Blank (take n bytes)) (rest (drop n bytes) names)
+item_from_tag tag.LineEnd n bytes names rest = onto (Written kind.LineEnd (take n bytes)) (rest (drop n bytes) names)
+item_from_tag tag.Mark n bytes names rest = onto Mark (rest bytes names)
+item_from_tag tag.AllMacros n bytes names rest = onto AllMacros (rest bytes names)
+item_from_tag tag.Use n bytes names rest = onto (Use (first_name names)) (rest bytes (drop 1 names))
+item_from_tag tag.NoUse n bytes names rest = onto NoUse (rest bytes names)
+item_from_tag tag.PieceEnd n bytes names rest = [] ∷ rest bytes names
 
-decoded : List ItemTag → List ℕ → List (List ℕ) → Shape
-decoded [] bytes names = []
-decoded (c ∷ tags) bytes names = decoded_item c.kind c.size bytes names (decoded tags)
+shape_from_tags : List ItemTag → List ℕ → List (List ℕ) → Shape
+shape_from_tags [] bytes names = []
+shape_from_tags (first ∷ tags) bytes names = item_from_tag first.kind first.size bytes names (shape_from_tags tags)
 
-text_decoded : (k : Kind) (n : ℕ) (bytes : List ℕ) (names : List (List ℕ)) (rest : List ℕ → List (List ℕ) → Shape)
-    → decoded_item (text_kind k) n bytes names rest ≡ onto (Written k (take n bytes)) (rest (drop n bytes) names)
-unfolding decoded_item
-text_decoded kind.Word n bytes names rest = refl
-text_decoded kind.Sign n bytes names rest = refl
-text_decoded kind.Quoted n bytes names rest = refl
-text_decoded kind.QuoteBreak n bytes names rest = refl
-text_decoded kind.Verbatim n bytes names rest = refl
-text_decoded kind.AsciiConstant n bytes names rest = refl
-text_decoded kind.Blank n bytes names rest = refl
-text_decoded kind.LineEnd n bytes names rest = refl
+written_from_tag : (k : Kind) (n : ℕ) (bytes : List ℕ) (names : List (List ℕ)) (rest : List ℕ → List (List ℕ) → Shape)
+    → item_from_tag (written_kind k) n bytes names rest ≡ onto (Written k (take n bytes)) (rest (drop n bytes) names)
+unfolding item_from_tag
+written_from_tag kind.Word n bytes names rest = refl
+written_from_tag kind.Sign n bytes names rest = refl
+written_from_tag kind.Quoted n bytes names rest = refl
+written_from_tag kind.QuoteBreak n bytes names rest = refl
+written_from_tag kind.Verbatim n bytes names rest = refl
+written_from_tag kind.AsciiConstant n bytes names rest = refl
+written_from_tag kind.Blank n bytes names rest = refl
+written_from_tag kind.LineEnd n bytes names rest = refl
 
-piece_decoded : (items : List ShapeItem) (tags : List ItemTag) (bytes : List ℕ) (names : List (List ℕ))
-    → decoded (map item_tag items ++ piece_end ∷ tags) (flat_map item_bytes items ++ bytes) (flat_map item_names items ++ names) ≡ items ∷ decoded tags bytes names
-unfolding decoded decoded_item onto first_name
-piece_decoded [] tags bytes names = refl
-piece_decoded (Written k text ∷ items) tags bytes names =
+piece_from_tags : (items : List ShapeItem) (tags : List ItemTag) (bytes : List ℕ) (names : List (List ℕ))
+    → shape_from_tags (map item_tag items ++ piece_end ∷ tags) (flat_map item_bytes items ++ bytes) (flat_map item_names items ++ names) ≡ items ∷ shape_from_tags tags bytes names
+unfolding shape_from_tags item_from_tag onto first_name
+piece_from_tags [] tags bytes names = refl
+piece_from_tags (Written k written ∷ items) tags bytes names =
     let rest = flat_map item_bytes items ++ bytes in
-    let after = decoded (map item_tag items ++ piece_end ∷ tags) in
+    let after = shape_from_tags (map item_tag items ++ piece_end ∷ tags) in
     let left = flat_map item_names items ++ names in
-    let seam : (text ++ flat_map item_bytes items) ++ bytes ≡ text ++ rest = append_assoc text (flat_map item_bytes items) bytes in
-    text_decoded k (length text) ((text ++ flat_map item_bytes items) ++ bytes) left after
-    ∙ ap (λ l. onto (Written k (take (length text) l)) (after (drop (length text) l) left)) seam
-    ∙ ap (λ l. onto (Written k l) (after (drop (length text) (text ++ rest)) left)) (take-append_seam text rest)
-    ∙ ap (λ l. onto (Written k text) (after l left)) (drop-append_seam text rest)
-    ∙ ap (onto (Written k text)) (piece_decoded items tags bytes names)
-piece_decoded (Mark ∷ items) tags bytes names = ap (onto Mark) (piece_decoded items tags bytes names)
-piece_decoded (AllMacros ∷ items) tags bytes names = ap (onto AllMacros) (piece_decoded items tags bytes names)
-piece_decoded (Use name ∷ items) tags bytes names = ap (onto (Use name)) (piece_decoded items tags bytes names)
-piece_decoded (NoUse ∷ items) tags bytes names = ap (onto NoUse) (piece_decoded items tags bytes names)
+    let seam : (written ++ flat_map item_bytes items) ++ bytes ≡ written ++ rest = append_assoc written (flat_map item_bytes items) bytes in
+    written_from_tag k (length written) ((written ++ flat_map item_bytes items) ++ bytes) left after
+    ∙ ap (λ l. onto (Written k (take (length written) l)) (after (drop (length written) l) left)) seam
+    ∙ ap (λ l. onto (Written k l) (after (drop (length written) (written ++ rest)) left)) (take-append_seam written rest)
+    ∙ ap (λ l. onto (Written k written) (after l left)) (drop-append_seam written rest)
+    ∙ ap (onto (Written k written)) (piece_from_tags items tags bytes names)
+piece_from_tags (Mark ∷ items) tags bytes names = ap (onto Mark) (piece_from_tags items tags bytes names)
+piece_from_tags (AllMacros ∷ items) tags bytes names = ap (onto AllMacros) (piece_from_tags items tags bytes names)
+piece_from_tags (Use name ∷ items) tags bytes names = ap (onto (Use name)) (piece_from_tags items tags bytes names)
+piece_from_tags (NoUse ∷ items) tags bytes names = ap (onto NoUse) (piece_from_tags items tags bytes names)
 
-shape_decoded : (shape : Shape) → decoded (shape_tags shape) (shape_bytes shape) (shape_names shape) ≡ shape
-unfolding decoded
-shape_decoded [] = refl
-shape_decoded (items ∷ pieces) =
-    ap (λ l. decoded l (shape_bytes (items ∷ pieces)) (shape_names (items ∷ pieces))) (append_assoc (map item_tag items) (piece_end ∷ []) (shape_tags pieces))
-    ∙ piece_decoded items (shape_tags pieces) (shape_bytes pieces) (shape_names pieces)
-    ∙ ap (λ l. items ∷ l) (shape_decoded pieces)
+shape_from_its_tags : (shape : Shape) → shape_from_tags (shape_tags shape) (shape_bytes shape) (shape_names shape) ≡ shape
+unfolding shape_from_tags
+shape_from_its_tags [] = refl
+shape_from_its_tags (items ∷ pieces) =
+    ap (λ l. shape_from_tags l (shape_bytes (items ∷ pieces)) (shape_names (items ∷ pieces))) (append_assoc (map item_tag items) (piece_end ∷ []) (shape_tags pieces))
+    ∙ piece_from_tags items (shape_tags pieces) (shape_bytes pieces) (shape_names pieces)
+    ∙ ap (λ l. items ∷ l) (shape_from_its_tags pieces)
 
 pub same_by_tags : (s t : Shape) → shape_tags s ≡ shape_tags t → shape_bytes s ≡ shape_bytes t → shape_names s ≡ shape_names t → s ≡ t
 same_by_tags s t tags bytes names =
-    sym (shape_decoded s)
-    ∙ ap (λ l. decoded l (shape_bytes s) (shape_names s)) tags
-    ∙ ap (λ l. decoded (shape_tags t) l (shape_names s)) bytes
-    ∙ ap (λ l. decoded (shape_tags t) (shape_bytes t) l) names
-    ∙ shape_decoded t
+    sym (shape_from_its_tags s)
+    ∙ ap (λ l. shape_from_tags l (shape_bytes s) (shape_names s)) tags
+    ∙ ap (λ l. shape_from_tags (shape_tags t) l (shape_names s)) bytes
+    ∙ ap (λ l. shape_from_tags (shape_tags t) (shape_bytes t) l) names
+    ∙ shape_from_its_tags t

@@ -4,8 +4,8 @@ use Rattle.tangle_files.specs.Bytes.{space}
 use Rattle.tangle_plans.specs.Shapes.{Title, Named, ShapeItem, Written, Mark, Use, NoUse, Shape, Shapes}
 use Rattle.tangle_plans.specs.Shapes as shape
 
--- A symbol of an expansion: one byte, or an opening, a mark or a closing, which the node, the number of its piece and that of the mark
--- report, or all macros. The mark of number 0 is the opening mark.
+-- A symbol of an expansion: one byte; an opening, a mark or a closing, each given by its node, the number of the piece and, for a mark,
+-- its own; or all macros. The mark of number 0 is the opening mark.
 pub data Symbol : Type 0 where
   Byte : ℕ → Symbol
   Opening : Title → ℕ → Symbol
@@ -13,15 +13,15 @@ pub data Symbol : Type 0 where
   Closing : Title → ℕ → Symbol
   AllMacros : Symbol
 
--- how many marks there are behind an item
-abbrev pub marks_behind : ℕ → ShapeItem → ℕ
-marks_behind marks (Written kind bytes) = marks
-marks_behind marks Mark = marks + 1
-marks_behind marks shape.AllMacros = marks
-marks_behind marks (Use name) = marks
-marks_behind marks NoUse = marks
+-- how many marks there are after an item
+abbrev pub marks_after_shape_item : ℕ → ShapeItem → ℕ
+marks_after_shape_item marks (Written kind bytes) = marks
+marks_after_shape_item marks Mark = marks + 1
+marks_after_shape_item marks shape.AllMacros = marks
+marks_after_shape_item marks (Use name) = marks
+marks_after_shape_item marks NoUse = marks
 
--- the symbols of an item of the piece with this number, behind so many marks, where a name has these symbols
+-- the symbols of an item of the piece with this number, after so many marks, where a name has these symbols
 abbrev pub item_flat : (List ℕ → List Symbol) → Title → ℕ → ℕ → ShapeItem → List Symbol
 item_flat used node piece marks (Written kind bytes) = map Byte bytes
 item_flat used node piece marks Mark = MarkOf node piece (marks + 1) ∷ []
@@ -33,7 +33,7 @@ item_flat used node piece marks NoUse = Byte space ∷ []
 abbrev pub items_flat : (List ℕ → List Symbol) → Title → ℕ → ℕ → List ShapeItem → List Symbol
 items_flat used node piece marks [] = Closing node piece ∷ []
 items_flat used node piece marks (item ∷ items) =
-    item_flat used node piece marks item ++ items_flat used node piece (marks_behind marks item) items
+    item_flat used node piece marks item ++ items_flat used node piece (marks_after_shape_item marks item) items
 
 -- the pieces from this number on
 abbrev pub pieces_flat : (List ℕ → List Symbol) → Title → ℕ → Shape → List Symbol

@@ -1,4 +1,4 @@
--- The tags, bytes and uses of a node, compared from their fronts.
+-- The tags, bytes and uses of a body, compared from their fronts.
 use Rattle.std.specs.Prelude.{◌≡◌, ◌≢◌, ◌-◌, ℕ, List, [], ◌∷◌, ◌++◌, flat_map, length, Option, IfSome, MatchOption}
 use Rattle.tangle_text.specs.declared.spans.Span.{Span}
 use Rattle.tangle_scan.specs.declared.items.Item.{Item}
@@ -8,16 +8,16 @@ use Rattle.tangle_scan.specs.WellFormed.{IsUseBelow}
 use Rattle.tangle_scan.specs.Web.{PieceRead}
 use Rattle.tangle_names.specs.NameTable.{TableRead}
 use Rattle.tangle_plans.specs.Tags.{shape_tags, shape_bytes}
-use Rattle.tangle_plans.specs.ItemTags.{bytes_in, tag_in, names_in, piece_tags, pieces_tags, pieces_bytes, pieces_names, shape_of}
-use Rattle.tangle_plans.specs.NodeBodies.{node_bytes, node_tags, node_uses}
-use Rattle.tangle_plans.specs.Runs.{IsKept, run_bytes}
+use Rattle.tangle_plans.specs.ItemTags.{bytes_in, tag_in, uses_in, piece_tags, pieces_tags, pieces_bytes, pieces_uses, shape_of}
+use Rattle.tangle_plans.specs.NodeBodies.{body_bytes, body_tags, body_uses}
+use Rattle.tangle_plans.specs.Ranges.{IsRangeOfSource, range_bytes}
 use Rattle.tangle_plans.specs.declared.tags.ItemTag.{ItemTag}
 use Rattle.tangle_plans.specs.declared.tags.ItemKind.{ItemKind}
 use Rattle.tangle_plans.specs.declared.comparing.Left.{Left}
 use Rattle.tangle_plans.specs.declared.comparing.Position.{Position}
 use Rattle.tangle_plans.specs.declared.nodes.NodeBody.{NodeBody}
 
--- tags, bytes and uses of a node, or the last of them
+-- tags, bytes and uses of a body, or the last of them
 pub record Lists : Type 0 where
   pub tags : List ItemTag
   pub bytes : List ℕ
@@ -25,10 +25,10 @@ pub record Lists : Type 0 where
 
 -- those that are still to be compared
 abbrev pub lists_left : Left → Lists
-lists_left left = record { tags = left.tags.now; bytes = left.text.now; uses = left.uses.now }
+lists_left left = record { tags = left.tags.now; bytes = left.bytes.now; uses = left.uses.now }
 
 abbrev pub lists_of : NodeBody → Lists
-lists_of node = record { tags = node_tags node; bytes = node_bytes node; uses = node_uses node }
+lists_of body = record { tags = body_tags body; bytes = body_bytes body; uses = body_uses body }
 
 abbrev pub no_lists : Lists
 no_lists = record { tags = []; bytes = []; uses = [] }
@@ -41,29 +41,26 @@ with_tag tag more = record { tags = tag ∷ more.tags; bytes = more.bytes; uses 
 abbrev pub with_bytes : List ℕ → Lists → Lists
 with_bytes bytes more = record { tags = more.tags; bytes = bytes ++ more.bytes; uses = more.uses }
 
-abbrev pub with_uses : List ℕ → Lists → Lists
-with_uses uses more = record { tags = more.tags; bytes = more.bytes; uses = uses ++ more.uses }
-
-abbrev pub with_text : List (List ℕ) → ItemKind → Span → Lists → Lists
-with_text texts kind s more = record { tags = record { kind = kind; size = s.end - s.start } ∷ more.tags; bytes = span_text texts s ++ more.bytes; uses = more.uses }
+abbrev pub with_span : List (List ℕ) → ItemKind → Span → Lists → Lists
+with_span texts kind s more = record { tags = record { kind = kind; size = s.end - s.start } ∷ more.tags; bytes = span_text texts s ++ more.bytes; uses = more.uses }
 
 module _ (texts : List (List ℕ)) (table : TableRead) where
   abbrev pub with_item : Item → Lists → Lists
-  with_item x more = record { tags = tag_in table x ∷ more.tags; bytes = bytes_in texts x ++ more.bytes; uses = names_in table x ++ more.uses }
+  with_item x more = record { tags = tag_in table x ∷ more.tags; bytes = bytes_in texts x ++ more.bytes; uses = uses_in table x ++ more.uses }
 
   -- the items of a piece, and its end
   abbrev pub with_items : List Item → Lists → Lists
   with_items items more = record {
     tags = piece_tags table items ++ more.tags;
     bytes = flat_map (bytes_in texts) items ++ more.bytes;
-    uses = flat_map (names_in table) items ++ more.uses;
+    uses = flat_map (uses_in table) items ++ more.uses;
   }
 
   abbrev pub with_pieces : List PieceRead → Lists → Lists
   with_pieces pieces more = record {
     tags = pieces_tags table pieces ++ more.tags;
     bytes = pieces_bytes texts pieces ++ more.bytes;
-    uses = pieces_names table pieces ++ more.uses;
+    uses = pieces_uses table pieces ++ more.uses;
   }
 
   -- the same, as it is said of a shape
@@ -71,52 +68,52 @@ module _ (texts : List (List ℕ)) (table : TableRead) where
   with_shape pieces more = record {
     tags = shape_tags (shape_of texts table pieces) ++ more.tags;
     bytes = shape_bytes (shape_of texts table pieces) ++ more.bytes;
-    uses = pieces_names table pieces ++ more.uses;
+    uses = pieces_uses table pieces ++ more.uses;
   }
 
--- the lists begin with this front just where the others do with theirs, and what is behind the two is the same
+-- the lists begin with this front just where the others do with theirs, and what is after the two is the same
 abbrev pub GoOnAs : Lists → (Lists → Lists) → Lists → (Lists → Lists) → Type 0
 GoOnAs lists front others front' = (more : Lists) → (lists ≡ front more → others ≡ front' more) × (others ≡ front' more → lists ≡ front more)
 
--- behind this front, the lists go on with what is left
-abbrev pub IsBehind : (Lists → Lists) → Lists → Lists → Type 0
-IsBehind front lists left = GoOnAs lists front left (λ more. more)
+-- after this front, the lists go on with what is left
+abbrev pub IsAfter : (Lists → Lists) → Lists → Lists → Type 0
+IsAfter front lists left = GoOnAs lists front left (λ more. more)
 
 -- they do not begin with it
-abbrev pub IsNotBehind : (Lists → Lists) → Lists → Type 0
-IsNotBehind front lists = (more : Lists) → lists ≢ front more
+abbrev pub IsNotAfter : (Lists → Lists) → Lists → Type 0
+IsNotAfter front lists = (more : Lists) → lists ≢ front more
 
--- what is left behind this front was found, or that the lists do not begin with it
-abbrev pub LeavesBehind : (Lists → Lists) → Left → Option Left → Type 0
-LeavesBehind front left found = MatchOption found (IsNotBehind front (lists_left left)) (λ next. IsBehind front (lists_left left) (lists_left next))
+-- what is left after this front was found, or that the lists do not begin with it
+abbrev pub LeavesAfter : (Lists → Lists) → Left → Option Left → Type 0
+LeavesAfter front left found = MatchOption found (IsNotAfter front (lists_left left)) (λ next. IsAfter front (lists_left left) (lists_left next))
 
 -- the lists at a position within a piece, with these tags; of its bytes, those of its range come first
 abbrev pub lists_at : List ItemTag → Position → Lists
-lists_at tags position = record { tags = tags; bytes = position.text.now; uses = position.uses.now }
+lists_at tags position = record { tags = tags; bytes = position.bytes.now; uses = position.uses.now }
 
 abbrev pub with_range : Position → Lists → Lists
-with_range position more = with_bytes (run_bytes position.run) more
+with_range position more = with_bytes (range_bytes position.range) more
 
--- with this tag next, the lists begin with this front, and behind it they are those at another position
-abbrev pub IsBehindPosition : (Lists → Lists) → ItemTag → Position → Position → Type 0
-IsBehindPosition front tag position next =
+-- with this tag next, the lists begin with this front, and after it they are those at another position
+abbrev pub IsAfterPosition : (Lists → Lists) → ItemTag → Position → Position → Type 0
+IsAfterPosition front tag position next =
     (tags : List ItemTag) → GoOnAs (lists_at (tag ∷ tags) position) (λ more. with_range position (front more)) (lists_at tags next) (with_range next)
 
 -- they do not begin with it
-abbrev pub IsNotBehindPosition : (Lists → Lists) → ItemTag → Position → Type 0
-IsNotBehindPosition front tag position = (tags : List ItemTag) → IsNotBehind (λ more. with_range position (front more)) (lists_at (tag ∷ tags) position)
+abbrev pub IsNotAfterPosition : (Lists → Lists) → ItemTag → Position → Type 0
+IsNotAfterPosition front tag position = (tags : List ItemTag) → IsNotAfter (λ more. with_range position (front more)) (lists_at (tag ∷ tags) position)
 
--- the position behind this front was found, or that the lists do not begin with it
-abbrev pub GoesBehind : (Lists → Lists) → ItemTag → Position → Option Position → Type 0
-GoesBehind front tag position found = MatchOption found (IsNotBehindPosition front tag position) (λ next. IsBehindPosition front tag position next)
+-- the position after this front was found, or that the lists do not begin with it
+abbrev pub GoesAfter : (Lists → Lists) → ItemTag → Position → Option Position → Type 0
+GoesAfter front tag position found = MatchOption found (IsNotAfterPosition front tag position) (λ next. IsAfterPosition front tag position next)
 
 -- an item that can come next at a position: their ranges are of the source, and the name that it uses is one of the table's
 pub record CanComeNext (texts : List (List ℕ)) (table : TableRead) (position : Position) (x : Item) : Type 0 where
   pub span : IsInRange texts x
   pub name : IsUseBelow (length table.resolved) x
-  pub run : IsKept texts position.run
+  pub range : IsRangeOfSource texts position.range
 
--- the position behind an item was found, with a range of the source too, or that it does not come next
-pub record GoesBehindItem (texts : List (List ℕ)) (table : TableRead) (x : Item) (tag : ItemTag) (here : Position) (found : Option Position) : Type 0 where
-  pub run : IfSome found (λ next. IsKept texts next.run)
-  pub position : GoesBehind (with_item texts table x) tag here found
+-- the position after an item was found, with a range of the source too, or that it does not come next
+pub record GoesAfterItem (texts : List (List ℕ)) (table : TableRead) (x : Item) (tag : ItemTag) (here : Position) (found : Option Position) : Type 0 where
+  pub range : IfSome found (λ next. IsRangeOfSource texts next.range)
+  pub position : GoesAfter (with_item texts table x) tag here found

@@ -13,19 +13,19 @@ use Rattle.tangle_plans.specs.Flat.{Byte, Opening, MarkOf, Closing, AllMacros}
 use Rattle.tangle_plans.specs.WebShapes.{resolved_at}
 use Rattle.tangle_plans.specs.Slots.{Slot, Own, Used, byte_slots}
 
--- how many marks there are behind an item
-abbrev pub marks_behind_item : ℕ → Item → ℕ
-marks_behind_item marks (item.LineMark origin) = marks + 1
-marks_behind_item marks (item.Word span) = marks
-marks_behind_item marks (item.Sign span) = marks
-marks_behind_item marks (item.Quoted span) = marks
-marks_behind_item marks item.QuoteBreak = marks
-marks_behind_item marks (item.Verbatim span) = marks
-marks_behind_item marks (item.Code value) = marks
-marks_behind_item marks item.Blank = marks
-marks_behind_item marks item.LineEnd = marks
-marks_behind_item marks (item.UseOf occurrence) = marks
-marks_behind_item marks item.Defs = marks
+-- how many marks there are after an item
+abbrev pub marks_after_item : ℕ → Item → ℕ
+marks_after_item marks (item.LineMark origin) = marks + 1
+marks_after_item marks (item.Word span) = marks
+marks_after_item marks (item.Sign span) = marks
+marks_after_item marks (item.Quoted span) = marks
+marks_after_item marks item.QuoteBreak = marks
+marks_after_item marks (item.Verbatim span) = marks
+marks_after_item marks (item.Code value) = marks
+marks_after_item marks item.Blank = marks
+marks_after_item marks item.LineEnd = marks
+marks_after_item marks (item.UseOf occurrence) = marks
+marks_after_item marks item.Defs = marks
 
 -- a name with a piece is used by its number, and any other use is a space
 abbrev pub name_slots : (ℕ → Bool) → Resolved → List Slot
@@ -50,7 +50,7 @@ module _ (texts : List (List ℕ)) (table : TableRead) (has_piece : ℕ → Bool
   -- the items of a piece, and its closing
   abbrev pub items_slots : ℕ → ℕ → List Item → List Slot
   items_slots piece marks [] = Own (Closing node piece) ∷ []
-  items_slots piece marks (x ∷ items) = item_slots piece marks x ++ items_slots piece (marks_behind_item marks x) items
+  items_slots piece marks (x ∷ items) = item_slots piece marks x ++ items_slots piece (marks_after_item marks x) items
 
   abbrev pub piece_slots : ℕ → List Item → List Slot
   piece_slots piece items = Own (Opening node piece) ∷ Own (MarkOf node piece 0) ∷ items_slots piece 0 items

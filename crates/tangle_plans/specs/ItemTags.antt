@@ -19,13 +19,13 @@ use_tag (Name id) = record { kind = tag.Use; size = 0 }
 use_tag NoFullName = record { kind = tag.NoUse; size = 0 }
 use_tag Ambiguous = record { kind = tag.NoUse; size = 0 }
 
-abbrev pub names_resolved : Resolved → List ℕ
-names_resolved (Name id) = id ∷ []
-names_resolved NoFullName = []
-names_resolved Ambiguous = []
+abbrev pub uses_resolved : Resolved → List ℕ
+uses_resolved (Name id) = id ∷ []
+uses_resolved NoFullName = []
+uses_resolved Ambiguous = []
 
 module _ (table : TableRead) where
-  -- the tag of an item, whose text is as long as its range of the source
+  -- the tag of an item, which has as many bytes as its span
   abbrev pub tag_in : Item → ItemTag
   tag_in (item.Word span) = record { kind = tag.Word; size = span.end - span.start }
   tag_in (item.Sign span) = record { kind = tag.Sign; size = span.end - span.start }
@@ -46,12 +46,12 @@ module _ (table : TableRead) where
   pieces_tags pieces = flat_map (λ (p : PieceRead). piece_tags p.items) pieces
 
   -- the number of the name that an item uses, if it uses one
-  abbrev pub names_in : Item → List ℕ
-  names_in (item.UseOf occurrence) = names_resolved (resolved_at table occurrence)
-  names_in _ = []
+  abbrev pub uses_in : Item → List ℕ
+  uses_in (item.UseOf occurrence) = uses_resolved (resolved_at table occurrence)
+  uses_in _ = []
 
-  abbrev pub pieces_names : List PieceRead → List ℕ
-  pieces_names pieces = flat_map (λ (p : PieceRead). flat_map names_in p.items) pieces
+  abbrev pub pieces_uses : List PieceRead → List ℕ
+  pieces_uses pieces = flat_map (λ (p : PieceRead). flat_map uses_in p.items) pieces
 
 module _ (texts : List (List ℕ)) where
   -- the bytes of an item; a use, a mark and the macros have none

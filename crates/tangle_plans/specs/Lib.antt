@@ -4,11 +4,11 @@ pub mod WebShapes
 pub mod Meaning
 pub mod Nodes
 pub mod Slots
-pub mod Planned
+pub mod MakingBodies
 pub mod ItemSlots
 pub mod Tags
 pub mod ItemTags
-pub mod Runs
+pub mod Ranges
 pub mod NodeBodies
 pub mod Comparing
 pub mod Fronts

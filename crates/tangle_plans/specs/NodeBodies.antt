@@ -1,4 +1,4 @@
--- What is kept of a node, as clauses name it.
+-- The body of a node, as clauses name it.
 use Rattle.std.specs.Prelude.{◌≡◌, ℕ, List, [], map, slice_index_or}
 use Rattle.tangle_plans.specs.Shapes.{Title, Shape}
 use Rattle.tangle_plans.specs.Tags.{shape_tags, shape_bytes, shape_names}
@@ -7,34 +7,34 @@ use Rattle.tangle_plans.specs.Slots.{Slot, slots, uses_of}
 use Rattle.tangle_plans.specs.declared.tags.ItemTag.{ItemTag}
 use Rattle.tangle_plans.specs.declared.nodes.NodeBody.{NodeBody}
 
-abbrev pub node_title : NodeBody → Title
-node_title node = title_of node.name
+abbrev pub body_title : NodeBody → Title
+body_title body = title_of body.name
 
-abbrev pub node_tags : NodeBody → List ItemTag
-node_tags node = node.tags.items
+abbrev pub body_tags : NodeBody → List ItemTag
+body_tags body = body.tags.items
 
 -- the bytes of all its items
-abbrev pub node_bytes : NodeBody → List ℕ
-node_bytes node = node.text.items
+abbrev pub body_bytes : NodeBody → List ℕ
+body_bytes body = body.bytes.items
 
 -- the numbers of the names that its items use, one for each use that is resolved
-abbrev pub node_uses : NodeBody → List ℕ
-node_uses node = node.uses.items
+abbrev pub body_uses : NodeBody → List ℕ
+body_uses body = body.uses.items
 
 -- the numbers of the names with a piece that its plan uses
 abbrev pub plan_uses : NodeBody → List ℕ
-plan_uses node = uses_of node.plan.items
+plan_uses body = uses_of body.plan.items
 
 -- its own symbols, and where it uses which names
 abbrev pub plan_slots : NodeBody → List Slot
-plan_slots node = slots (title_of node.name) node.text.items 0 0 0 node.plan.items
+plan_slots body = slots (title_of body.name) body.bytes.items 0 0 0 body.plan.items
 
--- the texts of the names with these numbers
-abbrev pub texts_at : List (List ℕ) → List ℕ → List (List ℕ)
-texts_at names numbers = map (λ id. slice_index_or names id []) numbers
+-- the names with these numbers
+abbrev pub names_at : List (List ℕ) → List ℕ → List (List ℕ)
+names_at names numbers = map (λ id. slice_index_or names id []) numbers
 
--- what is kept determines this shape, where the names have these texts
-pub record HoldsShape (names : List (List ℕ)) (shape : Shape) (node : NodeBody) : Type 0 where
-  pub tags : node_tags node ≡ shape_tags shape
-  pub bytes : node_bytes node ≡ shape_bytes shape
-  pub names_used : texts_at names (node_uses node) ≡ shape_names shape
+-- the body determines this shape, where these are the names
+pub record HoldsShape (names : List (List ℕ)) (shape : Shape) (body : NodeBody) : Type 0 where
+  pub tags : body_tags body ≡ shape_tags shape
+  pub bytes : body_bytes body ≡ shape_bytes shape
+  pub names_used : names_at names (body_uses body) ≡ shape_names shape

@@ -15,7 +15,7 @@ abbrev pub IsNodeBelow : ℕ → Node → Type 0
 IsNodeBelow count Program = Unit {0}
 IsNodeBelow count (Name id) = id < count
 
--- the title of a node, where the names have these texts
+-- the title of a node, where these are the names
 abbrev pub title_in : List (List ℕ) → Node → Title
 title_in names Program = title.Program
 title_in names (Name id) = Named (slice_index_or names id [])

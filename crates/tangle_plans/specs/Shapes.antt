@@ -2,7 +2,7 @@
 use Rattle.std.specs.Prelude.{◌⊎◌, ◌≡◌, ℕ, Bool, true, false, List, [], ◌∷◌}
 use Rattle.std.specs.Str.{bytes_eq}
 
--- a node: the unnamed program, or a full name by its text
+-- a node: the unnamed program, or a full name by its bytes
 pub data Title : Type 0 where
   Program : Title
   Named : List ℕ → Title

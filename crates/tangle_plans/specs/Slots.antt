@@ -4,7 +4,7 @@ use Rattle.std.specs.List.{AllByRecursion}
 use Rattle.tangle_files.specs.Bytes.{space}
 use Rattle.tangle_plans.specs.Shapes.{Title}
 use Rattle.tangle_plans.specs.Flat.{Symbol, Byte, Opening, MarkOf, Closing, AllMacros}
-use Rattle.tangle_plans.specs.Meaning.{bytes_between, pieces_passed, marks_passed, bytes_passed}
+use Rattle.tangle_plans.specs.Meaning.{bytes_between, pieces_after_step, marks_after_step, bytes_after_step}
 use Rattle.tangle_plans.specs.declared.steps.Step.{Step}
 use Rattle.tangle_plans.specs.declared.steps.Step.TheVariants as step
 
@@ -13,10 +13,10 @@ pub data Slot : Type 0 where
   Own : Symbol → Slot
   Used : ℕ → Slot
 
-module _ (node : Title) (text : List ℕ) where
+module _ (node : Title) (bytes : List ℕ) where
   abbrev pub step_slots : ℕ → ℕ → ℕ → Step → List Slot
   step_slots piece marks start step.Open = Own (Opening node piece) ∷ Own (MarkOf node piece 0) ∷ []
-  step_slots piece marks start (step.Run end) = map (λ b. Own (Byte b)) (bytes_between text start end)
+  step_slots piece marks start (step.Run end) = map (λ b. Own (Byte b)) (bytes_between bytes start end)
   step_slots piece marks start step.Mark = Own (MarkOf node piece (marks + 1)) ∷ []
   step_slots piece marks start step.AllMacros = Own AllMacros ∷ []
   step_slots piece marks start step.Space = Own (Byte space) ∷ []
@@ -26,7 +26,7 @@ module _ (node : Title) (text : List ℕ) where
   abbrev pub slots : ℕ → ℕ → ℕ → List Step → List Slot
   slots piece marks start [] = []
   slots piece marks start (s ∷ plan) =
-      step_slots piece marks start s ++ slots (pieces_passed piece s) (marks_passed marks s) (bytes_passed start s) plan
+      step_slots piece marks start s ++ slots (pieces_after_step piece s) (marks_after_step marks s) (bytes_after_step start s) plan
 
 -- a slot with the symbols of the names
 abbrev pub filled_slot : (ℕ → List Symbol) → Slot → List Symbol
@@ -52,19 +52,19 @@ uses_of (s ∷ plan) = step_uses s ++ uses_of plan
 
 -- where a plan is at its end
 
-abbrev pub pieces_after : ℕ → List Step → ℕ
-pieces_after piece [] = piece
-pieces_after piece (s ∷ plan) = pieces_after (pieces_passed piece s) plan
+abbrev pub pieces_after_plan : ℕ → List Step → ℕ
+pieces_after_plan piece [] = piece
+pieces_after_plan piece (s ∷ plan) = pieces_after_plan (pieces_after_step piece s) plan
 
-abbrev pub marks_after : ℕ → List Step → ℕ
-marks_after marks [] = marks
-marks_after marks (s ∷ plan) = marks_after (marks_passed marks s) plan
+abbrev pub marks_after_plan : ℕ → List Step → ℕ
+marks_after_plan marks [] = marks
+marks_after_plan marks (s ∷ plan) = marks_after_plan (marks_after_step marks s) plan
 
-abbrev pub bytes_after : ℕ → List Step → ℕ
-bytes_after start [] = start
-bytes_after start (s ∷ plan) = bytes_after (bytes_passed start s) plan
+abbrev pub bytes_after_plan : ℕ → List Step → ℕ
+bytes_after_plan start [] = start
+bytes_after_plan start (s ∷ plan) = bytes_after_plan (bytes_after_step start s) plan
 
--- no run ends behind this position
+-- no run ends after this position
 abbrev pub EndsWithin : ℕ → Step → Type 0
 EndsWithin most (step.Run end) = end ≤ most
 EndsWithin most step.Open = Unit {0}
@@ -87,15 +87,15 @@ is_run step.Close = false
 abbrev pub last_run : ℕ → ℕ → List Step
 last_run start end = if nat_lt start end then step.Run end ∷ [] else []
 
--- a text and a plan that are being made: all runs end where the last one does, which is within the text
-pub record IsMade (text : List ℕ) (plan : List Step) (piece marks start : ℕ) : Type 0 where
-  pub pieces : piece ≡ pieces_after 0 plan
-  pub marks_of_piece : marks ≡ marks_after 0 plan
-  pub runs : start ≡ bytes_after 0 plan
-  pub within : start ≤ length text
+-- bytes and a plan that are being made: all runs end where the last one does, which is within the bytes
+pub record IsMade (bytes : List ℕ) (plan : List Step) (piece marks start : ℕ) : Type 0 where
+  pub pieces : piece ≡ pieces_after_plan 0 plan
+  pub marks_of_piece : marks ≡ marks_after_plan 0 plan
+  pub runs : start ≡ bytes_after_plan 0 plan
+  pub within : start ≤ length bytes
   pub pieces_few : piece ≤ length plan
   pub marks_few : marks ≤ length plan
-  pub ends : AllByRecursion (EndsWithin (length text)) plan
+  pub ends : AllByRecursion (EndsWithin (length bytes)) plan
 
 abbrev pub byte_slots : List ℕ → List Slot
 byte_slots bytes = map (λ b. Own (Byte b)) bytes

@@ -6,25 +6,25 @@ use Rattle.tangle_plans.specs.declared.tags.ItemKind.{ItemKind}
 use Rattle.tangle_plans.specs.declared.tags.ItemKind.TheVariants as tag
 use Rattle.tangle_plans.specs.declared.tags.ItemTag.{ItemTag}
 
-abbrev pub text_kind : Kind → ItemKind
-text_kind kind.Word = tag.Word
-text_kind kind.Sign = tag.Sign
-text_kind kind.Quoted = tag.Quoted
-text_kind kind.QuoteBreak = tag.QuoteBreak
-text_kind kind.Verbatim = tag.Verbatim
-text_kind kind.AsciiConstant = tag.AsciiConstant
-text_kind kind.Blank = tag.Blank
-text_kind kind.LineEnd = tag.LineEnd
+abbrev pub written_kind : Kind → ItemKind
+written_kind kind.Word = tag.Word
+written_kind kind.Sign = tag.Sign
+written_kind kind.Quoted = tag.Quoted
+written_kind kind.QuoteBreak = tag.QuoteBreak
+written_kind kind.Verbatim = tag.Verbatim
+written_kind kind.AsciiConstant = tag.AsciiConstant
+written_kind kind.Blank = tag.Blank
+written_kind kind.LineEnd = tag.LineEnd
 
--- the tag of an item: its kind, and how many bytes its text has
+-- the tag of an item: its kind, and how many bytes it has
 abbrev pub item_tag : ShapeItem → ItemTag
-item_tag (Written k bytes) = record { kind = text_kind k; size = length bytes }
+item_tag (Written k bytes) = record { kind = written_kind k; size = length bytes }
 item_tag Mark = record { kind = tag.Mark; size = 0 }
 item_tag AllMacros = record { kind = tag.AllMacros; size = 0 }
 item_tag (Use name) = record { kind = tag.Use; size = 0 }
 item_tag NoUse = record { kind = tag.NoUse; size = 0 }
 
--- white space
+-- a blank
 abbrev pub blank_tag : ItemTag
 blank_tag = record { kind = tag.Blank; size = 1 }
 

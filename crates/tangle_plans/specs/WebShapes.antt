@@ -28,17 +28,17 @@ module _ (table : TableRead) where
   node_of NoFullName = None
   node_of Ambiguous = None
 
-  -- the node of a piece with this name, or of an unnamed one; a piece whose name is not resolved has none and is dropped
-  abbrev pub node_of_name : Option ℕ → Option Title
-  node_of_name None = Some Program
-  node_of_name (Some occurrence) = node_of (resolved_at occurrence)
+  -- the node of a piece with this occurrence, or of an unnamed one; a piece whose occurrence is not resolved has none and is dropped
+  abbrev pub node_of_occurrence : Option ℕ → Option Title
+  node_of_occurrence None = Some Program
+  node_of_occurrence (Some occurrence) = node_of (resolved_at occurrence)
 
   abbrev pub is_node : Title → Option Title → Bool
   is_node node None = false
   is_node node (Some other) = title_eq node other
 
   abbrev pub is_piece_of : Title → PieceRead → Bool
-  is_piece_of node piece = is_node node (node_of_name piece.occurrence)
+  is_piece_of node piece = is_node node (node_of_occurrence piece.occurrence)
 
 -- what is resolved to is one of so many names
 abbrev pub IsNameBelow : ℕ → Resolved → Type 0
@@ -51,7 +51,7 @@ abbrev pub ResolvesInside : TableRead → Type 0
 ResolvesInside table = (occurrence : ℕ) → IsNameBelow (length table.names) (resolved_at table occurrence)
 
 module _ (texts : List (List ℕ)) (table : TableRead) where
-  -- an item of a shape: kinds and texts as they are cut, without origins
+  -- an item of a shape: kinds and bytes as they are cut, without origins
   abbrev pub shape_item : Item → ShapeItem
   shape_item (item.Word span) = Written kind.Word (span_text texts span)
   shape_item (item.Sign span) = Written kind.Sign (span_text texts span)

@@ -1,17 +1,17 @@
 //! How many symbols a node has of its own, by its plan.
 ghost use Rattle.std.specs.Prelude.{◌≡◌, ◌<◌, ◌^◌, ℕ, List, length, min};
-ghost use Rattle.tangle_plans.specs.NodeBodies.{node_uses, plan_slots};
+ghost use Rattle.tangle_plans.specs.NodeBodies.{plan_slots};
 ghost use Rattle.tangle_plans.specs.Shapes.{Program};
 ghost use Rattle.tangle_plans.specs.Slots.{step_slots};
 
 use crate::nodes::NodeBody;
-use crate::steps::{Step, bytes_behind};
+use crate::steps::{Step, bytes_after_step};
 
-/// How many symbols a step has behind so many bytes of a text of this size.
+/// How many symbols a step gives, after so many of the body's `size` bytes.
 #[tactic(auto, using(crate::proofs::CountLemmas::between_counted))]
 fn symbols_of_step(step: Step, start: usize, size: usize) -> usize
-    ensures { (text : List ℕ) → length text ≡ size → length (step_slots Program text 0 0 start step)
-        ≡ result }
+    ensures { (bytes : List ℕ) → length bytes ≡ size
+        → length (step_slots Program bytes 0 0 start step) ≡ result }
 {
     match step {
         Step::Run(end) => end.min(size).saturating_sub(start),
@@ -22,25 +22,18 @@ fn symbols_of_step(step: Step, start: usize, size: usize) -> usize
 
 impl NodeBody {
     /// How many symbols the node has of its own, where each use of a name with a piece counts as
-    /// one. What is more than a number can be counts as the greatest number.
+    /// one. The count is at most `usize::MAX`.
     pub fn symbol_count(&self) -> usize
         ensures { (cap : ℕ) → cap < 2 ^ 64 → min cap result
             ≡ min cap (length (plan_slots self.now)) }
     {
-        let size = self.text.len();
+        let size = self.bytes.len();
         let mut count: usize = 0;
         let mut start = 0;
         for step in self.plan.as_slice() {
             count = count.saturating_add(symbols_of_step(*step, start, size));
-            start = bytes_behind(start, *step);
+            start = bytes_after_step(start, *step);
         }
         count
-    }
-
-    /// The numbers of the names that its items use, one for each use that is resolved.
-    pub fn uses(&self) -> &[usize]
-        ensures { result.now ≡ node_uses self.now }
-    {
-        self.uses.as_slice()
     }
 }

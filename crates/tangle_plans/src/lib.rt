@@ -1,8 +1,7 @@
-//! What is kept of the nodes of a web: their bodies with the plans of their symbols, and their
-//! shapes.
+//! The bodies of the nodes of a web, with the plans of their symbols, and their shapes.
 //!
-//! A node is a full name or the unnamed program. [`plan_node`] makes what is kept of one, its
-//! [`NodeBody`], [`is_same_node`] compares it with pieces, and [`same_shape`] two of them.
+//! A node is a full name or the unnamed program. [`plan_node`] makes the body of one, a
+//! [`NodeBody`], [`has_items_of`] compares it with pieces, and [`same_shape`] two of them.
 #![tactic(auto)]
 
 mod comparing;
@@ -10,14 +9,14 @@ mod counting;
 mod laws;
 mod nodes;
 mod planning;
-mod runs;
+mod ranges;
 mod shapes;
 mod steps;
 mod tags;
 
-pub use comparing::is_same_node;
+pub use comparing::has_items_of;
 pub use laws::{names_resolve_inside, tags_settle_the_shape};
 pub use nodes::{Node, NodeBody, PiecesByNode};
 pub use planning::{Planning, plan_node};
 pub use shapes::same_shape;
-pub use steps::{Step, bytes_behind, marks_behind, pieces_behind};
+pub use steps::{Step, bytes_after_step, marks_after_step, pieces_after_step};

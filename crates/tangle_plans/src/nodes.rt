@@ -1,6 +1,7 @@
-//! The nodes of a web, and what a store reports them.
+//! The nodes of a web, their bodies, and what a store gives of them.
 ghost use Rattle.std.specs.Prelude.{◌≡◌, ℕ, List, length, Option, Some, None, IfSome, IfNone};
 ghost use Rattle.tangle_plans.specs.Nodes.{IsNodeBelow};
+ghost use Rattle.tangle_plans.specs.NodeBodies.{body_uses};
 ghost use Rattle.tangle_plans.specs.declared.nodes.NodeBody.{NodeBody};
 ghost use Rattle.tangle_plans.specs.declared.nodes.Node.{Node};
 ghost use Rattle.tangle_plans.specs.declared.nodes.Node.TheVariants as node_kind;
@@ -10,15 +11,27 @@ use crate::tags::ItemTag;
 use std::rc::Rc;
 use tangle_names::Names;
 
-/// What is kept of a node: its name, the bytes of all its items, the plan of its symbols, and
-/// besides, for comparing shapes, the tags of its items and the numbers of the names that they use.
+/// The body of a node: its name, the bytes of all its items, the plan of its symbols, and besides,
+/// for comparing shapes, the tags of its items and the numbers of the names that they use.
 #[derive(Drop)]
 pub struct NodeBody {
+    /// The name, or none for the program.
     pub name: Option<Vec<u8>>,
-    pub text: Vec<u8>,
+    /// The bytes of all its items.
+    pub bytes: Vec<u8>,
+    /// The plan of its symbols.
     pub plan: Vec<Step>,
     pub(crate) tags: Vec<ItemTag>,
     pub(crate) uses: Vec<usize>,
+}
+
+impl NodeBody {
+    /// The numbers of the names that its items use, one for each use that is resolved.
+    pub fn uses(&self) -> &[usize]
+        ensures { result.now ≡ body_uses self.now }
+    {
+        self.uses.as_slice()
+    }
 }
 
 /// A node of a web: a full name by its number in the table of names, or the unnamed program.
@@ -46,16 +59,15 @@ impl Node {
     }
 }
 
-/// What gives the full names of a web and, of each node by its number, the pieces and what is kept
-/// of them.
+/// What gives the full names of a web and, of each node, the numbers of its pieces and its body.
 pub trait PiecesByNode {
-    // The texts of the names, in the order of their numbers.
+    // The bytes of the names, in the order of their numbers.
     ghost names: { Self → List (List ℕ) };
 
     // The numbers of a node's pieces in the web, in the order of the source.
     ghost pieces: { Self → Node → List ℕ };
 
-    // What is kept of a node, if it is one of the web.
+    // The body of a node, if it is one of the web.
     ghost bodies: { Self → Node → Option NodeBody };
 
     /// The full names.
@@ -67,7 +79,7 @@ pub trait PiecesByNode {
         requires { IsNodeBelow (length (names self.now)) node }
         ensures { result.now ≡ pieces self.now node };
 
-    /// What is kept of the node, if it is one of the web.
+    /// The body of the node, if it is one of the web.
     fn node_body(&self, node: Node) -> Option<&Rc<NodeBody>>
         ensures some { IfSome result (λ found. bodies self.now node ≡ Some found.now.value) }
         ensures none { IfNone result (bodies self.now node ≡ None) };

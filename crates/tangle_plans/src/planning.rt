@@ -1,27 +1,28 @@
-//! Making the text and the plan of a node, item by item.
+//! Making the body of a node, item by item.
 ghost use Rattle.tangle_names.specs.NameTable.{TableRead};
 ghost use Rattle.std.specs.Prelude.{◌≡◌, false, length, map, take, slice_index_or, ◌++◌, flat_map};
 ghost use Rattle.std.specs.Prelude.{filter, [], IfOk, OnOk, OnErr, ◌+◌, ◌<◌, ◌≤◌, ◌∷◌};
-ghost use Rattle.tangle_plans.specs.Meaning.{title_of, pieces_passed, marks_passed};
+ghost use Rattle.tangle_plans.specs.Meaning.{title_of, pieces_after_step, marks_after_step};
 ghost use Rattle.tangle_plans.specs.Slots.{slots, byte_slots, step_slots, is_run, last_run};
 ghost use Rattle.std.specs.List.{All};
 ghost use Rattle.tangle_scan.specs.SourceOrder.{IsInRange, IsSpan};
 ghost use Rattle.tangle_scan.specs.WellFormed.{IsUseBelow};
-ghost use Rattle.tangle_plans.specs.ItemTags.{bytes_in, tag_in, names_in, piece_tags};
-ghost use Rattle.tangle_plans.specs.ItemTags.{pieces_bytes, pieces_names, shape_of};
+ghost use Rattle.tangle_plans.specs.ItemTags.{bytes_in, tag_in, uses_in, piece_tags};
+ghost use Rattle.tangle_plans.specs.ItemTags.{pieces_bytes, pieces_uses, shape_of};
 ghost use Rattle.tangle_plans.specs.Tags.{shape_tags};
-ghost use Rattle.tangle_plans.specs.Planned.{nothing_made};
+ghost use Rattle.tangle_plans.specs.MakingBodies.{nothing_made};
 ghost use Rattle.tangle_plans.specs.Shapes.{Program};
-ghost use Rattle.tangle_plans.specs.NodeBodies.{node_title, node_bytes, node_tags, node_uses};
+ghost use Rattle.tangle_plans.specs.NodeBodies.{body_title, body_bytes, body_tags, body_uses};
 ghost use Rattle.tangle_plans.specs.NodeBodies.{plan_slots, plan_uses, HoldsShape};
-ghost use Rattle.tangle_plans.specs.Runs.{AddsItem, AddsText, IsKept, IsRunOver, run_bytes};
-ghost use Rattle.tangle_plans.specs.ItemSlots.{marks_behind_item, name_slots, item_slots};
+ghost use Rattle.tangle_plans.specs.Ranges.{AddsItem, AddsSpan, IsRangeOfSource, IsRangeOver};
+ghost use Rattle.tangle_plans.specs.Ranges.{range_bytes};
+ghost use Rattle.tangle_plans.specs.ItemSlots.{marks_after_item, name_slots, item_slots};
 ghost use Rattle.tangle_plans.specs.ItemSlots.{piece_slots, pieces_slots, pieces_at};
 
 use crate::nodes::NodeBody;
-use crate::runs::{Run, end_of, no_run, pass_items, run_of, text_of};
-use crate::steps::{Step, marks_behind, pieces_behind};
-use crate::tags::{ItemKind, ItemTag, add_name, end_of_piece, tag_count, tag_of, tag_of_span};
+use crate::ranges::{LineRange, end_of, no_range, pass_items, range_of, span_of};
+use crate::steps::{Step, marks_after_step, pieces_after_step};
+use crate::tags::{ItemKind, ItemTag, add_name, piece_end, tag_count, tag_of, tag_of_span};
 use itoa::Buffer;
 use std::alloc::Global;
 use std::marker::Model;
@@ -30,12 +31,12 @@ use tangle_lines::NoMemory;
 use tangle_names::{NameTable, Resolved};
 use tangle_scan::{Item, Span, Web};
 
-/// Buffers in which the texts and plans of nodes are made, one after the other: what is kept of a
-/// node takes just as much as it needs.
+/// Buffers in which the bodies of nodes are made, one after the other: a body takes just as much
+/// memory as it needs.
 #[derive(Drop)]
 pub struct Planning {
     name: Option<Vec<u8>>,
-    text: Vec<u8>,
+    bytes: Vec<u8>,
     plan: Vec<Step>,
     tags: Vec<ItemTag>,
     uses: Vec<usize>,
@@ -46,23 +47,23 @@ pub struct Planning {
 
 impl Model for Planning {
     ghost use Rattle.tangle_plans.specs.Slots.{IsMade};
-    ghost use Rattle.tangle_plans.specs.Planned.{Making, making};
+    ghost use Rattle.tangle_plans.specs.MakingBodies.{Making, making};
 
     ghost Value = { Making };
 
     ghost view = { making };
 
-    ghost invariant = { λ p. IsMade p.text.items p.plan.items p.piece p.marks p.start };
+    ghost invariant = { λ p. IsMade p.bytes.items p.plan.items p.piece p.marks p.start };
 }
 
 impl Planning {
-    /// Room for a first node.
+    /// Empty buffers for a first node.
     pub fn new(alloc: Global) -> Self
         ensures { result ≡ nothing_made Program }
     {
         Planning {
             name: None,
-            text: Vec::new(alloc),
+            bytes: Vec::new(alloc),
             plan: Vec::new(alloc),
             tags: Vec::new(alloc),
             uses: Vec::new(alloc),
@@ -72,13 +73,13 @@ impl Planning {
         }
     }
 
-    /// Begins with a node of this name, or the program, with room for so many tags.
+    /// Begins with a node of this name, or the program, with capacity for so many tags.
     fn begin(&mut self, alloc: Global, name: Option<Vec<u8>>, tags: usize) -> Result<(), NoMemory>
         ensures { OnOk result (self.new ≡ nothing_made (title_of name)) }
     {
         self.tags = Vec::with_capacity(alloc, tags)?;
         self.name = name;
-        self.text.clear();
+        self.bytes.clear();
         self.plan.clear();
         self.uses.clear();
         self.piece = 0;
@@ -92,7 +93,7 @@ impl Planning {
         ensures { OnOk result (self.new ≡ record self.old
             { made = self.old.made ++ byte_slots bytes.now; bytes = self.old.bytes ++ bytes.now }) }
     {
-        self.text.extend_from_slice(bytes)?;
+        self.bytes.extend_from_slice(bytes)?;
         Ok(())
     }
 
@@ -104,7 +105,7 @@ impl Planning {
               ∷ [];
         }) }
     {
-        self.text.push(byte)?;
+        self.bytes.push(byte)?;
         Ok(())
     }
 
@@ -112,17 +113,17 @@ impl Planning {
     fn add_step(&mut self, step: Step) -> Result<(), NoMemory>
         requires { is_run step ≡ false }
         ensures { OnOk result (self.new ≡ record self.old {
-          piece = pieces_passed self.old.piece step;
-          marks = marks_passed self.old.marks step;
+          piece = pieces_after_step self.old.piece step;
+          marks = marks_after_step self.old.marks step;
           made = self.old.made ++ step_slots self.old.node [] self.old.piece self.old.marks 0 step;
         }) }
     {
-        let end = self.text.len();
+        let end = self.bytes.len();
         end_run(&mut self.plan, self.start, end)?;
         self.start = end;
         self.plan.push(step)?;
-        self.piece = pieces_behind(self.piece, step);
-        self.marks = marks_behind(self.marks, step);
+        self.piece = pieces_after_step(self.piece, step);
+        self.marks = marks_after_step(self.marks, step);
         Ok(())
     }
 
@@ -137,8 +138,8 @@ impl Planning {
         self.add_tag_with_allocation(tag)
     }
 
-    /// Adds a tag where there is no room. It is separate, since the common way is shorter without
-    /// it.
+    /// Adds a tag where there is no capacity. It is separate, since the common case is shorter
+    /// without it.
     #[inline(never)]
     fn add_tag_with_allocation(&mut self, tag: ItemTag) -> Result<(), NoMemory>
         ensures { OnOk result (self.new ≡ record self.old { tags = self.old.tags ++ tag ∷ [] }) }
@@ -147,28 +148,28 @@ impl Planning {
         Ok(())
     }
 
-    /// Passes the items whose texts come next behind a range that is still to be copied, as far as
-    /// there is room for their tags: where the range ends then, and how many items these are.
-    fn pass(&mut self, web: &Web, run: Run, items: &[Item]) -> (usize, usize)
-        requires run { IsKept web.now.texts run }
+    /// Makes a range longer by the items that come next in the source, as far as the tags have
+    /// capacity: its new end, and how many items these are.
+    fn pass(&mut self, web: &Web, range: LineRange, items: &[Item]) -> (usize, usize)
+        requires range { IsRangeOfSource web.now.texts range }
         requires spans { All (IsInRange web.now.texts) items.now }
         ensures few { result.1 ≤ length items.now }
-        ensures range { IsRunOver web.now.texts run.entry (take result.1 items.now)
-            (record run.entry { end = result.0 }) }
+        ensures range { IsRangeOver web.now.texts range.entry (take result.1 items.now)
+            (record range.entry { end = result.0 }) }
         ensures tags { (table : TableRead) → self.new
             ≡ record self.old {
               tags = self.old.tags
                   ++ map (tag_in table) (take result.1 items.now);
             } }
     {
-        pass_items(&mut self.tags, web, run, items)
+        pass_items(&mut self.tags, web, range, items)
     }
 
     /// Adds the number of the name that an item uses, if it uses one.
     fn add_name(&mut self, table: &NameTable, item: &Item) -> Result<(), NoMemory>
         requires { IsUseBelow (length table.now.resolved) item.now }
         ensures { OnOk result (self.new ≡ record self.old
-            { uses = self.old.uses ++ names_in table.now item.now }) }
+            { uses = self.old.uses ++ uses_in table.now item.now }) }
     {
         if let Item::UseOf(occurrence) = *item {
             add_name(&mut self.uses, table.resolve(occurrence.number()))?;
@@ -176,20 +177,20 @@ impl Planning {
         Ok(())
     }
 
-    /// What is kept of the node.
+    /// The body of the node.
     fn finish(&mut self, alloc: Global) -> Result<NodeBody, NoMemory>
-        ensures node { IfOk result (λ n. node_title n ≡ self.old.node) }
-        ensures made { IfOk result
-            (λ n. slots self.old.node (node_bytes n) 0 0 0 n.plan.items ≡ self.old.made) }
-        ensures bytes { IfOk result (λ n. node_bytes n ≡ self.old.bytes) }
-        ensures tags { IfOk result (λ n. node_tags n ≡ self.old.tags) }
-        ensures uses { IfOk result (λ n. node_uses n ≡ self.old.uses) }
+        ensures node { IfOk result (λ body. body_title body ≡ self.old.node) }
+        ensures made { IfOk result (λ body. slots self.old.node (body_bytes body) 0 0 0
+            body.plan.items ≡ self.old.made) }
+        ensures bytes { IfOk result (λ body. body_bytes body ≡ self.old.bytes) }
+        ensures tags { IfOk result (λ body. body_tags body ≡ self.old.tags) }
+        ensures uses { IfOk result (λ body. body_uses body ≡ self.old.uses) }
     {
         let mut plan = Vec::with_capacity(alloc, self.plan.len().saturating_add(1))?;
         plan.extend_from_slice(&self.plan)?;
-        end_run(&mut plan, self.start, self.text.len())?;
+        end_run(&mut plan, self.start, self.bytes.len())?;
         Ok(NodeBody {
-            text: Vec::from_slice(alloc, &self.text)?,
+            bytes: Vec::from_slice(alloc, &self.bytes)?,
             plan,
             uses: Vec::from_slice(alloc, &self.uses)?,
             tags: replace(&mut self.tags, Vec::new(alloc)),
@@ -198,7 +199,7 @@ impl Planning {
     }
 }
 
-/// Ends the run of bytes from one position of a text up to another, if there are some.
+/// Ends the run of bytes from one position of the body up to another, if there are some.
 fn end_run(plan: &mut Vec<Step>, start: usize, end: usize) -> Result<(), NoMemory>
     ensures ok { OnOk result (plan.new.items ≡ plan.old.items ++ last_run start end) }
     ensures err { OnErr result (plan.new.items ≡ plan.old.items) }
@@ -246,7 +247,7 @@ fn add_item(
     requires span { IsInRange web.now.texts item }
     requires name { IsUseBelow (length table.now.resolved) item }
     ensures { OnOk result (planning.new ≡ record planning.old {
-      marks = marks_behind_item planning.old.marks item;
+      marks = marks_after_item planning.old.marks item;
       made = planning.old.made ++ item_slots web.now.texts table.now
           (λ id. slice_index_or has_piece.now id false) planning.old.node planning.old.piece
           planning.old.marks item;
@@ -271,66 +272,66 @@ fn add_item(
 }
 
 /// Adds a range that is still to be copied.
-fn add_run(planning: &mut Planning, run: Run) -> Result<(), NoMemory>
-    requires start { run.start ≤ run.end }
-    requires end { run.end ≤ length run.line.now }
+fn add_range(planning: &mut Planning, range: LineRange) -> Result<(), NoMemory>
+    requires start { range.start ≤ range.end }
+    requires end { range.end ≤ length range.line.now }
     ensures { OnOk result (planning.new ≡ record planning.old {
-      made = planning.old.made ++ byte_slots (run_bytes run.entry);
+      made = planning.old.made ++ byte_slots (range_bytes range.entry);
       bytes = planning.old.bytes
-          ++ run_bytes run.entry;
+          ++ range_bytes range.entry;
     }) }
 {
-    if run.start == run.end {
+    if range.start == range.end {
         return Ok(());
     }
-    planning.add_bytes(&run.line[run.start..run.end])
+    planning.add_bytes(&range.line[range.start..range.end])
 }
 
-/// Adds a text behind a range that is still to be copied: the range that is to be copied then.
-fn add_text<'w>(
+/// Adds a span after a range that is still to be copied: the range that is to be copied then.
+fn add_span<'w>(
     planning: &mut Planning,
     web: &'w Web,
-    run: Run<'w>,
+    range: LineRange<'w>,
     kind: ItemKind,
     span: Span,
-) -> Result<Run<'w>, NoMemory>
-    requires run { IsKept web.now.texts run }
+) -> Result<LineRange<'w>, NoMemory>
+    requires range { IsRangeOfSource web.now.texts range }
     requires span { IsSpan web.now.texts span }
-    ensures range { IfOk result (IsKept web.now.texts) }
+    ensures range { IfOk result (IsRangeOfSource web.now.texts) }
     ensures added { IfOk result
-        (λ next. AddsText web.now.texts kind span run.entry next planning.old planning.new) }
+        (λ next. AddsSpan web.now.texts kind span range.entry next planning.old planning.new) }
 {
     planning.add_tag(tag_of_span(kind, span))?;
-    add_run(planning, run)?;
-    Ok(run_of(web, span))
+    add_range(planning, range)?;
+    Ok(range_of(web, span))
 }
 
-/// Adds an item without a text behind a range that is still to be copied: the range that is to be
+/// Adds an item without a span after a range that is still to be copied: the range that is to be
 /// copied then.
 fn add_other<'w>(
     planning: &mut Planning,
     web: &'w Web,
     table: &NameTable,
     has_piece: &[bool],
-    run: Run<'w>,
+    range: LineRange<'w>,
     item: &Item,
-) -> Result<Run<'w>, NoMemory>
+) -> Result<LineRange<'w>, NoMemory>
     requires span { IsInRange web.now.texts item.now }
     requires name { IsUseBelow (length table.now.resolved) item.now }
-    requires run { IsKept web.now.texts run }
-    ensures range { IfOk result (IsKept web.now.texts) }
+    requires range { IsRangeOfSource web.now.texts range }
+    ensures range { IfOk result (IsRangeOfSource web.now.texts) }
     ensures added { IfOk result
         (λ next. AddsItem web.now.texts table.now (λ id. slice_index_or has_piece.now id false)
-        item.now run.entry next planning.old planning.new) }
+        item.now range.entry next planning.old planning.new) }
 {
     planning.add_tag(tag_of(item, table))?;
     planning.add_name(table, item)?;
-    add_run(planning, run)?;
+    add_range(planning, range)?;
     add_item(planning, web, table, has_piece, *item)?;
-    Ok(end_of(run))
+    Ok(end_of(range))
 }
 
-/// Adds a piece. Texts of items that are side by side in the source are copied at once.
+/// Adds a piece. Items that are side by side in the source are copied at once.
 fn add_piece(
     planning: &mut Planning,
     web: &Web,
@@ -349,26 +350,26 @@ fn add_piece(
           items.now;
       bytes = planning.old.bytes ++ flat_map (bytes_in web.now.texts) items.now;
       tags = planning.old.tags ++ piece_tags table.now items.now;
-      uses = planning.old.uses ++ flat_map (names_in table.now) items.now;
+      uses = planning.old.uses ++ flat_map (uses_in table.now) items.now;
     }) }
 {
     planning.add_step(Step::Open)?;
-    let mut run = no_run(web);
+    let mut range = no_range(web);
     let mut i = 0;
     while i < items.len() {
         let item = &items[i];
         i += 1;
-        if let Some((kind, span)) = text_of(item) {
-            let behind = add_text(planning, web, run, kind, span)?;
-            let (end, passed) = planning.pass(web, behind, &items[i..]);
-            run = Run { end, ..behind };
+        if let Some((kind, span)) = span_of(item) {
+            let after = add_span(planning, web, range, kind, span)?;
+            let (end, passed) = planning.pass(web, after, &items[i..]);
+            range = LineRange { end, ..after };
             i += passed;
         } else {
-            run = add_other(planning, web, table, has_piece, run, item)?;
+            range = add_other(planning, web, table, has_piece, range, item)?;
         }
     }
-    planning.add_tag(end_of_piece())?;
-    add_run(planning, run)?;
+    planning.add_tag(piece_end())?;
+    add_range(planning, range)?;
     planning.add_step(Step::Close)
 }
 
@@ -393,7 +394,7 @@ fn add_pieces(
         (planning.new.tags ≡ shape_tags
         (shape_of web.now.texts table.now (pieces_at web.now.pieces numbers.now))) }
     ensures uses { OnOk result
-        (planning.new.uses ≡ pieces_names table.now (pieces_at web.now.pieces numbers.now)) }
+        (planning.new.uses ≡ pieces_uses table.now (pieces_at web.now.pieces numbers.now)) }
 {
     let pieces = web.pieces();
     for number in numbers {
@@ -402,7 +403,7 @@ fn add_pieces(
     Ok(())
 }
 
-/// What is kept of the node that has the pieces with these numbers: a full name with this text, or
+/// The body of the node that has the pieces with these numbers: a full name with these bytes, or
 /// the unnamed program. The flags say of each name of the table whether it has a piece.
 ///
 /// # Errors
@@ -419,22 +420,23 @@ pub fn plan_node(
 ) -> Result<NodeBody, NoMemory>
     requires numbers { All (λ n. n < length web.now.pieces) numbers.now }
     requires ours { length table.now.resolved ≡ length web.now.occurrences }
-    ensures title { IfOk result (λ n. node_title n ≡ title_of name) }
-    ensures plan { IfOk result (λ n. plan_slots n
+    ensures title { IfOk result (λ body. body_title body ≡ title_of name) }
+    ensures plan { IfOk result (λ body. plan_slots body
         ≡ pieces_slots web.now.texts table.now (λ id. slice_index_or has_piece.now id false)
         (title_of name) 0 (pieces_at web.now.pieces numbers.now)) }
     ensures shape { IfOk result
-        (λ n. HoldsShape table.now.names
-        (shape_of web.now.texts table.now (pieces_at web.now.pieces numbers.now)) n) }
+        (λ body. HoldsShape table.now.names
+        (shape_of web.now.texts table.now (pieces_at web.now.pieces numbers.now)) body) }
     ensures uses { IfOk result
-        (λ n. node_uses n ≡ pieces_names table.now (pieces_at web.now.pieces numbers.now)) }
+        (λ body. body_uses body
+        ≡ pieces_uses table.now (pieces_at web.now.pieces numbers.now)) }
     ensures plan_uses { IfOk result
-        (λ n. plan_uses n ≡ filter (λ id. slice_index_or has_piece.now id false)
-        (pieces_names table.now (pieces_at web.now.pieces numbers.now))) }
+        (λ body. plan_uses body ≡ filter (λ id. slice_index_or has_piece.now id false)
+        (pieces_uses table.now (pieces_at web.now.pieces numbers.now))) }
 {
     let tags = tag_count(web.pieces(), numbers);
     planning.begin(alloc, name, tags)?;
     add_pieces(planning, web, table, has_piece, numbers)?;
-    let node = planning.finish(alloc)?;
-    Ok(node)
+    let body = planning.finish(alloc)?;
+    Ok(body)
 }

@@ -2,7 +2,7 @@
 ghost use Rattle.std.specs.Prelude.{◌≡◌, ◌<◌, ◌↔◌, true, false, length};
 ghost use Rattle.std.specs.List.{All};
 ghost use Rattle.tangle_plans.specs.Shapes.{Shape};
-ghost use Rattle.tangle_plans.specs.NodeBodies.{node_tags, node_bytes, node_uses, texts_at};
+ghost use Rattle.tangle_plans.specs.NodeBodies.{body_tags, body_bytes, body_uses, names_at};
 ghost use Rattle.tangle_plans.specs.NodeBodies.{HoldsShape};
 
 use crate::nodes::{NodeBody, PiecesByNode};
@@ -18,8 +18,8 @@ fn same_names<S: PiecesByNode>(
     requires inside { All (λ id. id < length (S.names store.now)) uses.now }
     requires other_inside { All (λ id. id < length (S.names other_store.now)) other_uses.now }
     ensures { (result ≡ true)
-        ↔ (texts_at (S.names store.now) uses.now
-        ≡ texts_at (S.names other_store.now) other_uses.now) }
+        ↔ (names_at (S.names store.now) uses.now
+        ≡ names_at (S.names other_store.now) other_uses.now) }
 {
     if uses.len() != other_uses.len() {
         return false;
@@ -34,37 +34,37 @@ fn same_names<S: PiecesByNode>(
     true
 }
 
-/// Whether the items of two nodes are of the same kinds and have the same texts.
-fn same_items(node: &NodeBody, other: &NodeBody) -> bool
-    ensures some { result ≡ true → (node_tags node.now ≡ node_tags other.now)
-        × (node_bytes node.now ≡ node_bytes other.now) }
-    ensures none { result ≡ false → node_tags node.now ≡ node_tags other.now → node_bytes node.now
-        ≡ node_bytes other.now → ⊥ }
+/// Whether the items of two nodes are of the same kinds and have the same bytes.
+fn same_items(body: &NodeBody, other: &NodeBody) -> bool
+    ensures some { result ≡ true → (body_tags body.now ≡ body_tags other.now)
+        × (body_bytes body.now ≡ body_bytes other.now) }
+    ensures none { result ≡ false → body_tags body.now ≡ body_tags other.now → body_bytes body.now
+        ≡ body_bytes other.now → ⊥ }
 {
-    if !same_tags(&node.tags, &other.tags) {
+    if !same_tags(&body.tags, &other.tags) {
         return false;
     }
-    node.text == other.text
+    body.bytes == other.bytes
 }
 
 /// Whether two nodes, of the same store or of two, have the same shape: the same pieces, items of
-/// the same kinds and texts, and uses of the same names. Section numbers and origins are no part of
+/// the same kinds and bytes, and uses of the same names. Section numbers and origins are no part of
 /// a shape, but where the marks are is.
 pub fn same_shape<S: PiecesByNode>(
     store: &S,
-    node: &NodeBody,
+    body: &NodeBody,
     other_store: &S,
     other: &NodeBody,
 ) -> bool
-    requires inside { All (λ id. id < length (S.names store.now)) (node_uses node.now) }
+    requires inside { All (λ id. id < length (S.names store.now)) (body_uses body.now) }
     requires other_inside { All (λ id. id < length (S.names other_store.now))
-        (node_uses other.now) }
-    ensures { (shape other_shape : Shape) → HoldsShape (S.names store.now) shape node.now
+        (body_uses other.now) }
+    ensures { (shape other_shape : Shape) → HoldsShape (S.names store.now) shape body.now
         → HoldsShape (S.names other_store.now) other_shape other.now
         → ((result ≡ true) ↔ (shape ≡ other_shape)) }
 {
-    if !same_items(node, other) {
+    if !same_items(body, other) {
         return false;
     }
-    same_names(store, &node.uses, other_store, &other.uses)
+    same_names(store, &body.uses, other_store, &other.uses)
 }

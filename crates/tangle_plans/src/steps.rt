@@ -1,19 +1,19 @@
-//! How many pieces, marks and bytes of a plan are behind a step.
+//! How many pieces, marks and bytes of a plan are after a step.
 ghost use Rattle.std.specs.Prelude.{◌≡◌, ◌+◌, ◌^◌, ◌<◌};
-ghost use Rattle.tangle_plans.specs.Meaning.{pieces_passed, marks_passed, bytes_passed};
+ghost use Rattle.tangle_plans.specs.Meaning.{pieces_after_step, marks_after_step, bytes_after_step};
 
 /// A step of a plan.
 #[derive(Clone, Copy, Debug, PartialEq, Eq)]
 pub enum Step {
     /// A piece begins, with its opening and its opening mark.
     Open,
-    /// The bytes of the text up to this position.
+    /// The bytes of the body up to this position.
     Run(usize),
     /// A line mark.
     Mark,
     /// All macros.
     AllMacros,
-    /// A use without a text: a space.
+    /// A use that is not resolved, or of a name without a piece: a space.
     Space,
     /// A use of the name with this number, which has a piece: a space and the name's symbols.
     Use(usize),
@@ -21,10 +21,10 @@ pub enum Step {
     Close,
 }
 
-/// How many pieces have ended behind a step, with so many before it.
-pub fn pieces_behind(piece: usize, step: Step) -> usize
+/// How many pieces have ended after a step, with so many before it.
+pub fn pieces_after_step(piece: usize, step: Step) -> usize
     requires { piece + 1 < 2 ^ 64 }
-    ensures { result ≡ pieces_passed piece step }
+    ensures { result ≡ pieces_after_step piece step }
 {
     match step {
         Step::Close => piece + 1,
@@ -33,11 +33,11 @@ pub fn pieces_behind(piece: usize, step: Step) -> usize
     }
 }
 
-/// How many marks of its piece are behind a step, with so many before it. The opening mark is none
+/// How many marks of its piece are after a step, with so many before it. The opening mark is none
 /// of them.
-pub fn marks_behind(marks: usize, step: Step) -> usize
+pub fn marks_after_step(marks: usize, step: Step) -> usize
     requires { marks + 1 < 2 ^ 64 }
-    ensures { result ≡ marks_passed marks step }
+    ensures { result ≡ marks_after_step marks step }
 {
     match step {
         Step::Open | Step::Close => 0,
@@ -46,9 +46,9 @@ pub fn marks_behind(marks: usize, step: Step) -> usize
     }
 }
 
-/// How many bytes of the text are behind a step, with so many before it.
-pub fn bytes_behind(start: usize, step: Step) -> usize
-    ensures { result ≡ bytes_passed start step }
+/// How many bytes of the body are after a step, with so many before it.
+pub fn bytes_after_step(start: usize, step: Step) -> usize
+    ensures { result ≡ bytes_after_step start step }
 {
     match step {
         Step::Run(end) => end,

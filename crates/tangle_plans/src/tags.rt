@@ -3,7 +3,7 @@
 ghost use Rattle.std.specs.Prelude.{◌≡◌, ◌↔◌, true, ◌++◌, ◌-◌, ◌<◌, ◌≤◌, length, OnOk, decimal};
 ghost use Rattle.std.specs.List.{All};
 ghost use Rattle.tangle_scan.specs.WellFormed.{IsUseBelow};
-ghost use Rattle.tangle_plans.specs.ItemTags.{use_tag as tag_of_use, tag_in, names_resolved};
+ghost use Rattle.tangle_plans.specs.ItemTags.{use_tag as tag_of_use, tag_in, uses_resolved};
 ghost use Rattle.tangle_plans.specs.Tags.{blank_tag, piece_end};
 
 use itoa::Buffer;
@@ -29,15 +29,16 @@ pub(crate) enum ItemKind {
     PieceEnd,
 }
 
-/// An item in four bytes: its kind, and how many bytes its text has.
+/// An item in four bytes: its kind, and how many bytes it has.
 #[derive(Clone, Copy, Debug, PartialEq, Eq)]
 pub(crate) struct ItemTag {
     kind: ItemKind,
     size: u16,
 }
 
-/// The tag of an item whose text is a range of the source.
-pub(crate) fn text_tag(kind: ItemKind, span: Span) -> ItemTag
+/// The tag of an item whose bytes are a span of the source.
+// For a span that is not known to be in range: the size is 0 if it ends before it starts.
+pub(crate) fn span_tag(kind: ItemKind, span: Span) -> ItemTag
     ensures { result ≡ record { kind = kind; size = span.end - span.start } }
 {
     ItemTag {
@@ -46,7 +47,7 @@ pub(crate) fn text_tag(kind: ItemKind, span: Span) -> ItemTag
     }
 }
 
-/// The same tag, where the range does not end before it starts.
+/// The same tag, where the span does not end before it starts.
 pub(crate) fn tag_of_span(kind: ItemKind, span: Span) -> ItemTag
     requires { span.start ≤ span.end }
     ensures { result ≡ record { kind = kind; size = span.end - span.start } }
@@ -57,7 +58,7 @@ pub(crate) fn tag_of_span(kind: ItemKind, span: Span) -> ItemTag
     }
 }
 
-/// The tag of an item whose text has so many bytes.
+/// The tag of an item that has so many bytes.
 fn fixed_tag(kind: ItemKind, size: u16) -> ItemTag
     ensures { result ≡ record { kind = kind; size = size } }
 {
@@ -88,10 +89,10 @@ pub(crate) fn tag_of(item: &Item, table: &NameTable) -> ItemTag
     ensures { result ≡ tag_in table.now item.now }
 {
     match item {
-        Item::Word(span) => text_tag(ItemKind::Word, *span),
-        Item::Sign(span) => text_tag(ItemKind::Sign, *span),
-        Item::Quoted(span) => text_tag(ItemKind::Quoted, *span),
-        Item::Verbatim(span) => text_tag(ItemKind::Verbatim, *span),
+        Item::Word(span) => span_tag(ItemKind::Word, *span),
+        Item::Sign(span) => span_tag(ItemKind::Sign, *span),
+        Item::Quoted(span) => span_tag(ItemKind::Quoted, *span),
+        Item::Verbatim(span) => span_tag(ItemKind::Verbatim, *span),
         Item::QuoteBreak => fixed_tag(ItemKind::QuoteBreak, 1),
         Item::Code(value) => fixed_tag(ItemKind::AsciiConstant, digit_count(*value)),
         Item::Blank => fixed_tag(ItemKind::Blank, 1),
@@ -102,15 +103,15 @@ pub(crate) fn tag_of(item: &Item, table: &NameTable) -> ItemTag
     }
 }
 
-/// The tag of white space.
-pub(crate) fn tag_of_blank() -> ItemTag
+/// The tag of a blank.
+pub(crate) fn blank_tag() -> ItemTag
     ensures { result ≡ blank_tag }
 {
     fixed_tag(ItemKind::Blank, 1)
 }
 
 /// The tag of the end of a piece.
-pub(crate) fn end_of_piece() -> ItemTag
+pub(crate) fn piece_end() -> ItemTag
     ensures { result ≡ piece_end }
 {
     fixed_tag(ItemKind::PieceEnd, 0)
@@ -151,7 +152,7 @@ pub(crate) fn same_tags(tags: &[ItemTag], others: &[ItemTag]) -> bool
 
 /// Adds the number of the name that is resolved to, if there is one.
 pub(crate) fn add_name(names: &mut Vec<usize>, resolved: Resolved) -> Result<(), NoMemory>
-    ensures { OnOk result (names.new.items ≡ names.old.items ++ names_resolved resolved) }
+    ensures { OnOk result (names.new.items ≡ names.old.items ++ uses_resolved resolved) }
 {
     if let Resolved::Name(id) = resolved {
         names.push(id)?;

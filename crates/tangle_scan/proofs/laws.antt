@@ -1,7 +1,7 @@
 pub mod BlockFlows
 pub mod ItemSpans
 pub mod LineTruthLemmas
-pub mod NameRange
+pub mod OccurrenceRange
 pub mod PieceBytes
 pub mod SpanOrder
 pub mod WebLaws

@@ -1,9 +1,9 @@
 pub mod TextLemmas
 pub mod Gaps
 pub mod GatheringLemmas
-pub mod LayingLemmas
 pub mod PartLemmas
-pub mod RareLemmas
+pub mod PlainPartLemmas
+pub mod RarePartLemmas
 pub mod RuleLemmas
 pub mod ScanLemmas
 pub mod SpacingLemmas

@@ -1,2 +1,2 @@
-pub mod LineTruthRows
-pub mod Rows
+pub mod WorkedLocations
+pub mod WorkedWebs

@@ -1,13 +1,13 @@
--- What is gathered of a web, part by part.
+-- What is gathered of a web, block by block.
 use Rattle.std.specs.Prelude.{ℕ, Bool, false, ◌||◌, List, [], ◌∷◌, ◌++◌, flat_map, map}
 use Rattle.std.specs.List.{list_any}
 use Rattle.tangle_faults.specs.Faults.{FaultRead}
 use Rattle.tangle_files.specs.Lines.{FileTable}
-use Rattle.tangle_lines.specs.Reading.{Line, SourceRead}
+use Rattle.tangle_lines.specs.Reading.{SourceLine, SourceRead}
 use Rattle.tangle_scan.specs.declared.items.Item.{Item}
 use Rattle.tangle_lexer.specs.declared.tokens.Token.{Token}
 use Rattle.tangle_lexer.specs.declared.tokens.Token.TheVariants as token
-use Rattle.tangle_scan.specs.Web.{PieceRead, WebRead, texts_of, blocks, block_at, section_behind, section_count, piece_of, macro_of, has_all_macros, scan_faults, faults_at, fault_on}
+use Rattle.tangle_scan.specs.Web.{PieceRead, WebRead, texts_of, blocks, block_at, section_after, section_count, piece_of, macro_of, block_has_all_macros, scan_faults, faults_at, fault_on}
 use Rattle.tangle_lexer.specs.Occurrences.{OccurrenceRead}
 
 -- what was gathered so far
@@ -15,11 +15,11 @@ pub record GatheringRead : Type 0 where
   pub sections : ℕ
   pub pieces : List PieceRead
   pub macros : List (List Item)
-  pub has_defs_code : Bool
+  pub has_all_macros : Bool
   pub faults : List FaultRead
 
 abbrev pub nothing : GatheringRead
-nothing = record { sections = 0; pieces = []; macros = []; has_defs_code = false; faults = [] }
+nothing = record { sections = 0; pieces = []; macros = []; has_all_macros = false; faults = [] }
 
 -- the same with what these tokens add
 unfoldable pub gathering_with : SourceRead → GatheringRead → List Token → GatheringRead
@@ -27,22 +27,22 @@ gathering_with source before tokens = record {
   sections = section_count before.sections tokens;
   pieces = before.pieces ++ flat_map (piece_of source.lines) (blocks before.sections tokens);
   macros = before.macros ++ flat_map (macro_of source.lines) (blocks before.sections tokens);
-  has_defs_code = before.has_defs_code || list_any has_all_macros (blocks before.sections tokens);
+  has_all_macros = before.has_all_macros || list_any block_has_all_macros (blocks before.sections tokens);
   faults = before.faults ++ scan_faults source.files source.lines tokens;
 }
 
 -- the fault that a token is by itself
-abbrev pub own_fault : FileTable → List Line → Token → List FaultRead
+abbrev pub own_fault : FileTable → List SourceLine → Token → List FaultRead
 own_fault files lines (token.Fault kind line) = fault_on files lines kind line ∷ []
 own_fault files lines _ = []
 
 -- the same with a head before these tokens, but not yet with theirs
 abbrev pub with_head : SourceRead → GatheringRead → Token → List Token → GatheringRead
 with_head source before head tokens = record {
-  sections = section_behind before.sections head;
+  sections = section_after before.sections head;
   pieces = before.pieces ++ flat_map (piece_of source.lines) (block_at before.sections head tokens);
   macros = before.macros ++ flat_map (macro_of source.lines) (block_at before.sections head tokens);
-  has_defs_code = before.has_defs_code || list_any has_all_macros (block_at before.sections head tokens);
+  has_all_macros = before.has_all_macros || list_any block_has_all_macros (block_at before.sections head tokens);
   faults = before.faults ++ faults_at source.files source.lines head tokens;
 }
 
@@ -55,6 +55,6 @@ web_from source gathering occurrences = record {
   pieces = gathering.pieces;
   macros = gathering.macros;
   occurrences = occurrences;
-  has_defs_code = gathering.has_defs_code;
+  has_all_macros = gathering.has_all_macros;
   faults = gathering.faults;
 }

@@ -1,13 +1,13 @@
 -- From the tokens of a C part or a macro to its items: five rules, each applied to the whole list in turn.
 use Rattle.std.specs.Prelude.{ℕ, ◌+◌, Bool, true, false, ◌==◌, nat_le, ◌&&◌, ◌||◌, not, ◌-◌, List, [], ◌∷◌, ◌++◌, length, take, drop, get_or, if◌then◌else◌}
 use Rattle.tangle_faults.specs.declared.faults.Origin.{Origin}
-use Rattle.tangle_lines.specs.Reading.{Line, origin_at}
+use Rattle.tangle_lines.specs.Reading.{SourceLine, origin_at}
 use Rattle.tangle_text.specs.declared.spans.Span.{Span}
 use Rattle.tangle_scan.specs.declared.items.Item.{Item}
 use Rattle.tangle_scan.specs.declared.items.Item.TheVariants as item
 use Rattle.tangle_lexer.specs.declared.tokens.Token.{Token}
-use Rattle.tangle_lexer.specs.declared.tokens.TextKind.{TextKind}
-use Rattle.tangle_lexer.specs.declared.tokens.TextKind.TheVariants as text_kind
+use Rattle.tangle_lexer.specs.declared.tokens.SpanKind.{SpanKind}
+use Rattle.tangle_lexer.specs.declared.tokens.SpanKind.TheVariants as span_kind
 use Rattle.tangle_lexer.specs.declared.tokens.Token.TheVariants as token
 use Rattle.tangle_text.specs.Bytes.{left_parenthesis, is_digit}
 
@@ -34,7 +34,7 @@ is_constant (token.AsciiConstant value line) = true
 is_constant _ = false
 
 abbrev pub is_word_token : Token → Bool
-is_word_token (token.Text text_kind.Word s) = true
+is_word_token (token.Span span_kind.Word s) = true
 is_word_token _ = false
 
 abbrev pub would_merge : Token → Token → Bool
@@ -45,25 +45,25 @@ with_spaces [] = []
 with_spaces (e ∷ []) = e ∷ []
 with_spaces (e ∷ f ∷ es) = e ∷ (if would_merge e f then token.White ∷ [] else []) ++ with_spaces (f ∷ es)
 
--- In a macro it is also put behind the name, which is the first item, unless ( or white space, a line end or a join follows.
+-- In a macro it is also put after the name, which is the first item, unless ( or white space, a line end or a join follows.
 
 abbrev pub may_follow_name : List (List ℕ) → Token → Bool
 may_follow_name texts token.White = true
 may_follow_name texts (token.LineEnd line) = true
 may_follow_name texts token.Join = true
-may_follow_name texts (token.Text text_kind.Sign s) = first_byte texts s == left_parenthesis
+may_follow_name texts (token.Span span_kind.Sign s) = first_byte texts s == left_parenthesis
 may_follow_name texts _ = false
 
-abbrev pub with_space_behind : List (List ℕ) → Token → List Token → List Token
-with_space_behind texts first [] = first ∷ []
-with_space_behind texts first (e ∷ es) = first ∷ (if may_follow_name texts e then [] else token.White ∷ []) ++ e ∷ es
+abbrev pub with_space_after : List (List ℕ) → Token → List Token → List Token
+with_space_after texts first [] = first ∷ []
+with_space_after texts first (e ∷ es) = first ∷ (if may_follow_name texts e then [] else token.White ∷ []) ++ e ∷ es
 
 abbrev pub with_name_space : List (List ℕ) → List Token → List Token
 with_name_space texts [] = []
 with_name_space texts (token.White ∷ es) = token.White ∷ with_name_space texts es
 with_name_space texts (token.LineEnd line ∷ es) = token.LineEnd line ∷ with_name_space texts es
 with_name_space texts (token.Join ∷ es) = token.Join ∷ with_name_space texts es
-with_name_space texts (e ∷ es) = with_space_behind texts e es
+with_name_space texts (e ∷ es) = with_space_after texts e es
 
 -- Rule 2: each run of joins, white space and line ends that has a join is removed.
 
@@ -94,7 +94,7 @@ without_joins run (token.LineEnd line ∷ es) = without_joins (run ++ token.Line
 without_joins run (e ∷ es) = left_of_run run ++ e ∷ without_joins [] es
 
 -- Rule 3: of a run of white space between two items with no line end in it one White is left, which is a blank; other white space is
--- dropped. The flags say whether an item is before with no line end behind it, and whether white space is directly before.
+-- dropped. The flags say whether an item is before with no line end after it, and whether white space is directly before.
 
 abbrev pub blanks : Bool → Bool → List Token → List Token
 blanks item white [] = []
@@ -103,7 +103,7 @@ blanks item white (token.LineEnd line ∷ es) = token.LineEnd line ∷ blanks fa
 blanks item white (e ∷ es) = (if item && white then token.White ∷ [] else []) ++ e ∷ blanks true false es
 
 -- Rules 4 and 5: the origin that the compiler counts. A line end goes on by one line; it is a mark instead where the next source line has
--- another origin. A mark is behind each use and each @h too, for the line on which it ends.
+-- another origin. A mark is after each use and each @h too, for the line on which it ends.
 
 abbrev pub next_line : Origin → Origin
 next_line p = record { file = p.file; line = p.line + 1 }
@@ -111,48 +111,48 @@ next_line p = record { file = p.file; line = p.line + 1 }
 abbrev pub same_origin : Origin → Origin → Bool
 same_origin p q = p.file == q.file && p.line == q.line
 
--- behind this line, with this count, no mark is needed: it is the last one, or the next one has the origin that is counted
-abbrev pub goes_on : List Line → Origin → ℕ → Bool
-goes_on lines count line =
-    nat_le (length lines) (line + 1) || same_origin (origin_at lines (line + 1)) (next_line count)
+-- after this line, with this counted origin, no mark is needed: it is the last line, or the next one has the origin that is counted
+abbrev pub goes_on : List SourceLine → Origin → ℕ → Bool
+goes_on lines counted line =
+    nat_le (length lines) (line + 1) || same_origin (origin_at lines (line + 1)) (next_line counted)
 
-abbrev pub count_behind : List Line → Origin → ℕ → Origin
-count_behind lines count line =
-    if goes_on lines count line then next_line count else origin_at lines (line + 1)
+abbrev pub counted_after_line_end : List SourceLine → Origin → ℕ → Origin
+counted_after_line_end lines counted line =
+    if goes_on lines counted line then next_line counted else origin_at lines (line + 1)
 
-abbrev pub line_item : List Line → Origin → ℕ → Item
-line_item lines count line =
-    if goes_on lines count line then item.LineEnd else item.LineMark (origin_at lines (line + 1))
+abbrev pub line_item : List SourceLine → Origin → ℕ → Item
+line_item lines counted line =
+    if goes_on lines counted line then item.LineEnd else item.LineMark (origin_at lines (line + 1))
 
--- the item that a text of a kind is
-abbrev pub text_item : TextKind → Span → Item
-text_item text_kind.Word s = item.Word s
-text_item text_kind.Sign s = item.Sign s
-text_item text_kind.Quoted s = item.Quoted s
-text_item text_kind.Verbatim s = item.Verbatim s
+-- the item that a span of a kind is
+abbrev pub span_item : SpanKind → Span → Item
+span_item span_kind.Word s = item.Word s
+span_item span_kind.Sign s = item.Sign s
+span_item span_kind.Quoted s = item.Quoted s
+span_item span_kind.Verbatim s = item.Verbatim s
 
--- the items of a C part, with the count before them
-abbrev pub items_by_origin : List Line → Origin → List Token → List Item
-items_by_origin lines count [] = []
-items_by_origin lines count (token.LineEnd line ∷ es) =
-    line_item lines count line ∷ items_by_origin lines (count_behind lines count line) es
-items_by_origin lines count (token.QuoteBreak ∷ es) = item.QuoteBreak ∷ items_by_origin lines (next_line count) es
-items_by_origin lines count (token.Text kind s ∷ es) = text_item kind s ∷ items_by_origin lines count es
-items_by_origin lines count (token.AsciiConstant value line ∷ es) = item.Code value ∷ items_by_origin lines count es
-items_by_origin lines count (token.White ∷ es) = item.Blank ∷ items_by_origin lines count es
-items_by_origin lines count (token.UseOf name line ∷ es) =
-    item.UseOf name ∷ item.LineMark (origin_at lines line) ∷ items_by_origin lines (origin_at lines line) es
-items_by_origin lines count (token.AllMacros line ∷ es) =
+-- the items of a C part, by the counted origin before them
+abbrev pub items_by_origin : List SourceLine → Origin → List Token → List Item
+items_by_origin lines counted [] = []
+items_by_origin lines counted (token.LineEnd line ∷ es) =
+    line_item lines counted line ∷ items_by_origin lines (counted_after_line_end lines counted line) es
+items_by_origin lines counted (token.QuoteBreak ∷ es) = item.QuoteBreak ∷ items_by_origin lines (next_line counted) es
+items_by_origin lines counted (token.Span kind s ∷ es) = span_item kind s ∷ items_by_origin lines counted es
+items_by_origin lines counted (token.AsciiConstant value line ∷ es) = item.Code value ∷ items_by_origin lines counted es
+items_by_origin lines counted (token.White ∷ es) = item.Blank ∷ items_by_origin lines counted es
+items_by_origin lines counted (token.UseOf occurrence line ∷ es) =
+    item.UseOf occurrence ∷ item.LineMark (origin_at lines line) ∷ items_by_origin lines (origin_at lines line) es
+items_by_origin lines counted (token.AllMacros line ∷ es) =
     item.Defs ∷ item.LineMark (origin_at lines line) ∷ items_by_origin lines (origin_at lines line) es
 -- heads, joins and faults are no items
-items_by_origin lines count (_ ∷ es) = items_by_origin lines count es
+items_by_origin lines counted (_ ∷ es) = items_by_origin lines counted es
 
 -- the items of a C part whose head ends on this line
-abbrev pub part_items : List Line → ℕ → List Token → List Item
+abbrev pub part_items : List SourceLine → ℕ → List Token → List Item
 part_items lines line tokens =
     items_by_origin lines (origin_at lines line) (blanks false false (without_joins [] (with_spaces (without_faults tokens))))
 
--- Macros have no marks, and white space and line ends behind @d are skipped.
+-- Macros have no marks, and white space and line ends after @d are skipped.
 
 abbrev pub without_front_gaps : List Token → List Token
 without_front_gaps [] = []
@@ -164,7 +164,7 @@ abbrev pub unmarked_items : List Token → List Item
 unmarked_items [] = []
 unmarked_items (token.LineEnd line ∷ es) = item.LineEnd ∷ unmarked_items es
 unmarked_items (token.QuoteBreak ∷ es) = item.QuoteBreak ∷ unmarked_items es
-unmarked_items (token.Text kind s ∷ es) = text_item kind s ∷ unmarked_items es
+unmarked_items (token.Span kind s ∷ es) = span_item kind s ∷ unmarked_items es
 unmarked_items (token.AsciiConstant value line ∷ es) = item.Code value ∷ unmarked_items es
 unmarked_items (token.White ∷ es) = item.Blank ∷ unmarked_items es
 -- uses and @h are not in macros; heads, joins and faults are no items

@@ -12,7 +12,7 @@ pub record IsSpan (texts : List (List ℕ)) (s : Span) : Type 0 where
   pub start : s.start ≤ s.end
   pub end : s.end ≤ length (get_or texts s.line [])
 
--- so is that of an item which has one
+-- the span of an item, if it has one, is a range of a source line
 abbrev pub IsInRange : List (List ℕ) → Item → Type 0
 IsInRange texts (item.Word s) = IsSpan texts s
 IsInRange texts (item.Sign s) = IsSpan texts s
@@ -38,7 +38,7 @@ item_spans (_ ∷ items) = item_spans items
 abbrev pub IsBefore : Span → Span → Type 0
 IsBefore s t = (s.line ≤ t.line) × (s.line ≡ t.line → s.end ≤ t.start)
 
--- Of the spans of all pieces, one piece after another, each is before all later ones; so do those of all macros.
+-- Of the spans of all pieces, one piece after another, each is before all later ones; so are those of all macros.
 pub record SpansAreInOrder (web : WebRead) : Type 0 where
   pub pieces : AllPairs IsBefore (flat_map (λ p. item_spans p.items) web.pieces)
   pub macros : AllPairs IsBefore (flat_map item_spans web.macros)

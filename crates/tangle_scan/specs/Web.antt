@@ -5,13 +5,13 @@ use Rattle.tangle_faults.specs.declared.faults.Origin.{Origin}
 use Rattle.tangle_faults.specs.declared.faults.FaultKind.{FaultKind}
 use Rattle.tangle_faults.specs.declared.faults.FaultKind.TheVariants as fault
 use Rattle.tangle_faults.specs.Faults.{FaultRead, fault_at}
-use Rattle.tangle_lines.specs.Reading.{Line, SourceRead, named, origin_at}
+use Rattle.tangle_lines.specs.Reading.{SourceLine, SourceRead, place_of, origin_at}
 use Rattle.tangle_files.specs.Lines.{FileTable}
 use Rattle.tangle_scan.specs.declared.items.Item.{Item}
 use Rattle.tangle_scan.specs.declared.items.Item.TheVariants as item
 use Rattle.tangle_lexer.specs.declared.tokens.Token.{Token}
 use Rattle.tangle_lexer.specs.declared.tokens.Token.TheVariants as token
-use Rattle.tangle_lexer.specs.Lexemes.{ReadOccurrence}
+use Rattle.tangle_lexer.specs.Lexemes.{OccurrenceOnLine}
 use Rattle.tangle_lexer.specs.Heads.{is_head}
 use Rattle.tangle_lexer.specs.Occurrences.{OccurrenceRead, occurrence_of}
 use Rattle.tangle_lexer.specs.Steps.{all_tokens, all_occurrences}
@@ -38,7 +38,7 @@ pub record WebRead : Type 0 where
   pub pieces : List PieceRead
   pub macros : List (List Item)
   pub occurrences : List OccurrenceRead
-  pub has_defs_code : Bool
+  pub has_all_macros : Bool
   pub faults : List FaultRead
 
 -- the C parts and macros
@@ -48,12 +48,12 @@ abbrev pub body : List Token → List Token
 body [] = []
 body (e ∷ es) = if is_head e then [] else e ∷ body es
 
--- a macro, or a C part of this name, whose head ends on this line
+-- a macro, or a C part with this occurrence of its name, whose head ends on this line
 pub data BlockKind : Type 0 where
   OfMacro : ℕ → BlockKind
   OfPiece : Option ℕ → ℕ → BlockKind
 
--- what is behind a head, up to the next one, with the number of its section
+-- what is after a head, up to the next one, with the number of its section
 pub record Block : Type 0 where
   pub section : ℕ
   pub kind : BlockKind
@@ -66,61 +66,61 @@ block_at section (token.UnnamedPart line) es = record { section = section; kind 
 block_at section (token.NamedPart occurrence line) es = record { section = section; kind = OfPiece (Some occurrence) line; tokens = body es } ∷ []
 block_at section _ es = []
 
--- the number of the section behind a token
-abbrev pub section_behind : ℕ → Token → ℕ
-section_behind section token.Section = section + 1
-section_behind section _ = section
+-- the number of the section after a token
+abbrev pub section_after : ℕ → Token → ℕ
+section_after section token.Section = section + 1
+section_after section _ = section
 
 -- the C parts and macros in order, each with the number of its section, from the number of the section before
 abbrev pub blocks : ℕ → List Token → List Block
 blocks section [] = []
-blocks section (e ∷ es) = block_at section e es ++ blocks (section_behind section e) es
+blocks section (e ∷ es) = block_at section e es ++ blocks (section_after section e) es
 
 abbrev pub section_count : ℕ → List Token → ℕ
 section_count section [] = section
-section_count section (e ∷ es) = section_count (section_behind section e) es
+section_count section (e ∷ es) = section_count (section_after section e) es
 
 abbrev pub is_all_macros : Token → Bool
 is_all_macros (token.AllMacros line) = true
 is_all_macros _ = false
 
 -- a C part with @h
-abbrev pub kind_has_macros : BlockKind → List Token → Bool
-kind_has_macros (OfMacro line) tokens = false
-kind_has_macros (OfPiece occurrence line) tokens = list_any is_all_macros tokens
+abbrev pub kind_has_all_macros : BlockKind → List Token → Bool
+kind_has_all_macros (OfMacro line) tokens = false
+kind_has_all_macros (OfPiece occurrence line) tokens = list_any is_all_macros tokens
 
-abbrev pub has_all_macros : Block → Bool
-has_all_macros p = kind_has_macros p.kind p.tokens
+abbrev pub block_has_all_macros : Block → Bool
+block_has_all_macros b = kind_has_all_macros b.kind b.tokens
 
 -- from blocks to pieces and macros
 
-module _ (lines : List Line) where
+module _ (lines : List SourceLine) where
   abbrev pub texts_of : List (List ℕ)
   texts_of = map (λ l. l.bytes) lines
 
   abbrev pub kind_piece : BlockKind → Block → List PieceRead
-  kind_piece (OfMacro line) p = []
-  kind_piece (OfPiece occurrence line) p =
-      record { section = p.section; origin = origin_at lines line; occurrence = occurrence; items = part_items lines line p.tokens } ∷ []
+  kind_piece (OfMacro line) b = []
+  kind_piece (OfPiece occurrence line) b =
+      record { section = b.section; origin = origin_at lines line; occurrence = occurrence; items = part_items lines line b.tokens } ∷ []
 
   -- the piece that a block is
   abbrev pub piece_of : Block → List PieceRead
-  piece_of p = kind_piece p.kind p
+  piece_of b = kind_piece b.kind b
 
   abbrev pub kept_macro : List Item → List (List Item)
   kept_macro items = if is_macro texts_of items then items ∷ [] else []
 
   abbrev pub kind_macro : BlockKind → Block → List (List Item)
-  kind_macro (OfMacro line) p = kept_macro (macro_items texts_of p.tokens)
-  kind_macro (OfPiece occurrence line) p = []
+  kind_macro (OfMacro line) b = kept_macro (macro_items texts_of b.tokens)
+  kind_macro (OfPiece occurrence line) b = []
 
   -- the macro that a block is, unless it is dropped
   abbrev pub macro_of : Block → List (List Item)
-  macro_of p = kind_macro p.kind p
+  macro_of b = kind_macro b.kind b
 
-module _ (files : FileTable) (lines : List Line) where
+module _ (files : FileTable) (lines : List SourceLine) where
   abbrev pub fault_on : FaultKind → ℕ → FaultRead
-  fault_on kind line = fault_at kind (named files (origin_at lines line))
+  fault_on kind line = fault_at kind (place_of files (origin_at lines line))
 
   -- the fault of a macro that is dropped
   abbrev pub macro_fault : ℕ → List Token → List FaultRead
@@ -138,16 +138,16 @@ module _ (files : FileTable) (lines : List Line) where
   scan_faults [] = []
   scan_faults (e ∷ es) = faults_at e es ++ scan_faults es
 
--- the web of a source with these tokens and names
-abbrev pub web_with : SourceRead → List Token → List ReadOccurrence → WebRead
-web_with source tokens names = record {
+-- the web of a source with these tokens and occurrences
+abbrev pub web_with : SourceRead → List Token → List OccurrenceOnLine → WebRead
+web_with source tokens occurrences = record {
   texts = texts_of source.lines;
   file_names = map (λ f. f.0) source.files;
   sections = section_count 0 tokens;
   pieces = flat_map (piece_of source.lines) (blocks 0 tokens);
   macros = flat_map (macro_of source.lines) (blocks 0 tokens);
-  occurrences = map (occurrence_of source.lines) names;
-  has_defs_code = list_any has_all_macros (blocks 0 tokens);
+  occurrences = map (occurrence_of source.lines) occurrences;
+  has_all_macros = list_any block_has_all_macros (blocks 0 tokens);
   faults = scan_faults source.files source.lines tokens;
 }
 

@@ -1,4 +1,4 @@
--- What a web names of itself is there: occurrences by number, and ranges of lines.
+-- The numbers of occurrences and the ranges of lines in a web are in range.
 use Rattle.std.specs.Prelude.{◌<◌, ℕ, length}
 use Rattle.std.specs.List.{All}
 use Rattle.std.specs.Option.{IfSome}
@@ -9,15 +9,15 @@ use Rattle.tangle_scan.specs.SourceOrder.{SpansAreInRange}
 
 -- an item that is no use, or that of one of so many occurrences
 abbrev pub IsUseBelow : ℕ → Item → Type 0
-IsUseBelow count (item.UseOf name) = name < count
+IsUseBelow count (item.UseOf occurrence) = occurrence < count
 IsUseBelow count _ = Unit {0}
 
--- the uses in pieces and the names of pieces are occurrences; macros have no uses
-pub record NamesAreInRange (web : WebRead) : Type 0 where
+-- the occurrences of uses and of pieces are below their count; macros have no uses
+pub record OccurrencesAreInRange (web : WebRead) : Type 0 where
   pub uses : All (λ p. All (IsUseBelow (length web.occurrences)) p.items) web.pieces
-  pub names : All (λ p. IfSome p.occurrence (λ occurrence. occurrence < length web.occurrences)) web.pieces
+  pub definitions : All (λ p. IfSome p.occurrence (λ occurrence. occurrence < length web.occurrences)) web.pieces
   pub macros : All (All (IsUseBelow 0)) web.macros
 
 pub record IsWellFormed (web : WebRead) : Type 0 where
   pub spans : SpansAreInRange web
-  pub names : NamesAreInRange web
+  pub occurrences : OccurrencesAreInRange web

@@ -1,7 +1,6 @@
 //! From the tokens of C parts and macros to the pieces, macros and faults of a web.
 ghost use Rattle.std.specs.Prelude.{◌≡◌, ◌≤◌, ◌<◌, ◌+◌, ◌^◌, ◌++◌, ◌∷◌, ◌||◌, []};
-ghost use Rattle.std.specs.Prelude.{flat_map, if◌then◌else◌, true, false, Option, Some, None, IfOk};
-ghost use Rattle.std.specs.Prelude.{OnOk};
+ghost use Rattle.std.specs.Prelude.{flat_map, if◌then◌else◌, true, false, IfOk, OnOk};
 ghost use Rattle.std.specs.List.{list_any};
 ghost use Rattle.tangle_faults.specs.declared.faults.FaultKind.TheVariants as fault;
 ghost use Rattle.tangle_scan.specs.Passes as passes;
@@ -13,9 +12,9 @@ ghost use Rattle.tangle_scan.specs.Web.{texts_of, is_line_mark};
 ghost use Rattle.tangle_scan.specs.Gathering.{own_fault, nothing, gathering_with, with_head};
 
 use crate::items::Item;
-use crate::laying::{LaidPart, lay_macro, lay_plain_part};
 use crate::pieces::{Macro, Piece};
-use crate::rare_parts::lay_rare_part;
+use crate::plain_parts::{PartFlags, fill_macro, fill_plain_part};
+use crate::rare_parts::fill_rare_part;
 use crate::spacing::{first_byte, has_rare, macro_tokens};
 use std::alloc::Global;
 use std::marker::Model;
@@ -33,8 +32,8 @@ fn has_all_macros(tokens: &[Token], has_rare: bool) -> bool
             .any(|token| matches!(token, Token::AllMacros(_)))
 }
 
-/// Notes a fault on a source line.
-fn note(
+/// Adds a fault on a source line.
+fn add_scan_fault(
     alloc: Global,
     source: &Source,
     faults: &mut Vec<Fault>,
@@ -50,8 +49,8 @@ fn note(
     Ok(())
 }
 
-/// Notes the fault that a token is, if it is one.
-fn note_own(
+/// Adds the fault that a token is, if it is one.
+fn add_own_fault(
     alloc: Global,
     source: &Source,
     faults: &mut Vec<Fault>,
@@ -61,13 +60,13 @@ fn note_own(
         ++ own_fault source.now.files source.now.lines token) }
 {
     if let Token::Fault(kind, line) = token {
-        note(alloc, source, faults, kind, line)?;
+        add_scan_fault(alloc, source, faults, kind, line)?;
     }
     Ok(())
 }
 
-/// Notes the faults among some tokens.
-fn note_faults(
+/// Adds the faults among some tokens.
+fn add_faults(
     alloc: Global,
     source: &Source,
     faults: &mut Vec<Fault>,
@@ -82,45 +81,45 @@ fn note_faults(
         return Ok(());
     }
     for token in tokens {
-        note_own(alloc, source, faults, *token)?;
+        add_own_fault(alloc, source, faults, *token)?;
     }
     Ok(())
 }
 
-/// Lays the items of a C part whose head ends on a line, and answers what is known of it. Most
-/// parts have no rare token. Where one has, what was laid up to the first one is laid again.
-fn lay_part(
+/// Makes the items of a C part whose head ends on a line, and returns what is known of it. Most
+/// parts have no rare token. If one has, the items up to the first such token are made again.
+fn fill_part(
     source: &Source,
     items: &mut Vec<Item>,
     line: u32,
     tokens: &[Token],
-) -> Result<LaidPart, NoMemory>
+) -> Result<PartFlags, NoMemory>
     ensures items { OnOk result (items.new.items
         ≡ rules.part_items source.now.lines line tokens.now) }
-    ensures rare { IfOk result (λ laid. laid.has_rare ≡ list_any passes.is_rare tokens.now) }
-    ensures mark { IfOk result (λ laid. laid.may_have_mark ≡ false →
+    ensures rare { IfOk result (λ flags. flags.has_rare ≡ list_any passes.is_rare tokens.now) }
+    ensures mark { IfOk result (λ flags. flags.may_have_mark ≡ false →
         list_any is_line_mark items.new.items ≡ false) }
 {
-    let laid = lay_plain_part(source, items, line, tokens)?;
-    if !laid.has_rare {
-        return Ok(laid);
+    let flags = fill_plain_part(source, items, line, tokens)?;
+    if !flags.has_rare {
+        return Ok(flags);
     }
-    lay_rare_part(source, items, line, tokens)?;
-    Ok(LaidPart {
+    fill_rare_part(source, items, line, tokens)?;
+    Ok(PartFlags {
         has_rare: true,
         may_have_mark: true,
     })
 }
 
 /// The items of a C part whose head ends on a line, and what is known of it.
-// They are laid where they stay, in room for an item of each token: a part has few more, and what
-// is left of the room is given back.
+// They are made in a vector with capacity for one item a token. A part has few more, and spare
+// capacity is freed.
 fn part_items(
     alloc: Global,
     source: &Source,
     line: u32,
     tokens: &[Token],
-) -> Result<(Vec<Item>, LaidPart), NoMemory>
+) -> Result<(Vec<Item>, PartFlags), NoMemory>
     ensures items { IfOk result (λ r. r.0.items
         ≡ rules.part_items source.now.lines line tokens.now) }
     ensures rare { IfOk result (λ r. r.1.has_rare ≡ list_any passes.is_rare tokens.now) }
@@ -128,21 +127,21 @@ fn part_items(
         list_any is_line_mark r.0.items ≡ false) }
 {
     let mut items = Vec::with_capacity(alloc, tokens.len())?;
-    let laid = lay_part(source, &mut items, line, tokens)?;
+    let flags = fill_part(source, &mut items, line, tokens)?;
     items.shrink_to_fit();
-    Ok((items, laid))
+    Ok((items, flags))
 }
 
-/// The tokens of a macro on their way to its items. Their memory serves every macro.
+/// A buffer for the tokens of a macro, which all macros use in turn.
 #[derive(Drop)]
-pub struct Workspace {
+pub(crate) struct MacroBuffer {
     tokens: Vec<Token>,
 }
 
-impl Workspace {
-    /// No memory yet.
-    pub fn new(alloc: Global) -> Self {
-        Workspace {
+impl MacroBuffer {
+    /// A buffer without memory.
+    pub(crate) fn new(alloc: Global) -> Self {
+        MacroBuffer {
             tokens: Vec::new(alloc),
         }
     }
@@ -161,7 +160,7 @@ impl Workspace {
     {
         let left = macro_tokens(source, &mut self.tokens, tokens, has_rare)?;
         let mut items = Vec::with_capacity(alloc, left.len())?;
-        lay_macro(&mut items, left)?;
+        fill_macro(&mut items, left)?;
         items.shrink_to_fit();
         Ok(items)
     }
@@ -177,14 +176,14 @@ fn is_macro(source: &Source, items: &[Item]) -> bool
     }
 }
 
-/// What is gathered of a web.
+/// What is gathered of a web so far.
 #[derive(Drop)]
-pub struct Gathering {
-    pub sections: usize,
-    pub pieces: Vec<Piece>,
-    pub macros: Vec<Macro>,
-    pub has_defs_code: bool,
-    pub faults: Vec<Fault>,
+pub(crate) struct Gathering {
+    pub(crate) sections: usize,
+    pub(crate) pieces: Vec<Piece>,
+    pub(crate) macros: Vec<Macro>,
+    pub(crate) has_all_macros: bool,
+    pub(crate) faults: Vec<Fault>,
 }
 
 impl Model for Gathering {
@@ -196,27 +195,27 @@ impl Model for Gathering {
       sections = g.sections;
       pieces = g.pieces.items;
       macros = g.macros.items;
-      has_defs_code = g.has_defs_code;
+      has_all_macros = g.has_all_macros;
       faults = g.faults.items;
     } };
 }
 
 impl Gathering {
-    /// Nothing yet.
-    pub fn new(alloc: Global) -> Self
+    /// Of a web of which nothing was gathered yet.
+    pub(crate) fn new(alloc: Global) -> Self
         ensures { result ≡ nothing }
     {
         Gathering {
             sections: 0,
             pieces: Vec::new(alloc),
             macros: Vec::new(alloc),
-            has_defs_code: false,
+            has_all_macros: false,
             faults: Vec::new(alloc),
         }
     }
 
     /// Adds the tokens before the first head.
-    pub fn add_front(
+    pub(crate) fn add_front(
         &mut self,
         alloc: Global,
         source: &Source,
@@ -226,11 +225,11 @@ impl Gathering {
         ensures gathering { OnOk result (self.new ≡ gathering_with source.now self.old tokens.now) }
         ensures sections { OnOk result (self.new.sections ≡ self.old.sections) }
     {
-        note_faults(alloc, source, &mut self.faults, tokens, has_rare(tokens))?;
+        add_faults(alloc, source, &mut self.faults, tokens, has_rare(tokens))?;
         Ok(())
     }
 
-    /// Adds the piece of a C part whose head ends on a line, and answers whether some of its tokens
+    /// Adds the piece of a C part whose head ends on a line, and returns whether some of its tokens
     /// are rare.
     fn add_piece(
         &mut self,
@@ -247,25 +246,31 @@ impl Gathering {
             occurrence = occurrence;
             items = rules.part_items source.now.lines line tokens.now;
           } ∷ [];
-          has_defs_code = self.old.has_defs_code || list_any web.is_all_macros tokens.now;
+          has_all_macros = self.old.has_all_macros || list_any web.is_all_macros tokens.now;
         }) }
         ensures rare { IfOk result (λ rare. rare ≡ list_any passes.is_rare tokens.now) }
     {
-        let (items, laid) = part_items(alloc, source, line, tokens)?;
+        let (items, flags) = part_items(alloc, source, line, tokens)?;
         let origin = source.origin(line as usize);
-        let piece = Piece::new(self.sections, origin, occurrence, items, laid.may_have_mark);
+        let piece = Piece::new(
+            self.sections,
+            origin,
+            occurrence,
+            items,
+            flags.may_have_mark,
+        );
         self.pieces.push(piece)?;
-        self.has_defs_code = self.has_defs_code || has_all_macros(tokens, laid.has_rare);
-        Ok(laid.has_rare)
+        self.has_all_macros = self.has_all_macros || has_all_macros(tokens, flags.has_rare);
+        Ok(flags.has_rare)
     }
 
-    /// Adds a macro, or notes that it does not begin with an identifier, at the line of its `@d`.
-    /// It answers whether some of its tokens are rare.
+    /// Adds a macro, or the fault that it does not begin with an identifier, at the line of its
+    /// `@d`. It returns whether some of its tokens are rare.
     fn add_macro(
         &mut self,
         alloc: Global,
         source: &Source,
-        workspace: &mut Workspace,
+        macro_buffer: &mut MacroBuffer,
         line: u32,
         tokens: &[Token],
     ) -> Result<bool, NoMemory>
@@ -280,26 +285,26 @@ impl Gathering {
         ensures rare { IfOk result (λ rare. rare ≡ list_any passes.is_rare tokens.now) }
     {
         let rare = has_rare(tokens);
-        let items = workspace.macro_items(alloc, source, tokens, rare)?;
+        let items = macro_buffer.macro_items(alloc, source, tokens, rare)?;
         if is_macro(source, &items) {
             self.macros.push(Macro::new(items))?;
             return Ok(rare);
         }
-        note(alloc, source, &mut self.faults, FaultKind::MacroName, line)?;
+        add_scan_fault(alloc, source, &mut self.faults, FaultKind::MacroName, line)?;
         Ok(rare)
     }
 
-    /// Adds what a head and the tokens up to the next head are, but for the faults among these. It
-    /// answers whether some of these tokens are rare.
+    /// Adds the section, the macro or the piece that a head begins, without the faults among its
+    /// tokens. It returns whether some of these tokens are rare.
     fn add_head(
         &mut self,
         alloc: Global,
         source: &Source,
-        workspace: &mut Workspace,
+        macro_buffer: &mut MacroBuffer,
         head: Token,
         tokens: &[Token],
     ) -> Result<bool, NoMemory>
-        requires room { self.old.sections + 1 < 2 ^ 64 }
+        requires limit { self.old.sections + 1 < 2 ^ 64 }
         requires head { is_head head ≡ true }
         requires whole { web.body tokens.now ≡ tokens.now }
         ensures head { OnOk result (self.new ≡ with_head source.now self.old head tokens.now) }
@@ -310,33 +315,33 @@ impl Gathering {
                 self.sections += 1;
                 Ok(has_rare(tokens))
             }
-            Token::MacroStart(line) => self.add_macro(alloc, source, workspace, line, tokens),
+            Token::MacroStart(line) => self.add_macro(alloc, source, macro_buffer, line, tokens),
             Token::UnnamedPart(line) => self.add_piece(alloc, source, None, line, tokens),
-            Token::NamedPart(name, line) => {
-                self.add_piece(alloc, source, Some(name), line, tokens)
+            Token::NamedPart(occurrence, line) => {
+                self.add_piece(alloc, source, Some(occurrence), line, tokens)
             }
             _ => Ok(has_rare(tokens)),
         }
     }
 
-    /// Adds what a head and the tokens up to the next head are.
-    pub fn add_block(
+    /// Adds a block: a head and the tokens up to the next one.
+    pub(crate) fn add_block(
         &mut self,
         alloc: Global,
         source: &Source,
-        workspace: &mut Workspace,
+        macro_buffer: &mut MacroBuffer,
         head: Token,
         tokens: &[Token],
     ) -> Result<(), NoMemory>
-        requires room { self.old.sections + 1 < 2 ^ 64 }
+        requires limit { self.old.sections + 1 < 2 ^ 64 }
         requires head { is_head head ≡ true }
         requires no_head { list_any is_head tokens.now ≡ false }
         ensures gathering { OnOk result
             (self.new ≡ gathering_with source.now self.old (head ∷ tokens.now)) }
         ensures sections { OnOk result (self.new.sections ≤ self.old.sections + 1) }
     {
-        let rare = self.add_head(alloc, source, workspace, head, tokens)?;
-        note_faults(alloc, source, &mut self.faults, tokens, rare)?;
+        let rare = self.add_head(alloc, source, macro_buffer, head, tokens)?;
+        add_faults(alloc, source, &mut self.faults, tokens, rare)?;
         Ok(())
     }
 }

@@ -8,8 +8,8 @@ use tangle_text::Span;
 /// How many numbers the low half of an occurrence's number distinguishes.
 const LOW_NUMBERS: usize = 4_294_967_296;
 
-/// The number of an occurrence, from 0. It is as two halves, so that an item takes 12 bytes and not
-/// 16.
+/// The number of an occurrence, from 0. It is held in two halves, so that an item takes 12 bytes,
+/// not 16.
 #[derive(Clone, Copy, Debug, PartialEq, Eq)]
 pub struct OccurrenceNumber {
     low: u32,
@@ -35,7 +35,7 @@ impl Model for OccurrenceNumber {
 }
 
 impl OccurrenceNumber {
-    /// The number in two halves.
+    /// The occurrence of this number.
     pub(crate) fn new(number: usize) -> Self
         ensures { result ≡ number }
     {
@@ -60,7 +60,7 @@ pub enum Item {
     Word(Span),
     /// One byte of another kind; `@@` is the sign `@`.
     Sign(Span),
-    /// A quoted text, or one of the ranges that it is cut into: behind the first `@` of each `@@`,
+    /// A quoted text, or one of the ranges that it is cut into: after the first `@` of each `@@`,
     /// and at a line end inside it.
     Quoted(Span),
     /// The line end at which a quoted text is cut.

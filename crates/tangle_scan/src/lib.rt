@@ -4,9 +4,9 @@
 mod gathering;
 mod items;
 mod kept_bytes;
-mod laying;
 mod line_truth;
 mod pieces;
+mod plain_parts;
 mod rare_parts;
 mod scanning;
 mod spacing;

@@ -38,7 +38,7 @@ impl Model for Piece {
 }
 
 impl Piece {
-    /// A piece of these items, of which none may be a line mark but where that is said.
+    /// A piece of these items. Without `may_have_mark` none of them is a line mark.
     pub(crate) fn new(
         section: usize,
         origin: Origin,
@@ -85,7 +85,7 @@ impl Piece {
         self.occurrence
     }
 
-    /// Whether some item may be a line mark: where the answer is no, none is.
+    /// Whether some item may be a line mark. If it returns `false`, none is.
     pub fn may_have_mark(&self) -> bool
         ensures { result ≡ false → list_any is_line_mark self.now.items ≡ false }
     {

@@ -1,19 +1,19 @@
 //! The items of a C part that has rare tokens, in one pass. A join takes away the white space and
 //! the line ends around it, and a blank is between a word and an ASCII constant, or two
-//! constants, that touch. Line ends are laid as they come, and a join takes back those of its run.
+//! constants, that touch. Line ends are added as they come, and a join takes back those of its run.
 ghost use Rattle.std.specs.Prelude.{◌≡◌, ◌≤◌, ◌<◌, ◌+◌, ◌^◌, max, if◌then◌else◌, IfOk, OnOk};
 ghost use Rattle.std.specs.Prelude.{List, [], ◌∷◌, ◌++◌, length};
-ghost use Rattle.tangle_lines.specs.Reading.{Line};
+ghost use Rattle.tangle_lines.specs.Reading.{SourceLine};
 ghost use Rattle.tangle_lexer.specs.declared.tokens.Token.{Token};
 ghost use Rattle.tangle_lexer.specs.declared.tokens.Token.TheVariants as token;
 ghost use Rattle.tangle_scan.specs.Rules as rules;
 ghost use Rattle.tangle_scan.specs.Passes as passes;
-ghost use Rattle.tangle_scan.specs.Passes.{whole, highest};
+ghost use Rattle.tangle_scan.specs.Passes.{all_items, highest};
 ghost use Rattle.tangle_scan.specs.declared.items.Item.TheVariants as item;
 
 use crate::items::Item;
-use crate::laying::{Count, count_on, put_item, put_line_end, text_item};
-use tangle_lexer::{TextKind, Token};
+use crate::plain_parts::{CountedOrigin, counted_on, push_item, push_line_end, span_item};
+use tangle_lexer::{SpanKind, Token};
 use tangle_lines::{NoMemory, Source};
 
 /// What is last before a position, faults aside.
@@ -21,34 +21,34 @@ use tangle_lines::{NoMemory, Source};
 enum Last {
     /// Nothing, or a line end.
     Front,
-    /// A join. White space and line ends behind it are dropped.
+    /// A join. White space and line ends after it are dropped.
     Joined,
     /// An item that is no word and no ASCII constant.
     Other,
     Word,
     AsciiConstant,
-    /// White space behind an item.
+    /// White space after an item.
     White,
 }
 
 /// Where a run of joins, white space and line ends begins: how many items are before it, and the
-/// count there.
+/// counted origin there.
 #[derive(Clone, Copy)]
 struct Start {
     items: usize,
-    count: Count,
+    counted: CountedOrigin,
 }
 
-/// How far the items were laid. The start is that of the run which is last, and it is read only
-/// at `Last::Front`.
+/// The state of a C part while its items are made. `start` is that of the last run, and is read
+/// only where `last` is `Front`.
 #[derive(Clone, Copy)]
-struct RareLaying {
+struct RarePartState {
     last: Last,
-    count: Count,
+    counted: CountedOrigin,
     start: Start,
 }
 
-/// An ASCII constant.
+/// Whether a token is an ASCII constant.
 #[inline(always)]
 fn is_constant(token: Token) -> bool
     ensures { result ≡ rules.is_constant token }
@@ -56,12 +56,12 @@ fn is_constant(token: Token) -> bool
     matches!(token, Token::AsciiConstant(..))
 }
 
-/// A word.
+/// Whether a token is a word.
 #[inline(always)]
 fn is_word(token: Token) -> bool
     ensures { result ≡ rules.is_word_token token }
 {
-    matches!(token, Token::Text(TextKind::Word, _))
+    matches!(token, Token::Span(SpanKind::Word, _))
 }
 
 /// Whether a blank is before a token that is an item.
@@ -77,9 +77,9 @@ fn needs_blank(last: Last, token: Token) -> bool
     }
 }
 
-/// Puts a blank before a token that is an item, where one is needed.
+/// Adds a blank before a token that is an item, where one is needed.
 #[inline(always)]
-fn put_needed_blank(items: &mut Vec<Item>, last: Last, token: Token) -> Result<(), NoMemory>
+fn push_needed_blank(items: &mut Vec<Item>, last: Last, token: Token) -> Result<(), NoMemory>
     ensures { OnOk result (items.new.items
         ≡ items.old.items ++ (if passes.needs_blank last token then item.Blank ∷ [] else [])) }
 {
@@ -89,10 +89,10 @@ fn put_needed_blank(items: &mut Vec<Item>, last: Last, token: Token) -> Result<(
     Ok(())
 }
 
-/// What is last behind white space.
+/// What is last after white space.
 #[inline(always)]
-fn behind_white(last: Last) -> Last
-    ensures { result ≡ passes.behind_white last }
+fn last_after_white(last: Last) -> Last
+    ensures { result ≡ passes.last_after_white last }
 {
     match last {
         Last::Front => Last::Front,
@@ -101,113 +101,118 @@ fn behind_white(last: Last) -> Last
     }
 }
 
-/// What is last behind a token that is an item.
+/// What is last after a token that is an item.
 #[inline(always)]
 fn last_of(token: Token) -> Last
     ensures { result ≡ passes.last_of token }
 {
     match token {
-        Token::Text(TextKind::Word, _) => Last::Word,
+        Token::Span(SpanKind::Word, _) => Last::Word,
         Token::AsciiConstant(..) => Last::AsciiConstant,
         _ => Last::Other,
     }
 }
 
-/// Items were laid up to a position with this last before it, with this count and start.
+/// The state after items that end with these.
 #[inline(always)]
-fn laid_to(last: Last, count: Count, start: Start) -> RareLaying
-    ensures { result ≡ record { last = last; count = count; start = start } }
+fn rare_state(last: Last, counted: CountedOrigin, start: Start) -> RarePartState
+    ensures { result ≡ record { last = last; counted = counted; start = start } }
 {
-    RareLaying { last, count, start }
+    RarePartState {
+        last,
+        counted,
+        start,
+    }
 }
 
-/// Lays a line end. A run that has none yet begins where the items end.
+/// Adds a line end. A run that has none yet begins where the items end.
 #[inline(always)]
-fn lay_line_end(
+fn add_line_end(
     source: &Source,
     items: &mut Vec<Item>,
-    at: RareLaying,
+    at: RarePartState,
     line: u32,
-) -> Result<RareLaying, NoMemory>
-    requires line { at.count.line < 2 ^ 63 }
+) -> Result<RarePartState, NoMemory>
+    requires line { at.counted.line < 2 ^ 63 }
     requires start { at.start.items ≤ length items.old.items }
-    ensures laid { IfOk result (λ next. (es : List Token) →
-        whole source.now.lines items.new.items next es
-        ≡ whole source.now.lines items.old.items at (token.LineEnd line ∷ es)) }
-    ensures room { IfOk result (λ next. highest next ≤ max (2 ^ 32) (highest at + 1)) }
+    ensures items { IfOk result (λ next. (rest : List Token) →
+        all_items source.now.lines items.new.items next rest
+        ≡ all_items source.now.lines items.old.items at (token.LineEnd line ∷ rest)) }
+    ensures limit { IfOk result (λ next. highest next ≤ max (2 ^ 32) (highest at + 1)) }
     ensures start { IfOk result (λ next. next.start.items ≤ length items.new.items) }
 {
     match at.last {
-        Last::Joined => Ok(laid_to(Last::Joined, at.count, at.start)),
+        Last::Joined => Ok(rare_state(Last::Joined, at.counted, at.start)),
         Last::Front => {
-            let count = put_line_end(source, items, at.count, line)?;
-            Ok(laid_to(Last::Front, count, at.start))
+            let counted = push_line_end(source, items, at.counted, line)?;
+            Ok(rare_state(Last::Front, counted, at.start))
         }
         _ => {
             let start = Start {
                 items: items.len(),
-                count: at.count,
+                counted: at.counted,
             };
-            let count = put_line_end(source, items, at.count, line)?;
-            Ok(laid_to(Last::Front, count, start))
+            let counted = push_line_end(source, items, at.counted, line)?;
+            Ok(rare_state(Last::Front, counted, start))
         }
     }
 }
 
-/// Lays a join: it takes back the line ends of its run.
-fn lay_join(items: &mut Vec<Item>, at: RareLaying) -> RareLaying
+/// Applies a join: it takes back the line ends of its run.
+fn apply_join(items: &mut Vec<Item>, at: RarePartState) -> RarePartState
     requires { at.start.items ≤ length items.old.items }
-    ensures laid { (lines : List Line) (es : List Token) →
-        whole lines items.new.items result es ≡ whole lines items.old.items at (token.Join ∷ es) }
-    ensures room { highest result ≤ highest at }
+    ensures items { (lines : List SourceLine) (rest : List Token) →
+        all_items lines items.new.items result rest
+        ≡ all_items lines items.old.items at (token.Join ∷ rest) }
+    ensures limit { highest result ≤ highest at }
     ensures start { result.start.items ≤ length items.new.items }
 {
     match at.last {
         Last::Front => {
             items.truncate(at.start.items);
-            laid_to(Last::Joined, at.start.count, at.start)
+            rare_state(Last::Joined, at.start.counted, at.start)
         }
-        _ => laid_to(Last::Joined, at.count, at.start),
+        _ => rare_state(Last::Joined, at.counted, at.start),
     }
 }
 
-/// Lays a token behind the items.
+/// Adds the items of a token.
 #[inline(always)]
-fn lay_token(
+fn add_rare_part_token(
     source: &Source,
     items: &mut Vec<Item>,
-    at: RareLaying,
+    at: RarePartState,
     token: &Token,
-) -> Result<RareLaying, NoMemory>
-    requires line { at.count.line < 2 ^ 63 }
+) -> Result<RarePartState, NoMemory>
+    requires line { at.counted.line < 2 ^ 63 }
     requires start { at.start.items ≤ length items.old.items }
-    ensures laid { IfOk result (λ next. (es : List Token) →
-        whole source.now.lines items.new.items next es
-        ≡ whole source.now.lines items.old.items at (token.now ∷ es)) }
-    ensures room { IfOk result (λ next. highest next ≤ max (2 ^ 32) (highest at + 1)) }
+    ensures items { IfOk result (λ next. (rest : List Token) →
+        all_items source.now.lines items.new.items next rest
+        ≡ all_items source.now.lines items.old.items at (token.now ∷ rest)) }
+    ensures limit { IfOk result (λ next. highest next ≤ max (2 ^ 32) (highest at + 1)) }
     ensures start { IfOk result (λ next. next.start.items ≤ length items.new.items) }
 {
     match *token {
-        Token::White => Ok(laid_to(behind_white(at.last), at.count, at.start)),
-        Token::LineEnd(line) => lay_line_end(source, items, at, line),
-        Token::Text(kind, span) => {
-            let text = Token::Text(kind, span);
-            put_needed_blank(items, at.last, text)?;
-            items.push(text_item(kind, span))?;
-            Ok(laid_to(last_of(text), at.count, at.start))
+        Token::White => Ok(rare_state(last_after_white(at.last), at.counted, at.start)),
+        Token::LineEnd(line) => add_line_end(source, items, at, line),
+        Token::Span(kind, span) => {
+            let span_token = Token::Span(kind, span);
+            push_needed_blank(items, at.last, span_token)?;
+            items.push(span_item(kind, span))?;
+            Ok(rare_state(last_of(span_token), at.counted, at.start))
         }
-        Token::Join => Ok(lay_join(items, at)),
-        Token::Fault(..) => Ok(laid_to(at.last, at.count, at.start)),
+        Token::Join => Ok(apply_join(items, at)),
+        Token::Fault(..) => Ok(rare_state(at.last, at.counted, at.start)),
         _ => {
-            put_needed_blank(items, at.last, *token)?;
-            let count = put_item(source, items, at.count, *token)?;
-            Ok(laid_to(last_of(*token), count, at.start))
+            push_needed_blank(items, at.last, *token)?;
+            let counted = push_item(source, items, at.counted, *token)?;
+            Ok(rare_state(last_of(*token), counted, at.start))
         }
     }
 }
 
-/// Lays the items of a C part whose head ends on a line.
-pub fn lay_rare_part(
+/// Makes the items of a C part whose head ends on a line.
+pub(crate) fn fill_rare_part(
     source: &Source,
     items: &mut Vec<Item>,
     line: u32,
@@ -216,14 +221,14 @@ pub fn lay_rare_part(
     ensures { OnOk result (items.new.items ≡ rules.part_items source.now.lines line tokens.now) }
 {
     items.clear();
-    let count = count_on(source, line);
-    let mut at = RareLaying {
+    let counted = counted_on(source, line);
+    let mut at = RarePartState {
         last: Last::Front,
-        count,
-        start: Start { items: 0, count },
+        counted,
+        start: Start { items: 0, counted },
     };
     for token in tokens {
-        at = lay_token(source, items, at, token)?;
+        at = add_rare_part_token(source, items, at, token)?;
     }
     Ok(())
 }

@@ -9,10 +9,10 @@ ghost use Rattle.tangle_scan.specs.LineTruth.{PiecesAreAtTheirLines};
 ghost use Rattle.tangle_scan.specs.WellFormed.{IsWellFormed};
 ghost use Rattle.tangle_scan.specs.Gathering.{nothing, gathering_with};
 
-use crate::gathering::{Gathering, Workspace};
+use crate::gathering::{Gathering, MacroBuffer};
 use crate::webs::Web;
 use std::alloc::Global;
-use tangle_lexer::{LexerOutput, Occurrence, first_state, next_block};
+use tangle_lexer::{LexerBuffers, Occurrence, first_state, next_block};
 use tangle_lines::{NoMemory, Source};
 use tangle_text::Reader;
 
@@ -25,20 +25,20 @@ fn gather(alloc: Global, source: &Source) -> Result<(Gathering, Vec<Occurrence>)
         (λ r. r.1.items ≡ map (occurrence_of source.now.lines) (all_occurrences source.now.lines)) }
 {
     let mut gathering = Gathering::new(alloc);
-    let mut workspace = Workspace::new(alloc);
-    let mut output = LexerOutput {
+    let mut macro_buffer = MacroBuffer::new(alloc);
+    let mut buffers = LexerBuffers {
         tokens: Vec::new(alloc),
         occurrences: Vec::new(alloc),
     };
     let mut ahead = Reader::new(source);
     let first = first_state(source);
-    let (mut state, mut front) = next_block(source, &mut output, &mut ahead, first)?;
-    gathering.add_front(alloc, source, &output.tokens)?;
-    while let Some(head) = front {
-        (state, front) = next_block(source, &mut output, &mut ahead, state)?;
-        gathering.add_block(alloc, source, &mut workspace, head, &output.tokens)?;
+    let (mut state, mut next_head) = next_block(source, &mut buffers, &mut ahead, first)?;
+    gathering.add_front(alloc, source, &buffers.tokens)?;
+    while let Some(head) = next_head {
+        (state, next_head) = next_block(source, &mut buffers, &mut ahead, state)?;
+        gathering.add_block(alloc, source, &mut macro_buffer, head, &buffers.tokens)?;
     }
-    Ok((gathering, output.occurrences))
+    Ok((gathering, buffers.occurrences))
 }
 
 /// The text of a source is short: it has at most 2,000,000 lines, each of at most 65,535 bytes and
@@ -54,10 +54,10 @@ fn text_is_short(source: &Source)
 /// Scans the lines of a source: finds its sections, C parts, macros and section names, and what
 /// these are made of.
 ///
-/// The web borrows the source. A text of an item is a range of a source line. The ranges of all
-/// pieces are in the order of the source, and so do those of all macros. Each text of a piece
-/// is on the line that a compiler counts by the marks and line ends before it, but for those
-/// behind a line end that a quoted text or a join took, up to the next line end or mark.
+/// The web borrows the source. The text of an item is a range of a source line. The ranges of all
+/// pieces are in the order of the source, and so are those of all macros. Each text of a piece is
+/// on the line that a compiler counts by the marks and line ends before it, except after a line
+/// end inside a quoted text, or one that a join removed, up to the next line end or mark.
 ///
 /// # Errors
 ///

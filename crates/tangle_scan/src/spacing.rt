@@ -1,8 +1,8 @@
 //! White space between the tokens of a macro. It is put between a word and an ASCII constant, or
-//! two constants, that touch, and behind the name. Each run of joins, white space and line ends
+//! two constants, that touch, and after the name. Each run of joins, white space and line ends
 //! that has a join is taken out.
-ghost use Rattle.std.specs.Prelude.{◌≡◌, ◌<◌, ◌-◌, ◌+◌, ◌++◌, ◌∷◌, [], List, take};
-ghost use Rattle.std.specs.Prelude.{get_or, if◌then◌else◌, IfOk, OnOk};
+ghost use Rattle.std.specs.Prelude.{◌≡◌, ◌++◌, ◌∷◌, [], List, take, get_or, if◌then◌else◌};
+ghost use Rattle.std.specs.Prelude.{IfOk, OnOk};
 ghost use Rattle.std.specs.List.{list_any};
 ghost use Rattle.tangle_scan.specs.Rules as rules;
 ghost use Rattle.tangle_scan.specs.Web.{texts_of};
@@ -11,18 +11,18 @@ ghost use Rattle.tangle_scan.specs.Passes.{IsRun, without_joins_from, spacing_fr
 ghost use Rattle.tangle_lexer.specs.declared.tokens.Token.{Token};
 ghost use Rattle.tangle_lexer.specs.declared.tokens.Token.TheVariants as token;
 
-use tangle_lexer::{TextKind, Token};
+use tangle_lexer::{SpanKind, Token};
 use tangle_lines::{NoMemory, Source};
 use tangle_text::Span;
 
-/// A join, white space or a line end.
+/// Whether a token is a join, white space or a line end.
 fn is_gap(token: Token) -> bool
     ensures { result ≡ rules.is_gap token }
 {
     matches!(token, Token::Join | Token::White | Token::LineEnd(_))
 }
 
-/// A join.
+/// Whether a token is a join.
 fn is_join(token: Token) -> bool
     ensures { result ≡ rules.is_join token }
 {
@@ -37,51 +37,51 @@ struct Run {
     has_join: bool,
 }
 
-/// Takes a run away that has a join.
-fn close_run(out: &mut Vec<Token>, run: Run)
-    ensures { out.new.items ≡ (if run.has_join then take run.start out.old.items
-        else out.old.items) }
+/// Removes a run that has a join.
+fn close_run(spaced: &mut Vec<Token>, run: Run)
+    ensures { spaced.new.items ≡ (if run.has_join then take run.start spaced.old.items
+        else spaced.old.items) }
 {
     if run.has_join {
-        out.truncate(run.start);
+        spaced.truncate(run.start);
     }
 }
 
-/// Adds a token behind a run.
-fn add(out: &mut Vec<Token>, run: Run, token: Token) -> Result<Run, NoMemory>
-    requires { IsRun out.old.items run }
-    ensures run { IfOk result (λ next. IsRun out.new.items next) }
-    ensures without_joins { IfOk result (λ next. (es : List Token) →
-        without_joins_from out.new.items next.start es
-        ≡ without_joins_from out.old.items run.start (token ∷ es)) }
+/// Adds a token after a run.
+fn add_after_run(spaced: &mut Vec<Token>, run: Run, token: Token) -> Result<Run, NoMemory>
+    requires { IsRun spaced.old.items run }
+    ensures run { IfOk result (λ next. IsRun spaced.new.items next) }
+    ensures without_joins { IfOk result (λ next. (rest : List Token) →
+        without_joins_from spaced.new.items next.start rest
+        ≡ without_joins_from spaced.old.items run.start (token ∷ rest)) }
 {
     if is_gap(token) {
         let join = is_join(token);
-        out.push(token)?;
+        spaced.push(token)?;
         return Ok(Run {
             start: run.start,
             has_join: run.has_join | join,
         });
     }
-    close_run(out, run);
-    out.push(token)?;
+    close_run(spaced, run);
+    spaced.push(token)?;
     Ok(Run {
-        start: out.len(),
+        start: spaced.len(),
         has_join: false,
     })
 }
 
-/// Adds white space behind a run, where it is needed.
-fn add_space(out: &mut Vec<Token>, run: Run, needed: bool) -> Result<Run, NoMemory>
-    requires { IsRun out.old.items run }
-    ensures run { IfOk result (λ next. IsRun out.new.items next) }
-    ensures without_joins { IfOk result (λ next. (es : List Token) →
-        without_joins_from out.new.items next.start es
-        ≡ without_joins_from out.old.items run.start
-        ((if needed then token.White ∷ [] else []) ++ es)) }
+/// Adds white space after a run, where it is needed.
+fn add_space(spaced: &mut Vec<Token>, run: Run, needed: bool) -> Result<Run, NoMemory>
+    requires { IsRun spaced.old.items run }
+    ensures run { IfOk result (λ next. IsRun spaced.new.items next) }
+    ensures without_joins { IfOk result (λ next. (rest : List Token) →
+        without_joins_from spaced.new.items next.start rest
+        ≡ without_joins_from spaced.old.items run.start
+        ((if needed then token.White ∷ [] else []) ++ rest)) }
 {
     if needed {
-        return add(out, run, Token::White);
+        return add_after_run(spaced, run, Token::White);
     }
     Ok(run)
 }
@@ -89,11 +89,11 @@ fn add_space(out: &mut Vec<Token>, run: Run, needed: bool) -> Result<Run, NoMemo
 /// How far the beginning of a macro was read.
 #[derive(Clone, Copy)]
 enum Stage {
-    /// Only white space and line ends came.
+    /// At the front: only white space and line ends were read.
     Front,
-    /// A join came.
+    /// After a join before the name.
     BeforeName,
-    BehindName,
+    AfterName,
     Inside,
 }
 
@@ -106,7 +106,7 @@ struct Spacing {
 }
 
 /// The byte at the start of a span of the source, or 0.
-pub fn first_byte(source: &Source, span: Span) -> u8
+pub(crate) fn first_byte(source: &Source, span: Span) -> u8
     ensures { result ≡ rules.first_byte (texts_of source.now.lines) span }
 {
     let line = span.line as usize;
@@ -126,51 +126,51 @@ fn byte_at(line: &[u8], column: usize) -> u8
     }
 }
 
-/// White space is between two tokens.
+/// Whether two tokens would be read as one with nothing between them.
 fn would_merge(before: Token, token: Token) -> bool
     ensures { result ≡ rules.would_merge before token }
 {
     match (before, token) {
-        (Token::AsciiConstant(..), Token::AsciiConstant(..) | Token::Text(TextKind::Word, _)) =>
+        (Token::AsciiConstant(..), Token::AsciiConstant(..) | Token::Span(SpanKind::Word, _)) =>
             true,
-        (Token::Text(TextKind::Word, _), Token::AsciiConstant(..)) => true,
+        (Token::Span(SpanKind::Word, _), Token::AsciiConstant(..)) => true,
         _ => false,
     }
 }
 
-/// What may follow the name of a macro without white space.
+/// Whether a token may follow the name of a macro without white space.
 fn may_follow_name(source: &Source, token: Token) -> bool
     ensures { result ≡ rules.may_follow_name (texts_of source.now.lines) token }
 {
     match token {
         Token::White | Token::LineEnd(_) | Token::Join => true,
-        Token::Text(TextKind::Sign, span) => first_byte(source, span) == b'(',
+        Token::Span(SpanKind::Sign, span) => first_byte(source, span) == b'(',
         _ => false,
     }
 }
 
-/// White space is put between two tokens, the second of which has this stage.
+/// Whether white space is put between two tokens, where the second is read at this stage.
 fn needs_space(source: &Source, stage: Stage, before: Token, token: Token) -> bool
     ensures { result ≡ passes.needs_space (texts_of source.now.lines) stage before token }
 {
     match stage {
-        Stage::BehindName => would_merge(before, token) || !may_follow_name(source, token),
+        Stage::AfterName => would_merge(before, token) || !may_follow_name(source, token),
         _ => would_merge(before, token),
     }
 }
 
-/// The stage behind a token.
-fn stage_behind(stage: Stage, token: Token) -> Stage
-    ensures { result ≡ passes.stage_behind stage token }
+/// The stage after a token.
+fn stage_after(stage: Stage, token: Token) -> Stage
+    ensures { result ≡ passes.stage_after stage token }
 {
     match stage {
         Stage::Front | Stage::BeforeName if is_gap(token) => Stage::BeforeName,
-        Stage::Front | Stage::BeforeName => Stage::BehindName,
-        Stage::BehindName | Stage::Inside => Stage::Inside,
+        Stage::Front | Stage::BeforeName => Stage::AfterName,
+        Stage::AfterName | Stage::Inside => Stage::Inside,
     }
 }
 
-/// Faults are taken out, and so are the white space and the line ends at the front of a macro.
+/// Whether a token is left out: a fault, or white space or a line end at the front of a macro.
 fn is_skipped(stage: Stage, token: Token) -> bool
     ensures { result ≡ passes.is_skipped stage token }
 {
@@ -181,39 +181,39 @@ fn is_skipped(stage: Stage, token: Token) -> bool
     }
 }
 
-/// Puts a token behind those that were spaced.
-fn put_token(
+/// Adds a token, after the white space that it needs.
+fn space_token(
     source: &Source,
-    out: &mut Vec<Token>,
+    spaced: &mut Vec<Token>,
     at: Spacing,
     token: Token,
 ) -> Result<Spacing, NoMemory>
-    requires { IsRun out.old.items at.run }
-    ensures run { IfOk result (λ next. IsRun out.new.items next.run) }
-    ensures spacing { IfOk result (λ next. (es : List Token) →
-        spacing_from (texts_of source.now.lines) out.new.items next es
-        ≡ spacing_from (texts_of source.now.lines) out.old.items at (token ∷ es)) }
+    requires { IsRun spaced.old.items at.run }
+    ensures run { IfOk result (λ next. IsRun spaced.new.items next.run) }
+    ensures spacing { IfOk result (λ next. (rest : List Token) →
+        spacing_from (texts_of source.now.lines) spaced.new.items next rest
+        ≡ spacing_from (texts_of source.now.lines) spaced.old.items at (token ∷ rest)) }
 {
     if is_skipped(at.stage, token) {
         return Ok(at);
     }
     let space = needs_space(source, at.stage, at.before, token);
-    let behind_space = add_space(out, at.run, space)?;
-    let run = add(out, behind_space, token)?;
+    let after_space = add_space(spaced, at.run, space)?;
+    let run = add_after_run(spaced, after_space, token)?;
     Ok(Spacing {
         run,
-        stage: stage_behind(at.stage, token),
+        stage: stage_after(at.stage, token),
         before: token,
     })
 }
 
 /// Spaces the tokens of a macro.
-fn space(source: &Source, out: &mut Vec<Token>, tokens: &[Token]) -> Result<(), NoMemory>
-    ensures { OnOk result (out.new.items ≡ rules.without_joins []
+fn space(source: &Source, spaced: &mut Vec<Token>, tokens: &[Token]) -> Result<(), NoMemory>
+    ensures { OnOk result (spaced.new.items ≡ rules.without_joins []
         (rules.with_name_space (texts_of source.now.lines)
         (rules.with_spaces (rules.without_front_gaps (rules.without_faults tokens.now))))) }
 {
-    out.clear();
+    spaced.clear();
     let mut at = Spacing {
         run: Run {
             start: 0,
@@ -223,15 +223,15 @@ fn space(source: &Source, out: &mut Vec<Token>, tokens: &[Token]) -> Result<(), 
         before: Token::White,
     };
     for token in tokens {
-        at = put_token(source, out, at, *token)?;
+        at = space_token(source, spaced, at, *token)?;
     }
-    close_run(out, at.run);
+    close_run(spaced, at.run);
     Ok(())
 }
 
-/// A token that most blocks do not have: a fault, a join, an ASCII constant or `@h`. Without them
-/// there is no fault to note, and spacing changes at most the front of a macro.
-pub fn is_rare(token: Token) -> bool
+/// Whether a token is one that most blocks do not have: a fault, a join, an ASCII constant or `@h`.
+/// Without such tokens there is no fault to add, and spacing changes at most the front of a macro.
+pub(crate) fn is_rare(token: Token) -> bool
     ensures { result ≡ passes.is_rare token }
 {
     matches!(
@@ -241,22 +241,22 @@ pub fn is_rare(token: Token) -> bool
 }
 
 /// Whether some of these tokens are rare.
-pub fn has_rare(tokens: &[Token]) -> bool
+pub(crate) fn has_rare(tokens: &[Token]) -> bool
     ensures { result ≡ list_any passes.is_rare tokens.now }
 {
     tokens.iter().any(|token| is_rare(*token))
 }
 
-/// White space or a line end.
+/// Whether a token is white space or a line end.
 fn is_front_gap(token: Token) -> bool
     ensures { result ≡ passes.is_front_gap token }
 {
     matches!(token, Token::White | Token::LineEnd(_))
 }
 
-/// The tokens behind the white space and the line ends at their front.
-fn behind_front(tokens: &[Token]) -> &[Token]
-    ensures { result.now ≡ passes.behind_front tokens.now }
+/// The tokens after the white space and the line ends at their front.
+fn after_front(tokens: &[Token]) -> &[Token]
+    ensures { result.now ≡ passes.after_front tokens.now }
 {
     let mut rest = tokens;
     while let [token, others @ ..] = rest {
@@ -268,7 +268,7 @@ fn behind_front(tokens: &[Token]) -> &[Token]
     rest
 }
 
-/// Whether no white space is needed behind the first token, the name of a macro.
+/// Whether no white space is needed after the first token, the name of a macro.
 fn is_name_spaced(source: &Source, tokens: &[Token]) -> bool
     ensures { result ≡ passes.is_name_spaced (texts_of source.now.lines) tokens.now }
 {
@@ -279,9 +279,9 @@ fn is_name_spaced(source: &Source, tokens: &[Token]) -> bool
 }
 
 /// The tokens of a macro that are left for its items.
-pub fn macro_tokens<'e>(
+pub(crate) fn macro_tokens<'e>(
     source: &Source,
-    out: &'e mut Vec<Token>,
+    spaced: &'e mut Vec<Token>,
     tokens: &'e [Token],
     has_rare: bool,
 ) -> Result<&'e [Token], NoMemory>
@@ -290,10 +290,10 @@ pub fn macro_tokens<'e>(
         (rules.with_name_space (texts_of source.now.lines)
         (rules.with_spaces (rules.without_front_gaps (rules.without_faults tokens.entry.now))))) }
 {
-    let rest = behind_front(tokens);
+    let rest = after_front(tokens);
     if !has_rare && is_name_spaced(source, rest) {
         return Ok(rest);
     }
-    space(source, out, tokens)?;
-    Ok(out.as_slice())
+    space(source, spaced, tokens)?;
+    Ok(spaced.as_slice())
 }

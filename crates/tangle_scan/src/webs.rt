@@ -1,5 +1,5 @@
 //! The scanned web.
-ghost use Rattle.std.specs.Prelude.{◌≡◌, ◌≤◌, ◌<◌, [], get_or, length};
+ghost use Rattle.std.specs.Prelude.{◌≡◌, ◌≤◌, [], get_or, length};
 ghost use Rattle.tangle_files.specs.Adding.{most_files};
 ghost use Rattle.tangle_scan.specs.Rules.{span_text};
 ghost use Rattle.tangle_scan.specs.SourceOrder.{IsSpan};
@@ -14,8 +14,8 @@ use tangle_lines::{Fault, Origin, Source};
 use tangle_text::Span;
 
 /// A scanned web. It borrows the source, and so has its lines and the names of its files. Every web
-/// is well formed: the texts of its items are ranges of its lines, and its uses and pieces name
-/// occurrences that it has.
+/// is well formed: the texts of its items are ranges of its lines, and the numbers of occurrences
+/// in its uses and pieces are below their count.
 #[derive(Drop)]
 pub struct Web<'s, 'a> {
     source: &'s Source<'a>,
@@ -36,7 +36,7 @@ impl<'s, 'a> Model for Web<'s, 'a> {
 }
 
 impl<'s, 'a> Web<'s, 'a> {
-    /// The web of a source with these parts.
+    /// The web of a source, of what was gathered of it, and of its occurrences.
     pub(crate) fn new(
         source: &'s Source<'a>,
         gathering: Gathering,
@@ -59,7 +59,7 @@ impl<'s, 'a> Web<'s, 'a> {
         self.gathering.sections
     }
 
-    /// The pieces, in the order of the source. Their uses name occurrences of this web.
+    /// The pieces, in the order of the source. Their uses have numbers of occurrences of this web.
     pub fn pieces(&self) -> &[Piece]
         ensures pieces { result.now ≡ self.now.pieces }
         ensures well_formed { IsWellFormed self.now }
@@ -86,9 +86,9 @@ impl<'s, 'a> Web<'s, 'a> {
 
     /// Whether some C part has `@h`.
     pub fn has_defs_code(&self) -> bool
-        ensures { result ≡ self.now.has_defs_code }
+        ensures { result ≡ self.now.has_all_macros }
     {
-        self.gathering.has_defs_code
+        self.gathering.has_all_macros
     }
 
     /// The faults of scanning, in the order of the text.
@@ -98,7 +98,7 @@ impl<'s, 'a> Web<'s, 'a> {
         self.gathering.faults.as_slice()
     }
 
-    /// The occurrences and the faults, for one who is done with the web.
+    /// Consumes the web and returns its occurrences and its faults.
     pub fn into_occurrences_and_faults(self) -> (Vec<Occurrence>, Vec<Fault>)
         ensures occurrences { result.0.items ≡ self.entry.occurrences }
         ensures faults { result.1.items ≡ self.entry.faults }
@@ -107,7 +107,7 @@ impl<'s, 'a> Web<'s, 'a> {
         (self.occurrences, gathering.faults)
     }
 
-    /// The text of an item of this web with a span.
+    /// The text of an item with this span: that range of the source.
     pub fn text(&self, span: Span) -> &[u8]
         requires { IsSpan self.now.texts span }
         ensures { result.now ≡ span_text self.now.texts span }
@@ -116,7 +116,7 @@ impl<'s, 'a> Web<'s, 'a> {
         &line[span.start as usize..span.end as usize]
     }
 
-    /// The bytes of the source line of this number, from 0: none behind the last line.
+    /// The bytes of the source line of this number, from 0: none after the last line.
     pub fn line(&self, number: u32) -> &[u8]
         ensures { result.now ≡ get_or self.now.texts number [] }
     {

@@ -1,4 +1,4 @@
--- The bytes of a buffer, after a reading behind them or a move to its front.
+-- The bytes of a buffer, after a reading after them or a move to its front.
 use Rattle.std.proofs.Common.{◌≡◌, ◌∙◌, ℕ, ◌+◌, ◌-◌, ◌<◌, ◌≤◌, List, ◌++◌, length, take, drop, Option, Some, None, refl, sym, ap, arith}
 use Rattle.std.specs.Prelude.{IfSome}
 use Rattle.std.specs.List.{copy_within}
@@ -9,13 +9,13 @@ use Rattle.tangle_streams.specs.Feeds.{Gives}
 use borrow.Rule.Slice.PartMut.{put_mid, post_of}
 use lib.Seq.{paste, take-add}
 
-pub read_behind : (xs ys : List ℕ) (len end : ℕ) (a b : Option (List ℕ)) (r : Option ℕ)
+pub read_after : (xs ys : List ℕ) (len end : ℕ) (a b : Option (List ℕ)) (r : Option ℕ)
     → len ≤ length xs → 0 < length ys → IfSome r (λ n. n ≤ length ys) → Gives a b ys r
     → IfSome r (λ n. (chunk : List ℕ) × (length chunk ≡ n)
     × (take (len + n) (put_mid len end xs ys) ≡ take len xs ++ chunk)
     × Consumes a b chunk × (n ≡ 0 → IsAtEnd b))
-read_behind xs ys len end a b None within some fits gives = tt
-read_behind xs ys len end a b (Some n) within some fits gives =
+read_after xs ys len end a b None within some fits gives = tt
+read_after xs ys len end a b (Some n) within some fits gives =
     let front = length-take-le len xs within in
     let after = ys ++ post_of len end xs in (
       take n ys,

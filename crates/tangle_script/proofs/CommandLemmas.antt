@@ -4,7 +4,7 @@ use Rattle.std.specs.Prelude.{⊤, nat_lt}
 use borrow.Author.Tests.{ltb-false}
 use Rattle.std.proofs.lemmas.Bool.{eq-eqb, eqb-true}
 use Rattle.tangle_script.specs.Requests.{takes_text}
-use Rattle.tangle_script.specs.Commands.{OnlyWaits, all_commands, alone, commands_at_end, ended, ended_commands, found_commands, kept, last_line, settled, textless, unended, waiting, with_head}
+use Rattle.tangle_script.specs.Commands.{OnlyWaits, all_commands, alone, commands_at_end, ended, ended_commands, found_commands, pending, last_line, commands_of, textless, unended, waiting, after_waiting_line}
 
 -- more bytes
 
@@ -36,23 +36,23 @@ unended-append u (x ∷ xs) ys =
 
 -- more lines
 
-pub settled-append : (w : Option (List ℕ)) (ls ms : List (List ℕ))
-    → settled w (ls ++ ms) ≡ settled w ls ++ settled (waiting w ls) ms
-settled-append w [] ms = refl
-settled-append None (l ∷ ls) ms =
-    by (takes_text l) (settled-append (Some l) ls ms) (settled-append None ls ms)
+pub commands_of-append : (w : Option (List ℕ)) (ls ms : List (List ℕ))
+    → commands_of w (ls ++ ms) ≡ commands_of w ls ++ commands_of (waiting w ls) ms
+commands_of-append w [] ms = refl
+commands_of-append None (l ∷ ls) ms =
+    by (takes_text l) (commands_of-append (Some l) ls ms) (commands_of-append None ls ms)
   where
-    by : (b : Bool) → settled (Some l) (ls ++ ms)
-        ≡ settled (Some l) ls ++ settled (waiting (Some l) ls) ms
-        → settled None (ls ++ ms) ≡ settled None ls ++ settled (waiting None ls) ms
-        → cond b (settled (Some l) (ls ++ ms)) (alone l ++ settled None (ls ++ ms))
-        ≡ cond b (settled (Some l) ls) (alone l ++ settled None ls)
-        ++ settled (cond b (waiting (Some l) ls) (waiting None ls)) ms
+    by : (b : Bool) → commands_of (Some l) (ls ++ ms)
+        ≡ commands_of (Some l) ls ++ commands_of (waiting (Some l) ls) ms
+        → commands_of None (ls ++ ms) ≡ commands_of None ls ++ commands_of (waiting None ls) ms
+        → cond b (commands_of (Some l) (ls ++ ms)) (alone l ++ commands_of None (ls ++ ms))
+        ≡ cond b (commands_of (Some l) ls) (alone l ++ commands_of None ls)
+        ++ commands_of (cond b (waiting (Some l) ls) (waiting None ls)) ms
     by true h k = h
     by false h k = ap (λ r. alone l ++ r) k
-        ∙ sym (append_assoc (alone l) (settled None ls) (settled (waiting None ls) ms))
-settled-append (Some h) (l ∷ ls) ms =
-    ap (λ r. record { line = h; text = Some l } ∷ r) (settled-append None ls ms)
+        ∙ sym (append_assoc (alone l) (commands_of None ls) (commands_of (waiting None ls) ms))
+commands_of-append (Some h) (l ∷ ls) ms =
+    ap (λ r. record { line = h; text = Some l } ∷ r) (commands_of-append None ls ms)
 
 pub waiting-append : (w : Option (List ℕ)) (ls ms : List (List ℕ))
     → waiting w (ls ++ ms) ≡ waiting (waiting w ls) ms
@@ -70,9 +70,9 @@ waiting-append (Some h) (l ∷ ls) ms = waiting-append None ls ms
 
 -- bytes without a line feed
 
-pub unfed_unended : (u xs : List ℕ) → ended u xs ≡ [] → unended u xs ≡ u ++ xs
-unfed_unended u [] e = sym (append-nil u)
-unfed_unended u (x ∷ xs) e = by (x == 10) e (unfed_unended (u ++ x ∷ []) xs)
+pub no_feed_unended : (u xs : List ℕ) → ended u xs ≡ [] → unended u xs ≡ u ++ xs
+no_feed_unended u [] e = sym (append-nil u)
+no_feed_unended u (x ∷ xs) e = by (x == 10) e (no_feed_unended (u ++ x ∷ []) xs)
   where
     by : (b : Bool) → cond b (u ∷ ended [] xs) (ended (u ++ x ∷ []) xs) ≡ []
         → (ended (u ++ x ∷ []) xs ≡ [] → unended (u ++ x ∷ []) xs ≡ (u ++ x ∷ []) ++ xs)
@@ -82,39 +82,39 @@ unfed_unended u (x ∷ xs) e = by (x == 10) e (unfed_unended (u ++ x ∷ []) xs)
 
 pub ended_after : (u ys : List ℕ) → ended [] u ≡ [] → ended [] (u ++ ys) ≡ ended u ys
 ended_after u ys e = ended-append [] u ys
-    ∙ (ap (λ l. l ++ ended (unended [] u) ys) e ∙ ap (λ l. ended l ys) (unfed_unended [] u e))
+    ∙ (ap (λ l. l ++ ended (unended [] u) ys) e ∙ ap (λ l. ended l ys) (no_feed_unended [] u e))
 
 pub unended_after : (u ys : List ℕ) → ended [] u ≡ [] → unended [] (u ++ ys) ≡ unended u ys
-unended_after u ys e = unended-append [] u ys ∙ ap (λ l. unended l ys) (unfed_unended [] u e)
+unended_after u ys e = unended-append [] u ys ∙ ap (λ l. unended l ys) (no_feed_unended [] u e)
 
-unfed_more : (u : List ℕ) (x : ℕ) → ended [] u ≡ [] → (x == 10) ≡ false
+no_feed_more : (u : List ℕ) (x : ℕ) → ended [] u ≡ [] → (x == 10) ≡ false
     → ended [] (u ++ x ∷ []) ≡ []
-unfed_more u x e other = ended_after u (x ∷ []) e ∙ ap (λ b. cond b (u ∷ []) []) other
+no_feed_more u x e other = ended_after u (x ∷ []) e ∙ ap (λ b. cond b (u ∷ []) []) other
 
-pub unended_unfed : (u xs : List ℕ) → ended [] u ≡ [] → ended [] (unended u xs) ≡ []
-unended_unfed u [] e = e
-unended_unfed u (x ∷ xs) e = by (x == 10) refl (unended_unfed [] xs refl)
-    (unended_unfed (u ++ x ∷ []) xs)
+pub unended_no_feed : (u xs : List ℕ) → ended [] u ≡ [] → ended [] (unended u xs) ≡ []
+unended_no_feed u [] e = e
+unended_no_feed u (x ∷ xs) e = by (x == 10) refl (unended_no_feed [] xs refl)
+    (unended_no_feed (u ++ x ∷ []) xs)
   where
     by : (b : Bool) → (x == 10) ≡ b → ended [] (unended [] xs) ≡ []
         → (ended [] (u ++ x ∷ []) ≡ [] → ended [] (unended (u ++ x ∷ []) xs) ≡ [])
         → ended [] (cond b (unended [] xs) (unended (u ++ x ∷ []) xs)) ≡ []
     by true is h k = h
-    by false is h k = k (unfed_more u x e is)
+    by false is h k = k (no_feed_more u x e is)
 
-abbrev Unfed : List (List ℕ) → Type 0
-Unfed [] = ⊤
-Unfed (l ∷ ls) = (ended [] l ≡ []) × Unfed ls
+abbrev WithoutFeeds : List (List ℕ) → Type 0
+WithoutFeeds [] = ⊤
+WithoutFeeds (l ∷ ls) = (ended [] l ≡ []) × WithoutFeeds ls
 
-ended_unfed : (u xs : List ℕ) → ended [] u ≡ [] → Unfed (ended u xs)
-ended_unfed u [] e = tt
-ended_unfed u (x ∷ xs) e = by (x == 10) refl (ended_unfed [] xs refl) (ended_unfed (u ++ x ∷ []) xs)
+ended_no_feed : (u xs : List ℕ) → ended [] u ≡ [] → WithoutFeeds (ended u xs)
+ended_no_feed u [] e = tt
+ended_no_feed u (x ∷ xs) e = by (x == 10) refl (ended_no_feed [] xs refl) (ended_no_feed (u ++ x ∷ []) xs)
   where
-    by : (b : Bool) → (x == 10) ≡ b → Unfed (ended [] xs)
-        → (ended [] (u ++ x ∷ []) ≡ [] → Unfed (ended (u ++ x ∷ []) xs))
-        → Unfed (cond b (u ∷ ended [] xs) (ended (u ++ x ∷ []) xs))
+    by : (b : Bool) → (x == 10) ≡ b → WithoutFeeds (ended [] xs)
+        → (ended [] (u ++ x ∷ []) ≡ [] → WithoutFeeds (ended (u ++ x ∷ []) xs))
+        → WithoutFeeds (cond b (u ∷ ended [] xs) (ended (u ++ x ∷ []) xs))
     by true is h k = (e, h)
-    by false is h k = k (unfed_more u x e is)
+    by false is h k = k (no_feed_more u x e is)
 
 -- a line that waits for its text
 
@@ -122,19 +122,19 @@ abbrev pub Waits : Option (List ℕ) → Type 0
 Waits None = ⊤
 Waits (Some h) = (ended [] h ≡ []) × (takes_text h ≡ true)
 
-waiting_waits : (w : Option (List ℕ)) (ls : List (List ℕ)) → Waits w → Unfed ls
+waiting_waits : (w : Option (List ℕ)) (ls : List (List ℕ)) → Waits w → WithoutFeeds ls
     → Waits (waiting w ls)
 waiting_waits w [] h f = h
 waiting_waits None (l ∷ ls) h f =
     by (takes_text l) refl (waiting_waits (Some l) ls) (waiting_waits None ls tt f.1)
   where
-    by : (b : Bool) → takes_text l ≡ b → (Waits (Some l) → Unfed ls → Waits (waiting (Some l) ls))
+    by : (b : Bool) → takes_text l ≡ b → (Waits (Some l) → WithoutFeeds ls → Waits (waiting (Some l) ls))
         → Waits (waiting None ls) → Waits (cond b (waiting (Some l) ls) (waiting None ls))
     by true is k m = k (f.0, is) f.1
     by false is k m = m
 waiting_waits (Some w) (l ∷ ls) h f = waiting_waits None ls tt f.1
 
--- the kept bytes are read again
+-- the pending bytes are read again
 
 pub again_lines : (h u ys : List ℕ) → ended [] h ≡ []
     → ended [] ((h ++ 10 ∷ u) ++ ys) ≡ h ∷ ended [] (u ++ ys)
@@ -145,65 +145,65 @@ pub again_rest : (h u ys : List ℕ) → ended [] h ≡ []
 again_rest h u ys e = ap (unended []) (append_assoc h (10 ∷ u) ys)
     ∙ unended_after h (10 ∷ (u ++ ys)) e
 
-pub settled_head : (h : List ℕ) (ls : List (List ℕ)) → takes_text h ≡ true
-    → settled None (h ∷ ls) ≡ settled (Some h) ls
-settled_head h ls t = ap (λ b. cond b (settled (Some h) ls) (alone h ++ settled None ls)) t
+pub commands_of_head : (h : List ℕ) (ls : List (List ℕ)) → takes_text h ≡ true
+    → commands_of None (h ∷ ls) ≡ commands_of (Some h) ls
+commands_of_head h ls t = ap (λ b. cond b (commands_of (Some h) ls) (alone h ++ commands_of None ls)) t
 
 pub waiting_head : (h : List ℕ) (ls : List (List ℕ)) → takes_text h ≡ true
     → waiting None (h ∷ ls) ≡ waiting (Some h) ls
 waiting_head h ls t = ap (λ b. cond b (waiting (Some h) ls) (waiting None ls)) t
 
-again_settled : (w : Option (List ℕ)) (u ys : List ℕ) → Waits w → ended [] u ≡ []
-    → settled None (ended [] (with_head w u ++ ys)) ≡ settled w (ended u ys)
-again_settled None u ys h e = ap (settled None) (ended_after u ys e)
-again_settled (Some l) u ys h e =
-    ap (settled None) (again_lines l u ys h.0 ∙ ap (λ r. l ∷ r) (ended_after u ys e))
-    ∙ settled_head l (ended u ys) h.1
+again_commands_of : (w : Option (List ℕ)) (u ys : List ℕ) → Waits w → ended [] u ≡ []
+    → commands_of None (ended [] (after_waiting_line w u ++ ys)) ≡ commands_of w (ended u ys)
+again_commands_of None u ys h e = ap (commands_of None) (ended_after u ys e)
+again_commands_of (Some l) u ys h e =
+    ap (commands_of None) (again_lines l u ys h.0 ∙ ap (λ r. l ∷ r) (ended_after u ys e))
+    ∙ commands_of_head l (ended u ys) h.1
 
 again_waiting : (w : Option (List ℕ)) (u ys : List ℕ) → Waits w → ended [] u ≡ []
-    → waiting None (ended [] (with_head w u ++ ys)) ≡ waiting w (ended u ys)
+    → waiting None (ended [] (after_waiting_line w u ++ ys)) ≡ waiting w (ended u ys)
 again_waiting None u ys h e = ap (waiting None) (ended_after u ys e)
 again_waiting (Some l) u ys h e =
     ap (waiting None) (again_lines l u ys h.0 ∙ ap (λ r. l ∷ r) (ended_after u ys e))
     ∙ waiting_head l (ended u ys) h.1
 
 again_unended : (w : Option (List ℕ)) (u ys : List ℕ) → Waits w → ended [] u ≡ []
-    → unended [] (with_head w u ++ ys) ≡ unended u ys
+    → unended [] (after_waiting_line w u ++ ys) ≡ unended u ys
 again_unended None u ys h e = unended_after u ys e
 again_unended (Some l) u ys h e = again_rest l u ys h.0 ∙ unended_after u ys e
 
--- The laws: what has ended is answered, and what is kept is in front of what comes.
+-- The laws: what has ended is answered, and what is pending is in front of what comes.
 
 pub read_waits : (xs : List ℕ) → Waits (waiting None (ended [] xs))
-read_waits xs = waiting_waits None (ended [] xs) tt (ended_unfed [] xs refl)
+read_waits xs = waiting_waits None (ended [] xs) tt (ended_no_feed [] xs refl)
 
 pub commands-append : (xs ys : List ℕ)
-    → ended_commands (xs ++ ys) ≡ ended_commands xs ++ ended_commands (kept xs ++ ys)
+    → ended_commands (xs ++ ys) ≡ ended_commands xs ++ ended_commands (pending xs ++ ys)
 commands-append xs ys =
     let w : Option (List ℕ) = waiting None (ended [] xs) in
-    ap (settled None) (ended-append [] xs ys)
-    ∙ (settled-append None (ended [] xs) (ended (unended [] xs) ys)
-    ∙ ap (λ l. settled None (ended [] xs) ++ l)
-    (sym (again_settled w (unended [] xs) ys (read_waits xs) (unended_unfed [] xs refl))))
+    ap (commands_of None) (ended-append [] xs ys)
+    ∙ (commands_of-append None (ended [] xs) (ended (unended [] xs) ys)
+    ∙ ap (λ l. commands_of None (ended [] xs) ++ l)
+    (sym (again_commands_of w (unended [] xs) ys (read_waits xs) (unended_no_feed [] xs refl))))
 
-pub kept-append : (xs ys : List ℕ) → kept (xs ++ ys) ≡ kept (kept xs ++ ys)
-kept-append xs ys =
+pub pending-append : (xs ys : List ℕ) → pending (xs ++ ys) ≡ pending (pending xs ++ ys)
+pending-append xs ys =
     let w : Option (List ℕ) = waiting None (ended [] xs) in
     let u : List ℕ = unended [] xs in
-    let first : waiting None (ended [] (xs ++ ys)) ≡ waiting None (ended [] (kept xs ++ ys)) =
+    let first : waiting None (ended [] (xs ++ ys)) ≡ waiting None (ended [] (pending xs ++ ys)) =
     ap (waiting None) (ended-append [] xs ys)
     ∙ (waiting-append None (ended [] xs) (ended u ys)
-    ∙ sym (again_waiting w u ys (read_waits xs) (unended_unfed [] xs refl))) in
-    let second : unended [] (xs ++ ys) ≡ unended [] (kept xs ++ ys) =
+    ∙ sym (again_waiting w u ys (read_waits xs) (unended_no_feed [] xs refl))) in
+    let second : unended [] (xs ++ ys) ≡ unended [] (pending xs ++ ys) =
     unended-append [] xs ys ∙ sym
-    (again_unended w u ys (read_waits xs) (unended_unfed [] xs refl)) in
-    ap (λ v. with_head v (unended [] (xs ++ ys))) first
-    ∙ ap (λ l. with_head (waiting None (ended [] (kept xs ++ ys))) l) second
+    (again_unended w u ys (read_waits xs) (unended_no_feed [] xs refl)) in
+    ap (λ v. after_waiting_line v (unended [] (xs ++ ys))) first
+    ∙ ap (λ l. after_waiting_line (waiting None (ended [] (pending xs ++ ys))) l) second
 
-kept_lines : (w : Option (List ℕ)) (u : List ℕ) → Waits w → ended [] u ≡ []
-    → OnlyWaits (with_head w u)
-kept_lines None u h e = inl e
-kept_lines (Some l) u h e =
+pending_lines : (w : Option (List ℕ)) (u : List ℕ) → Waits w → ended [] u ≡ []
+    → OnlyWaits (after_waiting_line w u)
+pending_lines None u h e = inl e
+pending_lines (Some l) u h e =
     inr (
       l,
       ap (ended []) (sym (append-nil (l ++ 10 ∷ u)))
@@ -211,38 +211,38 @@ kept_lines (Some l) u h e =
       h.1,
     )
 
-pub kept_waits : (xs : List ℕ) → OnlyWaits (kept xs)
-kept_waits xs = kept_lines (waiting None (ended [] xs)) (unended [] xs) (read_waits xs)
-    (unended_unfed [] xs refl)
+pub pending_waits : (xs : List ℕ) → OnlyWaits (pending xs)
+pending_waits xs = pending_lines (waiting None (ended [] xs)) (unended [] xs) (read_waits xs)
+    (unended_no_feed [] xs refl)
 
 -- at the end
 
 again_end : (w : Option (List ℕ)) (u : List ℕ) → Waits w → ended [] u ≡ []
-    → all_commands (with_head w u) ≡ settled w (last_line u) ++ textless (waiting w (last_line u))
-again_end None u h e = ap (λ r. commands_at_end (ended [] u ++ last_line r)) (unfed_unended [] u e)
+    → all_commands (after_waiting_line w u) ≡ commands_of w (last_line u) ++ textless (waiting w (last_line u))
+again_end None u h e = ap (λ r. commands_at_end (ended [] u ++ last_line r)) (no_feed_unended [] u e)
     ∙ ap (λ l. commands_at_end (l ++ last_line u)) e
 again_end (Some l) u h e =
     let lines : ended [] (l ++ 10 ∷ u) ≡ l ∷ [] = ap (ended []) (sym (append-nil (l ++ 10 ∷ u)))
     ∙ (again_lines l u [] h.0 ∙ ap (λ r. l ∷ r) (ap (ended []) (append-nil u) ∙ e)) in
-    let rest : unended [] (l ++ 10 ∷ u) ≡ u = unended_after l (10 ∷ u) h.0 ∙ unfed_unended [] u e in
+    let rest : unended [] (l ++ 10 ∷ u) ≡ u = unended_after l (10 ∷ u) h.0 ∙ no_feed_unended [] u e in
     ap (λ r. commands_at_end (ended [] (l ++ 10 ∷ u) ++ last_line r)) rest
     ∙ (ap (λ (r : List (List ℕ)). commands_at_end (r ++ last_line u)) lines
-    ∙ (ap (λ r. r ++ textless (waiting None (l ∷ last_line u))) (settled_head l (last_line u) h.1)
-    ∙ ap (λ v. settled (Some l) (last_line u) ++ textless v) (waiting_head l (last_line u) h.1)))
+    ∙ (ap (λ r. r ++ textless (waiting None (l ∷ last_line u))) (commands_of_head l (last_line u) h.1)
+    ∙ ap (λ v. commands_of (Some l) (last_line u) ++ textless v) (waiting_head l (last_line u) h.1)))
 
-pub all_commands-kept : (xs : List ℕ)
-    → all_commands xs ≡ ended_commands xs ++ all_commands (kept xs)
-all_commands-kept xs =
+pub all_commands-pending : (xs : List ℕ)
+    → all_commands xs ≡ ended_commands xs ++ all_commands (pending xs)
+all_commands-pending xs =
     let w : Option (List ℕ) = waiting None (ended [] xs) in
     let u : List ℕ = unended [] xs in
     let ls : List (List ℕ) = last_line u in
     ap (λ l. l ++ textless (waiting None (ended [] xs ++ ls)))
-    (settled-append None (ended [] xs) ls)
-    ∙ (ap (λ v. (settled None (ended [] xs) ++ settled w ls) ++ textless v)
+    (commands_of-append None (ended [] xs) ls)
+    ∙ (ap (λ v. (commands_of None (ended [] xs) ++ commands_of w ls) ++ textless v)
     (waiting-append None (ended [] xs) ls)
-    ∙ (append_assoc (settled None (ended [] xs)) (settled w ls) (textless (waiting w ls))
-    ∙ ap (λ l. settled None (ended [] xs) ++ l)
-    (sym (again_end w u (read_waits xs) (unended_unfed [] xs refl)))))
+    ∙ (append_assoc (commands_of None (ended [] xs)) (commands_of w ls) (textless (waiting w ls))
+    ∙ ap (λ l. commands_of None (ended [] xs) ++ l)
+    (sym (again_end w u (read_waits xs) (unended_no_feed [] xs refl)))))
 
 -- the first line of some bytes
 
@@ -322,15 +322,15 @@ module _ (bytes line text : List ℕ) (waits : OnlyWaits bytes)
   ]
 
   last_all : all_commands bytes
-      ≡ settled (Some line) (last_line text) ++ textless (waiting (Some line) (last_line text))
+      ≡ commands_of (Some line) (last_line text) ++ textless (waiting (Some line) (last_line text))
   last_all =
-      let rest : unended [] bytes ≡ text = f ∙ unfed_unended [] text last_head.1 in
+      let rest : unended [] bytes ≡ text = f ∙ no_feed_unended [] text last_head.1 in
       let lines : ended [] bytes ≡ line ∷ [] = e ∙ ap (λ l. line ∷ l) last_head.1 in
       ap (λ r. commands_at_end (ended [] bytes ++ last_line r)) rest
       ∙ (ap (λ (r : List (List ℕ)). commands_at_end (r ++ last_line text)) lines
       ∙ (ap (λ r. r ++ textless (waiting None (line ∷ last_line text)))
-      (settled_head line (last_line text) last_head.0)
-      ∙ ap (λ v. settled (Some line) (last_line text) ++ textless v)
+      (commands_of_head line (last_line text) last_head.0)
+      ∙ ap (λ v. commands_of (Some line) (last_line text) ++ textless v)
       (waiting_head line (last_line text) last_head.0)))
 
   some_line : (l : List ℕ) → takes_text l ≡ true → record { line = l; text = None } ∷ [] ≡ alone l
@@ -339,14 +339,14 @@ module _ (bytes line text : List ℕ) (waits : OnlyWaits bytes)
 
   pub last_textless : text ≡ [] → all_commands bytes ≡ found_commands line None
   last_textless none = last_all
-      ∙ (ap (λ t. settled (Some line) (last_line t) ++ textless (waiting (Some line) (last_line t)))
+      ∙ (ap (λ t. commands_of (Some line) (last_line t) ++ textless (waiting (Some line) (last_line t)))
       none ∙ some_line line last_head.0)
 
   pub last_texted : 0 < length text → all_commands bytes ≡ found_commands line (Some text)
   last_texted some = last_all ∙ by text some
     where
       by : (t : List ℕ) → 0 < length t
-          → settled (Some line) (last_line t) ++ textless (waiting (Some line) (last_line t))
+          → commands_of (Some line) (last_line t) ++ textless (waiting (Some line) (last_line t))
           ≡ found_commands line (Some t)
       by [] some = absurd (omega arith)
       by (b ∷ bs) some = refl
@@ -355,11 +355,11 @@ pub no_bytes : (xs : List ℕ) → length xs ≡ 0 → xs ≡ []
 no_bytes [] e = refl
 no_bytes (x ∷ xs) e = absurd (omega arith)
 
--- a chunk without a line feed, behind bytes in which no command has ended
+-- a chunk without a line feed, after bytes in which no command has ended
 
-unfed_any : (u v xs : List ℕ) → ended v xs ≡ [] → ended u xs ≡ []
-unfed_any u v [] e = refl
-unfed_any u v (x ∷ xs) e = by (x == 10) e (unfed_any (u ++ x ∷ []) (v ++ x ∷ []) xs)
+no_feed_any : (u v xs : List ℕ) → ended v xs ≡ [] → ended u xs ≡ []
+no_feed_any u v [] e = refl
+no_feed_any u v (x ∷ xs) e = by (x == 10) e (no_feed_any (u ++ x ∷ []) (v ++ x ∷ []) xs)
   where
     by : (b : Bool) → cond b (v ∷ ended [] xs) (ended (v ++ x ∷ []) xs) ≡ []
         → (ended (v ++ x ∷ []) xs ≡ [] → ended (u ++ x ∷ []) xs ≡ [])
@@ -381,32 +381,32 @@ one_line u (x ∷ xs) l e = by (x == 10) refl e (one_line (u ++ x ∷ []) xs l)
         let none : ended [] xs ≡ [] = cc in
         let byte : x ≡ 10 = eqb-true x 10 is in
         ap (λ l. l ++ x ∷ xs) line
-        ∙ (ap (λ c. l ++ c ∷ xs) byte ∙ ap (λ r. l ++ 10 ∷ r) (sym (unfed_unended [] xs none)))
+        ∙ (ap (λ c. l ++ c ∷ xs) byte ∙ ap (λ r. l ++ 10 ∷ r) (sym (no_feed_unended [] xs none)))
     by false is e h = sym (append_assoc u (x ∷ []) xs) ∙ h e
 
 more_lines : (p xs : List ℕ) → ended [] xs ≡ [] → ended [] (p ++ xs) ≡ ended [] p
 more_lines p xs none = ended-append [] p xs
-    ∙ (ap (λ l. ended [] p ++ l) (unfed_any (unended [] p) [] xs none) ∙ append-nil (ended [] p))
+    ∙ (ap (λ l. ended [] p ++ l) (no_feed_any (unended [] p) [] xs none) ∙ append-nil (ended [] p))
 
 one_waits : (bytes head : List ℕ) → ended [] bytes ≡ head ∷ [] → takes_text head ≡ true
-    → (ended_commands bytes ≡ []) × (kept bytes ≡ bytes)
+    → (ended_commands bytes ≡ []) × (pending bytes ≡ bytes)
 one_waits bytes head e t = (
-  ap (settled None) e ∙ settled_head head [] t,
-  ap (λ l. with_head (waiting None l) (unended [] bytes)) e
-      ∙ (ap (λ w. with_head w (unended [] bytes)) (waiting_head head [] t)
+  ap (commands_of None) e ∙ commands_of_head head [] t,
+  ap (λ l. after_waiting_line (waiting None l) (unended [] bytes)) e
+      ∙ (ap (λ w. after_waiting_line w (unended [] bytes)) (waiting_head head [] t)
       ∙ sym (one_line [] bytes head e)),
 )
 
 none_waits : (bytes : List ℕ) → ended [] bytes ≡ []
-    → (ended_commands bytes ≡ []) × (kept bytes ≡ bytes)
+    → (ended_commands bytes ≡ []) × (pending bytes ≡ bytes)
 none_waits bytes e = (
-  ap (settled None) e,
-  ap (λ l. with_head (waiting None l) (unended [] bytes)) e
-      ∙ unfed_unended [] bytes e,
+  ap (commands_of None) e,
+  ap (λ l. after_waiting_line (waiting None l) (unended [] bytes)) e
+      ∙ no_feed_unended [] bytes e,
 )
 
 waits_more : (p xs : List ℕ) → OnlyWaits p → ended [] xs ≡ []
-    → (ended_commands (p ++ xs) ≡ []) × (kept (p ++ xs) ≡ p ++ xs)
+    → (ended_commands (p ++ xs) ≡ []) × (pending (p ++ xs) ≡ p ++ xs)
 waits_more p xs waits none = elim waits [
   | inl e ↦ none_waits (p ++ xs) (more_lines p xs none ∙ e)
   | inr h ↦ one_waits (p ++ xs) h.0 (more_lines p xs none ∙ h.1) h.2
@@ -417,13 +417,13 @@ no_lines [] e = refl
 no_lines (l ∷ ls) e = absurd (omega (arith, ltb-false 0 (length (l ∷ ls)) e))
 
 pub waits_on : (p xs : List ℕ) → OnlyWaits p → nat_lt 0 (length (ended [] xs)) ≡ false
-    → (ended_commands (p ++ xs) ≡ []) × (kept (p ++ xs) ≡ p ++ xs)
+    → (ended_commands (p ++ xs) ≡ []) × (pending (p ++ xs) ≡ p ++ xs)
 waits_on p xs waits none = waits_more p xs waits (no_lines (ended [] xs) none)
 
 -- so in bytes of which a front waits, and what follows it has no line feed
 pub waits_in : (n : ℕ) (xs : List ℕ) → OnlyWaits (take n xs)
     → nat_lt 0 (length (ended [] (drop n xs))) ≡ false
-    → (ended_commands xs ≡ []) × (kept xs ≡ xs)
+    → (ended_commands xs ≡ []) × (pending xs ≡ xs)
 waits_in n xs waits none =
-    subst (λ (l : List ℕ). (ended_commands l ≡ []) × (kept l ≡ l)) (take-append-drop n xs)
+    subst (λ (l : List ℕ). (ended_commands l ≡ []) × (pending l ≡ l)) (take-append-drop n xs)
     (waits_on (take n xs) (drop n xs) waits none)

@@ -5,16 +5,16 @@ use Rattle.std.specs.Prelude.{◌||◌}
 use Rattle.tangle_streams.specs.Streams.{Failed}
 use Rattle.tangle_streams.proofs.StreamLemmas.{Appends-append, Appends-none}
 use Rattle.tangle_script.specs.Requests.{Command, Request, is_quit, request_of}
-use Rattle.tangle_script.specs.Commands.{ended_commands, found_commands, is_nothing, kept}
-use Rattle.tangle_script.specs.Script.{Dialogue, IsCut, IsQuit, IsAnswered, Replies, Exchange, has_quit}
+use Rattle.tangle_script.specs.Commands.{ended_commands, found_commands, is_no_command, pending}
+use Rattle.tangle_script.specs.Script.{Dialogue, IsCut, IsQuit, AreAnswered, Replies, Exchange, has_quit}
 
 drop-length-append : (xs ys : List ℕ) → drop (length xs) (xs ++ ys) ≡ ys
 drop-length-append [] ys = refl
 drop-length-append (x ∷ xs) ys = drop-length-append xs ys
 
-pub unquit-append : (cs ds : List Command) → has_quit cs ≡ false → has_quit (cs ++ ds) ≡ has_quit ds
-unquit-append [] ds h = refl
-unquit-append (c ∷ cs) ds h = by (is_quit (request_of c)) h (unquit-append cs ds)
+pub no_quit-append : (cs ds : List Command) → has_quit cs ≡ false → has_quit (cs ++ ds) ≡ has_quit ds
+no_quit-append [] ds h = refl
+no_quit-append (c ∷ cs) ds h = by (is_quit (request_of c)) h (no_quit-append cs ds)
   where
     by : (b : Bool) → (b || has_quit cs) ≡ false
         → (has_quit cs ≡ false → has_quit (cs ++ ds) ≡ has_quit ds)
@@ -22,24 +22,24 @@ unquit-append (c ∷ cs) ds h = by (is_quit (request_of c)) h (unquit-append cs 
     by true e k = absurd (cc)
     by false e k = k e
 
-pub found_one : (line : List ℕ) (text : Option (List ℕ)) → is_nothing line text ≡ false
+pub found_one : (line : List ℕ) (text : Option (List ℕ)) → is_no_command line text ≡ false
     → found_commands line text ≡ record { line = line; text = text } ∷ []
 found_one [] None h = absurd (cc)
 found_one (b ∷ bs) None h = refl
 found_one line (Some text) h = refl
 
-pub found_none : (line : List ℕ) (text : Option (List ℕ)) → is_nothing line text ≡ true
+pub found_none : (line : List ℕ) (text : Option (List ℕ)) → is_no_command line text ≡ true
     → found_commands line text ≡ []
 found_none [] None h = refl
 found_none (b ∷ bs) None h = absurd (cc)
 found_none line (Some text) h = absurd (by line h)
   where
-    by : (l : List ℕ) → is_nothing l (Some text) ≡ true → ⊥
+    by : (l : List ℕ) → is_no_command l (Some text) ≡ true → ⊥
     by [] h = cc
     by (b ∷ bs) h = cc
 
 pub found_has : (line : List ℕ) (text : Option (List ℕ)) (r : Request)
-    → is_nothing line text ≡ false → r ≡ request_of (record { line = line; text = text })
+    → is_no_command line text ≡ false → r ≡ request_of (record { line = line; text = text })
     → has_quit (found_commands line text) ≡ is_quit r
 found_has line text r some e = ap has_quit (found_one line text some)
     ∙ (by (is_quit (request_of (record { line = line; text = text }))) ∙ ap is_quit (sym e))
@@ -65,62 +65,62 @@ module _ {State : Type 0} (answers : State → Request → List ℕ → State �
         ∙ append_assoc h.0 h.1 b,
   )
 
-  pub answered_none : (a : Exchange State) → IsAnswered answers a a []
+  pub answered_none : (a : Exchange State) → AreAnswered answers a a []
   answered_none a = record {
-    text = [];
+    output = [];
     answered = (refl, refl);
     written = Appends-none a.stream.taken;
     failures = refl;
   }
 
   pub answered_nothing : (a : Exchange State) (commands : List Command) → commands ≡ []
-      → IsAnswered answers a a commands
-  answered_nothing a commands none = subst (IsAnswered answers a a) (sym none) (answered_none a)
+      → AreAnswered answers a a commands
+  answered_nothing a commands none = subst (AreAnswered answers a a) (sym none) (answered_none a)
 
   pub answered_then_answered : (a b c : Exchange State) (cs ds : List Command)
-      → IsAnswered answers a b cs → IsAnswered answers b c ds → IsAnswered answers a c (cs ++ ds)
+      → AreAnswered answers a b cs → AreAnswered answers b c ds → AreAnswered answers a c (cs ++ ds)
   answered_then_answered a b c cs ds h k = record {
-    text = h.text ++ k.text;
-    answered = dialogue-append a.state b.state c.state cs ds h.text k.text h.answered k.answered;
-    written = Appends-append a.stream.taken b.stream.taken c.stream.taken h.text k.text h.written
+    output = h.output ++ k.output;
+    answered = dialogue-append a.state b.state c.state cs ds h.output k.output h.answered k.answered;
+    written = Appends-append a.stream.taken b.stream.taken c.stream.taken h.output k.output h.written
         k.written;
     failures = k.failures ∙ h.failures;
   }
 
-  pub answered_then_cut : (a b c : Exchange State) (cs ds : List Command) → IsAnswered answers a b cs
+  pub answered_then_cut : (a b c : Exchange State) (cs ds : List Command) → AreAnswered answers a b cs
       → has_quit cs ≡ false → IsCut answers b c ds → IsCut answers a c (cs ++ ds)
   answered_then_cut a b c cs ds h on k = record {
     front = cs ++ k.front;
     last = k.last;
     later = k.later;
     are = ap (λ l. cs ++ l) k.are ∙ sym (append_assoc cs k.front (k.last ∷ k.later));
-    unquit = unquit-append cs k.front on ∙ k.unquit;
+    no_quit = no_quit-append cs k.front on ∙ k.no_quit;
     before = k.before;
-    text = h.text ++ k.text;
+    output = h.output ++ k.output;
     answer = k.answer;
-    answered = dialogue-append a.state b.state k.before cs k.front h.text k.text h.answered
+    answered = dialogue-append a.state b.state k.before cs k.front h.output k.output h.answered
         k.answered;
     cut = k.cut;
     count = k.count;
     within = k.within;
     written = subst (Appends a.stream.taken c.stream.taken)
-        (sym (append_assoc h.text k.text (take k.count k.answer)))
-        (Appends-append a.stream.taken b.stream.taken c.stream.taken h.text
-        (k.text ++ take k.count k.answer) h.written k.written);
+        (sym (append_assoc h.output k.output (take k.count k.answer)))
+        (Appends-append a.stream.taken b.stream.taken c.stream.taken h.output
+        (k.output ++ take k.count k.answer) h.written k.written);
     failed = subst (λ n. Failed n c.stream.failures) h.failures k.failed;
   }
 
   pub answered_then_quit : (a b c : Exchange State) (cs ds : List Command)
-      → IsAnswered answers a b cs → has_quit cs ≡ false → IsQuit answers b c ds
+      → AreAnswered answers a b cs → has_quit cs ≡ false → IsQuit answers b c ds
       → IsQuit answers a c (cs ++ ds)
   answered_then_quit a b c cs ds h on k = record {
     front = cs ++ k.front;
     last = k.last;
     later = k.later;
     are = ap (λ l. cs ++ l) k.are ∙ sym (append_assoc cs k.front (k.last ∷ k.later));
-    unquit = unquit-append cs k.front on ∙ k.unquit;
+    no_quit = no_quit-append cs k.front on ∙ k.no_quit;
     quit = k.quit;
-    is_answered = subst (IsAnswered answers a c) (sym (append_assoc cs k.front (k.last ∷ [])))
+    is_answered = subst (AreAnswered answers a c) (sym (append_assoc cs k.front (k.last ∷ [])))
         (answered_then_answered a b c cs (k.front ++ k.last ∷ []) h k.is_answered);
   }
 
@@ -131,9 +131,9 @@ module _ {State : Type 0} (answers : State → Request → List ℕ → State �
     last = k.last;
     later = k.later ++ ds;
     are = ap (λ l. l ++ ds) k.are ∙ append_assoc k.front (k.last ∷ k.later) ds;
-    unquit = k.unquit;
+    no_quit = k.no_quit;
     before = k.before;
-    text = k.text;
+    output = k.output;
     answer = k.answer;
     answered = k.answered;
     cut = k.cut;
@@ -150,7 +150,7 @@ module _ {State : Type 0} (answers : State → Request → List ℕ → State �
     last = k.last;
     later = k.later ++ ds;
     are = ap (λ l. l ++ ds) k.are ∙ append_assoc k.front (k.last ∷ k.later) ds;
-    unquit = k.unquit;
+    no_quit = k.no_quit;
     quit = k.quit;
     is_answered = k.is_answered;
   }
@@ -160,9 +160,9 @@ module _ {State : Type 0} (answers : State → Request → List ℕ → State �
   pub one_answered : (a b : Exchange State) (c : Command) (reply : List ℕ)
       → Replies answers a.state (request_of c) reply b.state
       → Appends a.stream.taken b.stream.taken reply × (b.stream.failures ≡ a.stream.failures)
-      → IsAnswered answers a b (c ∷ [])
+      → AreAnswered answers a b (c ∷ [])
   one_answered a b c reply h k = record {
-    text = reply;
+    output = reply;
     answered = (reply, [], b.state, h, (refl, refl), sym (append-nil reply));
     written = k.0;
     failures = k.1;
@@ -177,9 +177,9 @@ module _ {State : Type 0} (answers : State → Request → List ℕ → State �
     last = c;
     later = [];
     are = refl;
-    unquit = refl;
+    no_quit = refl;
     before = a.state;
-    text = [];
+    output = [];
     answer = reply;
     answered = (refl, refl);
     cut = h;
@@ -192,13 +192,13 @@ module _ {State : Type 0} (answers : State → Request → List ℕ → State �
   -- a line
 
   quit_one : (a b : Exchange State) (c : Command) → has_quit (c ∷ []) ≡ true
-      → IsAnswered answers a b (c ∷ []) → IsQuit answers a b (c ∷ [])
+      → AreAnswered answers a b (c ∷ []) → IsQuit answers a b (c ∷ [])
   quit_one a b c q h = record {
     front = [];
     last = c;
     later = [];
     are = refl;
-    unquit = refl;
+    no_quit = refl;
     quit = by (is_quit (request_of c)) q;
     is_answered = h;
   }
@@ -209,7 +209,7 @@ module _ {State : Type 0} (answers : State → Request → List ℕ → State �
 
   pub found_quit : (a b : Exchange State) (line : List ℕ) (text : Option (List ℕ))
       → has_quit (found_commands line text) ≡ true
-      → IsAnswered answers a b (found_commands line text)
+      → AreAnswered answers a b (found_commands line text)
       → IsQuit answers a b (found_commands line text)
   found_quit a b [] None q h = absurd (cc)
   found_quit a b (x ∷ xs) None q h = quit_one a b (record { line = x ∷ xs; text = None }) q h
@@ -223,9 +223,9 @@ pub record IsUnder {State : Type 0} (answers : State → Request → List ℕ �
   pub front : List ℕ
   pub bytes_are : bytes ≡ front ++ rest
   pub commands : ended_commands bytes ≡ done ++ ended_commands rest
-  pub kept_is : kept bytes ≡ kept rest
-  pub is_answered : IsAnswered answers old now done
-  pub unquit : has_quit done ≡ false
+  pub pending_is : pending bytes ≡ pending rest
+  pub is_answered : AreAnswered answers old now done
+  pub no_quit : has_quit done ≡ false
 
 pub under_at_first : {State : Type 0} (answers : State → Request → List ℕ → State → Type 0)
     (a : Exchange State) (bytes : List ℕ) → IsUnder answers a a bytes bytes
@@ -235,9 +235,9 @@ under_at_first answers a bytes =
       front = [];
       bytes_are = refl;
       commands = refl;
-      kept_is = refl;
+      pending_is = refl;
       is_answered = answered_none answers a;
-      unquit = refl;
+      no_quit = refl;
     }
 
 module _ {State : Type 0} (answers : State → Request → List ℕ → State → Type 0)
@@ -248,48 +248,48 @@ module _ {State : Type 0} (answers : State → Request → List ℕ → State �
   all_done = h.commands ∙ (ap (λ l. h.done ++ l) commands
       ∙ sym (append_assoc h.done found (ended_commands next)))
 
-  pub under_more : kept rest ≡ kept next
+  pub under_more : pending rest ≡ pending next
       → (front : List ℕ) × (rest ≡ front ++ next) × (0 < length front)
-      → IsAnswered answers b c found → has_quit found ≡ false → IsUnder answers a c bytes next
+      → AreAnswered answers b c found → has_quit found ≡ false → IsUnder answers a c bytes next
   under_more same front answered on = record {
     done = h.done ++ found;
     front = h.front ++ front.0;
     bytes_are = h.bytes_are ∙ (ap (λ l. h.front ++ l) front.1
         ∙ sym (append_assoc h.front front.0 next));
     commands = all_done;
-    kept_is = h.kept_is ∙ same;
+    pending_is = h.pending_is ∙ same;
     is_answered = answered_then_answered answers a b c h.done found h.is_answered answered;
-    unquit = unquit-append h.done found h.unquit ∙ on;
+    no_quit = no_quit-append h.done found h.no_quit ∙ on;
   }
 
   pub under_cut : IsCut answers b c found → IsCut answers a c (ended_commands bytes)
   under_cut k = subst (IsCut answers a c) (sym all_done)
       (cut_more answers a c (h.done ++ found) (ended_commands next)
-      (answered_then_cut answers a b c h.done found h.is_answered h.unquit k))
+      (answered_then_cut answers a b c h.done found h.is_answered h.no_quit k))
 
   pub under_quit : IsQuit answers b c found → IsQuit answers a c (ended_commands bytes)
   under_quit k = subst (IsQuit answers a c) (sym all_done)
       (quit_more answers a c (h.done ++ found) (ended_commands next)
-      (answered_then_quit answers a b c h.done found h.is_answered h.unquit k))
+      (answered_then_quit answers a b c h.done found h.is_answered h.no_quit k))
 
 module _ {State : Type 0} (answers : State → Request → List ℕ → State → Type 0)
     (a b : Exchange State) (bytes rest : List ℕ) (h : IsUnder answers a b bytes rest)
-    (none : (ended_commands rest ≡ []) × (kept rest ≡ rest)) where
+    (none : (ended_commands rest ≡ []) × (pending rest ≡ rest)) where
   done_all : h.done ≡ ended_commands bytes
   done_all = sym (h.commands ∙ (ap (λ l. h.done ++ l) none.0 ∙ append-nil h.done))
 
-  pub under_answered : IsAnswered answers a b (ended_commands bytes)
-  under_answered = subst (IsAnswered answers a b) done_all h.is_answered
+  pub under_answered : AreAnswered answers a b (ended_commands bytes)
+  under_answered = subst (AreAnswered answers a b) done_all h.is_answered
 
-  pub under_unquit : has_quit (ended_commands bytes) ≡ false
-  under_unquit = ap has_quit (sym done_all) ∙ h.unquit
+  pub under_no_quit : has_quit (ended_commands bytes) ≡ false
+  under_no_quit = ap has_quit (sym done_all) ∙ h.no_quit
 
-  pub under_used : (kept bytes ≡ drop (length bytes - length rest) bytes)
+  pub under_used : (pending bytes ≡ drop (length bytes - length rest) bytes)
       × (length bytes - length rest ≤ length bytes)
   under_used =
       let size : length bytes - length rest ≡ length h.front =
       omega (arith, ap length h.bytes_are, length-append h.front rest) in (
-        h.kept_is ∙ (none.1 ∙ sym
+        h.pending_is ∙ (none.1 ∙ sym
             (ap (λ n. drop n bytes) size
             ∙ (ap (drop (length h.front)) h.bytes_are ∙ drop-length-append h.front rest))),
         omega arith,

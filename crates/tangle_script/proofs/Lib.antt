@@ -3,5 +3,5 @@ pub mod CommandLemmas
 pub mod ConversationLemmas
 pub mod BufferLemmas
 pub mod RunLemmas
-pub mod QuietConversation
+pub mod NothingReadLemmas
 pub mod ShortLemmas

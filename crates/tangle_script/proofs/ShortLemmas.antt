@@ -1,20 +1,20 @@
--- What is kept of a script is no longer than one of its commands.
+-- What is pending of a script is no longer than one of its commands.
 use Rattle.std.proofs.Common.{◌≡◌, ◌∙◌, inl, inr, ℕ, ◌<◌, ◌≤◌, ◌==◌, Bool, true, false, cond, length, List, [], ◌∷◌, ◌++◌, Option, Some, None, ap, subst, sym, refl, append_assoc, length-append, arith}
 use Rattle.std.specs.Prelude.{All, slice_index_or}
 use Rattle.std.specs.Io.KnownBytes.{Consumes}
 use Rattle.tangle_script.specs.Requests.{Command, Request, takes_text}
-use Rattle.tangle_script.specs.Commands.{all_commands, alone, commands_at_end, ended, ended_commands, kept, last_line, settled, textless, unended, waiting, with_head}
+use Rattle.tangle_script.specs.Commands.{all_commands, alone, commands_at_end, ended, ended_commands, pending, last_line, commands_of, textless, unended, waiting, after_waiting_line}
 use Rattle.tangle_script.specs.Script.{Conversation}
-use Rattle.tangle_script.specs.Endings.{ConversationEnds, command_room}
+use Rattle.tangle_script.specs.Endings.{ConversationEnds, short_command}
 use Rattle.tangle_script.specs.Endings.ConversationEnds.{IsAtQuit, IsAtInputEnd, IsUnread, IsTooLong, IsUnwritten, IsOutOfMemory}
 use Rattle.tangle_script.specs.Short.{HasFailed, HasShortCommands, command_size}
-use Rattle.tangle_script.proofs.CommandLemmas.{Waits, again_lines, again_rest, all_commands-kept, commands-append, ended_after, kept-append, read_waits, settled_head, unended_after, unended_unfed, waiting_head}
-use Rattle.tangle_script.proofs.QuietConversation.{small}
+use Rattle.tangle_script.proofs.CommandLemmas.{Waits, again_lines, again_rest, all_commands-pending, commands-append, ended_after, pending-append, read_waits, commands_of_head, unended_after, unended_no_feed, waiting_head}
+use Rattle.tangle_script.proofs.NothingReadLemmas.{small}
 
--- the lines of some bytes behind an unended line, where the script ends after them
+-- the lines of some bytes after an unended line, where the script ends after them
 
-abbrev lines_behind : List ℕ → List ℕ → List (List ℕ)
-lines_behind u ys = ended u ys ++ last_line (unended u ys)
+abbrev lines_after : List ℕ → List ℕ → List (List ℕ)
+lines_after u ys = ended u ys ++ last_line (unended u ys)
 
 -- the first of these lines is no shorter than the unended one
 abbrev Holding : List ℕ → List (List ℕ) → Type 0
@@ -25,12 +25,12 @@ holding_less : (u v : List ℕ) (ls : List (List ℕ)) → Holding (u ++ v) ls �
 holding_less u v [] h = omega (arith, length-append u v)
 holding_less u v (l ∷ ls) h = omega (arith, length-append u v)
 
-holding : (u ys : List ℕ) → Holding u (lines_behind u ys)
+holding : (u ys : List ℕ) → Holding u (lines_after u ys)
 holding [] [] = refl
 holding (b ∷ bs) [] = omega arith
 holding u (y ∷ ys) = by (y == 10) (holding_less u (y ∷ []) _ (holding (u ++ y ∷ []) ys))
   where
-    by : (t : Bool) → Holding u (lines_behind (u ++ y ∷ []) ys)
+    by : (t : Bool) → Holding u (lines_after (u ++ y ∷ []) ys)
         → Holding u (cond t (u ∷ ended [] ys) (ended (u ++ y ∷ []) ys)
         ++ last_line (cond t (unended [] ys) (unended (u ++ y ∷ []) ys)))
     by true h = omega arith
@@ -52,7 +52,7 @@ first_plain u ((b ∷ bs) ∷ ls) some h = by (takes_text (b ∷ bs)) ls
     l = b ∷ bs
 
     by : (t : Bool) (ls : List (List ℕ))
-        → FirstHas (length u) (cond t (settled (Some l) ls) (alone l ++ settled None ls)
+        → FirstHas (length u) (cond t (commands_of (Some l) ls) (alone l ++ commands_of None ls)
         ++ textless (cond t (waiting (Some l) ls) (waiting None ls)))
     by true [] = omega arith
     by true (t ∷ ts) = omega arith
@@ -62,12 +62,12 @@ first_headed : (l u : List ℕ) (ls : List (List ℕ)) → takes_text l ≡ true
     → FirstHas (length (l ++ 10 ∷ u)) (commands_at_end (l ∷ ls))
 first_headed l u ls t h =
     subst (FirstHas (length (l ++ 10 ∷ u)))
-    (sym (ap (λ r. r ++ textless (waiting None (l ∷ ls))) (settled_head l ls t)
-    ∙ ap (λ w. settled (Some l) ls ++ textless w) (waiting_head l ls t)))
+    (sym (ap (λ r. r ++ textless (waiting None (l ∷ ls))) (commands_of_head l ls t)
+    ∙ ap (λ w. commands_of (Some l) ls ++ textless w) (waiting_head l ls t)))
     (by ls h)
   where
     by : (ls : List (List ℕ)) → Holding u ls
-        → FirstHas (length (l ++ 10 ∷ u)) (settled (Some l) ls ++ textless (waiting (Some l) ls))
+        → FirstHas (length (l ++ 10 ∷ u)) (commands_of (Some l) ls ++ textless (waiting (Some l) ls))
     by [] h = omega (arith, length-append l (10 ∷ u))
     by (m ∷ ms) h = omega (arith, length-append l (10 ∷ u))
 
@@ -77,56 +77,56 @@ at_end bs xs r e f =
     ap (λ l. commands_at_end (l ++ last_line (unended [] bs))) e
     ∙ ap (λ l. commands_at_end (xs ++ last_line l)) f
 
-first_kept : (w : Option (List ℕ)) (u ys : List ℕ) → Waits w → ended [] u ≡ []
-    → 0 < length (with_head w u)
-    → FirstHas (length (with_head w u)) (all_commands (with_head w u ++ ys))
-first_kept None u ys h e some =
+first_pending : (w : Option (List ℕ)) (u ys : List ℕ) → Waits w → ended [] u ≡ []
+    → 0 < length (after_waiting_line w u)
+    → FirstHas (length (after_waiting_line w u)) (all_commands (after_waiting_line w u ++ ys))
+first_pending None u ys h e some =
     subst (FirstHas (length u))
     (sym (at_end (u ++ ys) _ _ (ended_after u ys e) (unended_after u ys e)))
-    (first_plain u (lines_behind u ys) some (holding u ys))
-first_kept (Some l) u ys h e some =
+    (first_plain u (lines_after u ys) some (holding u ys))
+first_pending (Some l) u ys h e some =
     subst (FirstHas (length (l ++ 10 ∷ u)))
     (sym (at_end ((l ++ 10 ∷ u) ++ ys) (l ∷ ended u ys) (unended u ys)
     (again_lines l u ys h.0 ∙ ap (λ r. l ∷ r) (ended_after u ys e))
     (again_rest l u ys h.0 ∙ unended_after u ys e)))
-    (first_headed l u (lines_behind u ys) h.1 (holding u ys))
+    (first_headed l u (lines_after u ys) h.1 (holding u ys))
 
--- what is kept begins the first command that has not ended
+-- what is pending begins the first command that has not ended
 
 all_split : (xs ys : List ℕ) → all_commands (xs ++ ys)
-    ≡ ended_commands xs ++ all_commands (kept xs ++ ys)
+    ≡ ended_commands xs ++ all_commands (pending xs ++ ys)
 all_split xs ys =
-    all_commands-kept (xs ++ ys)
-    ∙ (ap (λ l. l ++ all_commands (kept (xs ++ ys))) (commands-append xs ys)
-    ∙ (append_assoc (ended_commands xs) (ended_commands (kept xs ++ ys))
-    (all_commands (kept (xs ++ ys)))
+    all_commands-pending (xs ++ ys)
+    ∙ (ap (λ l. l ++ all_commands (pending (xs ++ ys))) (commands-append xs ys)
+    ∙ (append_assoc (ended_commands xs) (ended_commands (pending xs ++ ys))
+    (all_commands (pending (xs ++ ys)))
     ∙ ap (λ l. ended_commands xs ++ l)
-    (ap (λ k. ended_commands (kept xs ++ ys) ++ all_commands k) (kept-append xs ys)
-    ∙ sym (all_commands-kept (kept xs ++ ys)))))
+    (ap (λ k. ended_commands (pending xs ++ ys) ++ all_commands k) (pending-append xs ys)
+    ∙ sym (all_commands-pending (pending xs ++ ys)))))
 
-abbrev FitsRoom : Command → Type 0
-FitsRoom c = command_size c ≤ command_room
+abbrev IsShortCommand : Command → Type 0
+IsShortCommand c = command_size c ≤ short_command
 
-behind : (cs ds : List Command) (d : Command)
+after : (cs ds : List Command) (d : Command)
     → slice_index_or (cs ++ ds) (length cs) d ≡ slice_index_or ds 0 d
-behind [] ds d = refl
-behind (c ∷ cs) ds d = behind cs ds d
+after [] ds d = refl
+after (c ∷ cs) ds d = after cs ds d
 
-first_fits : (cs ds : List Command) (n : ℕ) → All FitsRoom (cs ++ ds) → FirstHas n ds
-    → n ≤ command_room
+first_fits : (cs ds : List Command) (n : ℕ) → All IsShortCommand (cs ++ ds) → FirstHas n ds
+    → n ≤ short_command
 first_fits cs [] n all first = absurd first
 first_fits cs (c ∷ ds) n all first =
     let inside : length cs < length (cs ++ c ∷ ds) = omega (arith, length-append cs (c ∷ ds)) in
-    let fits : FitsRoom c = subst FitsRoom (behind cs (c ∷ ds) c) (all (length cs) c inside) in
+    let fits : IsShortCommand c = subst IsShortCommand (after cs (c ∷ ds) c) (all (length cs) c inside) in
     omega (arith, first, fits)
 
-kept_fits : (xs ys : List ℕ) → HasShortCommands (xs ++ ys) → command_room < length (kept xs) → ⊥
-kept_fits xs ys short long =
-    let some : 0 < length (kept xs) = omega (arith, long) in
-    let fits = first_fits (ended_commands xs) (all_commands (kept xs ++ ys)) (length (kept xs))
-    (subst (All FitsRoom) (all_split xs ys) short)
-    (first_kept (waiting None (ended [] xs)) (unended [] xs) ys (read_waits xs)
-    (unended_unfed [] xs refl) some) in
+pending_fits : (xs ys : List ℕ) → HasShortCommands (xs ++ ys) → short_command < length (pending xs) → ⊥
+pending_fits xs ys short long =
+    let some : 0 < length (pending xs) = omega (arith, long) in
+    let fits = first_fits (ended_commands xs) (all_commands (pending xs ++ ys)) (length (pending xs))
+    (subst (All IsShortCommand) (all_split xs ys) short)
+    (first_pending (waiting None (ended [] xs)) (unended [] xs) ys (read_waits xs)
+    (unended_no_feed [] xs refl) some) in
     omega (arith, fits, long)
 
 -- what was read is a prefix of the script
@@ -137,11 +137,11 @@ is_front script read (Some rest) given = (rest, given)
 
 module _ {State : Type 0} (answers : State → Request → List ℕ → State → Type 0)
     (has_error : State → Bool → Type 0) (old new : Conversation State) (script : List ℕ)
-    (coming : old.coming ≡ Some script) where
-  read_front : (read : List ℕ) → Consumes old.coming new.coming read
+    (remaining : old.remaining ≡ Some script) where
+  read_front : (read : List ℕ) → Consumes old.remaining new.remaining read
       → (rest : List ℕ) × (script ≡ read ++ rest)
-  read_front read given = is_front script read new.coming
-      (subst (λ (a : Option (List ℕ)). Consumes a new.coming read) coming given)
+  read_front read given = is_front script read new.remaining
+      (subst (λ (a : Option (List ℕ)). Consumes a new.remaining read) remaining given)
 
   pub short_needs_no_memory : HasShortCommands script → ConversationEnds answers has_error old new 3
       → HasFailed old new script
@@ -166,4 +166,4 @@ module _ {State : Type 0} (answers : State → Request → List ℕ → State �
   ]))
   short_needs_no_memory short (IsOutOfMemory read given within same long on answered status) =
       let front = read_front read given in
-      absurd (kept_fits read front.0 (subst HasShortCommands front.1 short) long)
+      absurd (pending_fits read front.0 (subst HasShortCommands front.1 short) long)

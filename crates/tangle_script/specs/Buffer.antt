@@ -1,12 +1,12 @@
 -- What a clause reads of a buffer. No public clause cites this module.
 use Rattle.std.specs.Prelude.{ℕ, List, length, take}
-use Rattle.tangle_script.specs.Rooms.{in_use}
+use Rattle.tangle_script.specs.BufferSpace.{in_use}
 use Rattle.tangle_script.specs.declared.buffer.Buffer.{Buffer}
 
 -- the bytes in it
 abbrev pub bytes : Buffer → List ℕ
-bytes b = take b.len (in_use b.room b.long.items)
+bytes b = take b.len (in_use b.short b.long.items)
 
--- how many there is room for
+-- how many bytes the space has
 abbrev pub size : Buffer → ℕ
-size b = length (in_use b.room b.long.items)
+size b = length (in_use b.short b.long.items)

@@ -22,11 +22,11 @@ alone [] = []
 alone (b ∷ bs) = record { line = b ∷ bs; text = None } ∷ []
 
 -- the commands of these lines, where a line may be before them that waits for its text
-abbrev pub settled : Option (List ℕ) → List (List ℕ) → List Command
-settled head [] = []
-settled None (line ∷ lines) =
-    if takes_text line then settled (Some line) lines else alone line ++ settled None lines
-settled (Some head) (line ∷ lines) = record { line = head; text = Some line } ∷ settled None lines
+abbrev pub commands_of : Option (List ℕ) → List (List ℕ) → List Command
+commands_of head [] = []
+commands_of None (line ∷ lines) =
+    if takes_text line then commands_of (Some line) lines else alone line ++ commands_of None lines
+commands_of (Some head) (line ∷ lines) = record { line = head; text = Some line } ∷ commands_of None lines
 
 -- and the line that waits for its text after them
 abbrev pub waiting : Option (List ℕ) → List (List ℕ) → Option (List ℕ)
@@ -42,20 +42,21 @@ textless (Some head) = record { line = head; text = None } ∷ []
 
 -- the commands that have ended in what was read
 abbrev pub ended_commands : List ℕ → List Command
-ended_commands read = settled None (ended [] read)
+ended_commands read = commands_of None (ended [] read)
 
-abbrev pub with_head : Option (List ℕ) → List ℕ → List ℕ
-with_head None rest = rest
-with_head (Some head) rest = head ++ 10 ∷ rest
+-- these bytes, after a line that waits for its text, if there is one
+abbrev pub after_waiting_line : Option (List ℕ) → List ℕ → List ℕ
+after_waiting_line None rest = rest
+after_waiting_line (Some head) rest = head ++ 10 ∷ rest
 
--- the bytes that are kept until more is read: a line that waits for its text, and what follows the
--- last line feed
-abbrev pub kept : List ℕ → List ℕ
-kept read = with_head (waiting None (ended [] read)) (unended [] read)
+-- the bytes that are pending until more is read: a line that waits for its text, and what follows
+-- the last line feed
+abbrev pub pending : List ℕ → List ℕ
+pending read = after_waiting_line (waiting None (ended [] read)) (unended [] read)
 
 -- the commands at the end of input: a last line without a line feed is a line
 abbrev pub commands_at_end : List (List ℕ) → List Command
-commands_at_end lines = settled None lines ++ textless (waiting None lines)
+commands_at_end lines = commands_of None lines ++ textless (waiting None lines)
 
 abbrev pub all_commands : List ℕ → List Command
 all_commands read = commands_at_end (ended [] read ++ last_line (unended [] read))
@@ -66,9 +67,9 @@ found_commands line None = alone line
 found_commands line (Some text) = record { line = line; text = Some text } ∷ []
 
 -- an empty line without a text is no command
-abbrev pub is_nothing : List ℕ → Option (List ℕ) → Bool
-is_nothing [] None = true
-is_nothing _ _ = false
+abbrev pub is_no_command : List ℕ → Option (List ℕ) → Bool
+is_no_command [] None = true
+is_no_command _ _ = false
 
 -- bytes in which no command has ended: at most one line ended, and it waits for its text
 abbrev pub OnlyWaits : List ℕ → Type 0

@@ -3,16 +3,16 @@ use Rattle.std.specs.Prelude.{◌≡◌, ◌<◌, ◌≤◌, ◌⊎◌, ℕ, Boo
 use Rattle.std.specs.Io.KnownBytes.{Consumes, IsAtEnd}
 use Rattle.tangle_streams.specs.Streams.{Failed}
 use Rattle.tangle_script.specs.Requests.{Request}
-use Rattle.tangle_script.specs.Commands.{all_commands, ended_commands, kept}
-use Rattle.tangle_script.specs.Script.{IsCut, IsQuit, IsAnswered, Conversation, has_quit}
+use Rattle.tangle_script.specs.Commands.{all_commands, ended_commands, pending}
+use Rattle.tangle_script.specs.Script.{IsCut, IsQuit, AreAnswered, Conversation, has_quit}
 
 -- the most bytes of a script
 abbrev pub script_limit : ℕ
 script_limit = 67108864
 
--- the bytes of one command, with its line feeds, that a run has room for without an allocation
-abbrev pub command_room : ℕ
-command_room = 4096
+-- the most bytes of one command, with its line feeds, for which a run needs no allocation
+abbrev pub short_command : ℕ
+short_command = 4096
 
 -- the status of a run that came to its end: whether an error is among the faults
 abbrev pub status_by : Bool → ℕ
@@ -29,43 +29,43 @@ abbrev pub IsCutIn : {State : Type 0} → (State → Request → List ℕ → St
     → Conversation State → Conversation State → List ℕ → Type 0
 IsCutIn answers old new read =
     IsCut answers old.exchange new.exchange (ended_commands read)
-    ⊎ (IsAtEnd new.coming × (has_quit (ended_commands read) ≡ false)
+    ⊎ (IsAtEnd new.remaining × (has_quit (ended_commands read) ≡ false)
     × IsCut answers old.exchange new.exchange (all_commands read))
 
 -- How a run ends, by what was read of the script.
 pub data ConversationEnds {State : Type 0} (answers : State → Request → List ℕ → State → Type 0)
     (has_error : State → Bool → Type 0) (old new : Conversation State) (status : ℕ) : Type 0 where
   -- 0 or 1: a `quit` was read, and all commands up to it are answered
-  IsAtQuit : (read : List ℕ) → Consumes old.coming new.coming read → length read ≤ script_limit
+  IsAtQuit : (read : List ℕ) → Consumes old.remaining new.remaining read → length read ≤ script_limit
       → new.reader_failures ≡ old.reader_failures
       → IsQuit answers old.exchange new.exchange (ended_commands read)
       → IsStatus has_error new.exchange.state status → ConversationEnds answers has_error old new status
   -- 0 or 1: the script came to its end, and all its commands are answered
-  IsAtInputEnd : (read : List ℕ) → Consumes old.coming new.coming read → length read ≤ script_limit
+  IsAtInputEnd : (read : List ℕ) → Consumes old.remaining new.remaining read → length read ≤ script_limit
       → new.reader_failures ≡ old.reader_failures
-      → IsAtEnd new.coming → has_quit (ended_commands read) ≡ false
-      → IsAnswered answers old.exchange new.exchange (all_commands read)
+      → IsAtEnd new.remaining → has_quit (ended_commands read) ≡ false
+      → AreAnswered answers old.exchange new.exchange (all_commands read)
       → IsStatus has_error new.exchange.state status → ConversationEnds answers has_error old new status
   -- 3: the reader failed, and the commands that had ended are answered
-  IsUnread : (read : List ℕ) → Consumes old.coming new.coming read → length read ≤ script_limit
+  IsUnread : (read : List ℕ) → Consumes old.remaining new.remaining read → length read ≤ script_limit
       → Failed old.reader_failures new.reader_failures → has_quit (ended_commands read) ≡ false
-      → IsAnswered answers old.exchange new.exchange (ended_commands read)
+      → AreAnswered answers old.exchange new.exchange (ended_commands read)
       → status ≡ 3 → ConversationEnds answers has_error old new status
   -- 3: a byte came past the most of a script, and the commands that had ended are answered
-  IsTooLong : (read : List ℕ) (more : ℕ) → Consumes old.coming new.coming (read ++ more ∷ [])
+  IsTooLong : (read : List ℕ) (more : ℕ) → Consumes old.remaining new.remaining (read ++ more ∷ [])
       → length read ≡ script_limit → new.reader_failures ≡ old.reader_failures
       → has_quit (ended_commands read) ≡ false
-      → IsAnswered answers old.exchange new.exchange (ended_commands read)
+      → AreAnswered answers old.exchange new.exchange (ended_commands read)
       → status ≡ 3 → ConversationEnds answers has_error old new status
   -- 3: the writer failed in the answer to a command that had ended, or to the last one at the end
   -- of the script
-  IsUnwritten : (read : List ℕ) → Consumes old.coming new.coming read → length read ≤ script_limit
+  IsUnwritten : (read : List ℕ) → Consumes old.remaining new.remaining read → length read ≤ script_limit
       → new.reader_failures ≡ old.reader_failures
       → IsCutIn answers old new read → status ≡ 3 → ConversationEnds answers has_error old new status
-  -- 3: out of memory for a command of which more bytes came than a run has room for, and the
-  -- commands that had ended are answered
-  IsOutOfMemory : (read : List ℕ) → Consumes old.coming new.coming read → length read ≤ script_limit
+  -- 3: out of memory for a command of which more bytes came than a short one has, and the commands
+  -- that had ended are answered
+  IsOutOfMemory : (read : List ℕ) → Consumes old.remaining new.remaining read → length read ≤ script_limit
       → new.reader_failures ≡ old.reader_failures
-      → command_room < length (kept read) → has_quit (ended_commands read) ≡ false
-      → IsAnswered answers old.exchange new.exchange (ended_commands read)
+      → short_command < length (pending read) → has_quit (ended_commands read) ≡ false
+      → AreAnswered answers old.exchange new.exchange (ended_commands read)
       → status ≡ 3 → ConversationEnds answers has_error old new status

@@ -1,10 +1,10 @@
 pub mod Requests
 pub mod Table
-pub mod Rooms
+pub mod BufferSpace
 pub mod Buffer
 pub mod Commands
 pub mod Script
 pub mod Endings
 pub mod Turns
-pub mod Quiet
+pub mod NothingRead
 pub mod Short

@@ -20,7 +20,7 @@ pub data Request : Type 0 where
   -- line marks are to be written in full, or as line feeds alone
   MarksFull : Request
   MarksNone : Request
-  -- a list of edits is to be open, made whole, or dropped
+  -- a list of edits is to be open, committed, or dropped
   Begin : Request
   Commit : Request
   Cancel : Request
@@ -30,22 +30,22 @@ pub data Request : Type 0 where
   BadCommand : Request
 
 -- a request by the bytes of its file and text
-abbrev pub asked : Asked → Request
-asked (variant.Insert at file text) = Insert at file.now text.now
-asked (variant.Replace at file text) = Replace at file.now text.now
-asked (variant.Remove at file) = Remove at file.now
-asked (variant.Create file) = Create file.now
-asked (variant.Discard file) = Discard file.now
-asked (variant.Show file) = Show file.now
-asked variant.MarksFull = MarksFull
-asked variant.MarksNone = MarksNone
-asked variant.Begin = Begin
-asked variant.Commit = Commit
-asked variant.Cancel = Cancel
-asked variant.Faults = Faults
-asked variant.Work = Work
-asked variant.Quit = Quit
-asked variant.BadCommand = BadCommand
+abbrev pub request_read : Asked → Request
+request_read (variant.Insert at file text) = Insert at file.now text.now
+request_read (variant.Replace at file text) = Replace at file.now text.now
+request_read (variant.Remove at file) = Remove at file.now
+request_read (variant.Create file) = Create file.now
+request_read (variant.Discard file) = Discard file.now
+request_read (variant.Show file) = Show file.now
+request_read variant.MarksFull = MarksFull
+request_read variant.MarksNone = MarksNone
+request_read variant.Begin = Begin
+request_read variant.Commit = Commit
+request_read variant.Cancel = Cancel
+request_read variant.Faults = Faults
+request_read variant.Work = Work
+request_read variant.Quit = Quit
+request_read variant.BadCommand = BadCommand
 
 -- what follows a word at the front of a line
 abbrev pub after_word : List ℕ → List ℕ → Option (List ℕ)
@@ -74,8 +74,8 @@ numbered request None = BadCommand
 numbered request (Some p) = request p.0 p.1
 
 -- a line that is one of these words
-abbrev pub bare_request : List ℕ → Request
-bare_request line =
+abbrev pub word_request : List ℕ → Request
+word_request line =
     if bytes_eq line (codes "marks full") then MarksFull
     else if bytes_eq line (codes "marks none") then MarksNone
     else if bytes_eq line (codes "begin") then Begin
@@ -92,7 +92,7 @@ file_request line =
     row (after_word (codes "remove ") line) (λ rest. numbered Remove (number_and_file 0 0 rest))
     (row (after_word (codes "create ") line) Create
     (row (after_word (codes "discard ") line) Discard
-    (row (after_word (codes "show ") line) Show (bare_request line))))
+    (row (after_word (codes "show ") line) Show (word_request line))))
 
 -- a line with a text
 abbrev pub text_request : List ℕ → List ℕ → Request

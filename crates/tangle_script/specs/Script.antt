@@ -1,4 +1,4 @@
--- How a script is answered, and how a run of it ends.
+-- How a script is answered.
 use Rattle.std.specs.Prelude.{◌≡◌, ◌<◌, ◌⊎◌, ℕ, Bool, true, false, List, [], ◌∷◌, ◌++◌, codes, length, take, Option, Result, Ok, Err}
 use Rattle.std.specs.List.{list_any}
 use Rattle.std.specs.Io.KnownBytes.{Appends}
@@ -16,63 +16,63 @@ exchange state stream = record { state = state; stream = stream }
 -- and a reader
 pub record Conversation (State : Type 0) : Type 0 where
   pub exchange : Exchange State
-  pub coming : Option (List ℕ)
+  pub remaining : Option (List ℕ)
   pub reader_failures : ℕ
 
 abbrev pub conversation : {State : Type 0} → State → Stream → Option (List ℕ) → ℕ → Conversation State
-conversation state stream coming reader_failures = record {
+conversation state stream remaining reader_failures = record {
   exchange = exchange state stream;
-  coming = coming;
+  remaining = remaining;
   reader_failures = reader_failures;
 }
 
--- A text was written: the writer has all of it and did not fail, or has a prefix of it and failed.
-abbrev pub WritesText : {T E : Type 0} → Stream → Stream → List ℕ → Result T E → Type 0
-WritesText old new text (Ok done) = Appends old.taken new.taken text × (new.failures ≡ old.failures)
-WritesText old new text (Err fault) =
-    (n : ℕ) × (n < length text) × Appends old.taken new.taken (take n text)
+-- An answer was written: the writer has all of it and did not fail, or has a prefix of it and failed.
+abbrev pub WritesAnswer : {T E : Type 0} → Stream → Stream → List ℕ → Result T E → Type 0
+WritesAnswer old new output (Ok done) = Appends old.taken new.taken output × (new.failures ≡ old.failures)
+WritesAnswer old new output (Err fault) =
+    (n : ℕ) × (n < length output) × Appends old.taken new.taken (take n output)
     × Failed old.failures new.failures
 
 -- some command ends the run
 abbrev pub has_quit : List Command → Bool
 has_quit commands = list_any (λ c. is_quit (request_of c)) commands
 
--- A project says which text answers a request, and which state comes after it.
+-- A project says which output answers a request, and which state comes after it.
 module _ {State : Type 0} (answers : State → Request → List ℕ → State → Type 0) where
   -- one answer: the project's own, or out of memory for an edit, which then changes nothing
   abbrev pub Replies : State → Request → List ℕ → State → Type 0
-  Replies s r text t =
-      answers s r text t ⊎ ((is_edit r ≡ true) × (text ≡ codes "no NoMemory\n") × (t ≡ s))
+  Replies s r output t =
+      answers s r output t ⊎ ((is_edit r ≡ true) × (output ≡ codes "no NoMemory\n") × (t ≡ s))
 
   -- the answers to a list of commands, one after another
   abbrev pub Dialogue : State → List Command → List ℕ → State → Type 0
-  Dialogue s [] text t = (text ≡ []) × (t ≡ s)
-  Dialogue s (c ∷ cs) text t =
+  Dialogue s [] output t = (output ≡ []) × (t ≡ s)
+  Dialogue s (c ∷ cs) output t =
       (first rest : List ℕ) × (mid : State) × Replies s (request_of c) first mid
-      × Dialogue mid cs rest t × (text ≡ first ++ rest)
+      × Dialogue mid cs rest t × (output ≡ first ++ rest)
 
   -- these commands were answered, and the writer has just the answers and did not fail
-  pub record IsAnswered (old new : Exchange State) (commands : List Command) : Type 0 where
-    pub text : List ℕ
-    pub answered : Dialogue old.state commands text new.state
-    pub written : Appends old.stream.taken new.stream.taken text
+  pub record AreAnswered (old new : Exchange State) (commands : List Command) : Type 0 where
+    pub output : List ℕ
+    pub answered : Dialogue old.state commands output new.state
+    pub written : Appends old.stream.taken new.stream.taken output
     pub failures : new.stream.failures ≡ old.stream.failures
 
-  -- the writer failed, and has the answers to a prefix of the commands and a part of one more
+  -- the writer failed, and has the answers to a prefix of the commands and a prefix of one more
   pub record IsCut (old new : Exchange State) (commands : List Command) : Type 0 where
     pub front : List Command
     pub last : Command
     pub later : List Command
     pub are : commands ≡ front ++ last ∷ later
-    pub unquit : has_quit front ≡ false
+    pub no_quit : has_quit front ≡ false
     pub before : State
-    pub text : List ℕ
+    pub output : List ℕ
     pub answer : List ℕ
-    pub answered : Dialogue old.state front text before
+    pub answered : Dialogue old.state front output before
     pub cut : Replies before (request_of last) answer new.state
     pub count : ℕ
     pub within : count < length answer
-    pub written : Appends old.stream.taken new.stream.taken (text ++ take count answer)
+    pub written : Appends old.stream.taken new.stream.taken (output ++ take count answer)
     pub failed : Failed old.stream.failures new.stream.failures
 
   -- the commands up to the first `quit` were answered
@@ -81,6 +81,6 @@ module _ {State : Type 0} (answers : State → Request → List ℕ → State �
     pub last : Command
     pub later : List Command
     pub are : commands ≡ front ++ last ∷ later
-    pub unquit : has_quit front ≡ false
+    pub no_quit : has_quit front ≡ false
     pub quit : is_quit (request_of last) ≡ true
-    pub is_answered : IsAnswered old new (front ++ last ∷ [])
+    pub is_answered : AreAnswered old new (front ++ last ∷ [])

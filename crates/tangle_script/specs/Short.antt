@@ -4,19 +4,19 @@ use Rattle.tangle_streams.specs.Streams.{Failed}
 use Rattle.tangle_script.specs.Requests.{Command, Request}
 use Rattle.tangle_script.specs.Commands.{all_commands}
 use Rattle.tangle_script.specs.Script.{Conversation}
-use Rattle.tangle_script.specs.Endings.{ConversationEnds, command_room, script_limit}
+use Rattle.tangle_script.specs.Endings.{ConversationEnds, short_command, script_limit}
 
 abbrev pub text_size : Option (List ℕ) → ℕ
 text_size None = 0
 text_size (Some text) = length text + 1
 
--- the bytes of a command, with a line feed behind its line and behind its text
+-- the bytes of a command, with a line feed after its line and after its text
 abbrev pub command_size : Command → ℕ
 command_size c = length c.line + 1 + text_size c.text
 
--- a run has room for each command of the script
+-- each command of the script is short
 abbrev pub HasShortCommands : List ℕ → Type 0
-HasShortCommands script = All (λ c. command_size c ≤ command_room) (all_commands script)
+HasShortCommands script = All (λ c. command_size c ≤ short_command) (all_commands script)
 
 -- the reader or the writer failed, or the script is longer than a script may be
 abbrev pub HasFailed : {State : Type 0} → Conversation State → Conversation State → List ℕ → Type 0
@@ -29,5 +29,5 @@ HasFailed old new script =
 abbrev pub ShortNeedsNoMemory : {State : Type 0} → (State → Request → List ℕ → State → Type 0)
     → (State → Bool → Type 0) → Type 0
 ShortNeedsNoMemory {State} answers has_error =
-    (old new : Conversation State) (script : List ℕ) → old.coming ≡ Some script → HasShortCommands script
+    (old new : Conversation State) (script : List ℕ) → old.remaining ≡ Some script → HasShortCommands script
     → ConversationEnds answers has_error old new 3 → HasFailed old new script

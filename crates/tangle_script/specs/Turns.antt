@@ -3,8 +3,8 @@ use Rattle.std.specs.Prelude.{◌≡◌, ℕ, Bool, true, false, List, [], ◌�
 use Rattle.std.specs.Io.KnownBytes.{Consumes, IsAtEnd, Keeps}
 use Rattle.tangle_streams.specs.Streams.{one_more_failure}
 use Rattle.tangle_script.specs.Requests.{Command, Request}
-use Rattle.tangle_script.specs.Commands.{ended_commands, kept}
-use Rattle.tangle_script.specs.Script.{IsCut, IsQuit, IsAnswered, Conversation, Exchange, has_quit}
+use Rattle.tangle_script.specs.Commands.{ended_commands, pending}
+use Rattle.tangle_script.specs.Script.{IsCut, IsQuit, AreAnswered, Conversation, Exchange, has_quit}
 use Rattle.tangle_script.specs.Endings.{IsStatus, ConversationEnds}
 use Rattle.tangle_script.specs.declared.answering.End.{End}
 use Rattle.tangle_script.specs.declared.answering.End.TheVariants.{Done, Failed as IsFailed}
@@ -15,15 +15,16 @@ module _ {State : Type 0} (answers : State → Request → List ℕ → State �
   Breaks Done old new commands = IsQuit answers old new commands
   Breaks IsFailed old new commands = IsCut answers old new commands
 
-  -- so many bytes were read, the commands that ended in them are answered, and these bytes are kept
-  pub record IsMidway (old now : Conversation State) (pending : List ℕ) (count : ℕ) : Type 0 where
+  -- so many bytes were read, the commands that ended in them are answered, and these bytes are in the
+  -- buffer
+  pub record IsMidway (old now : Conversation State) (buffered : List ℕ) (count : ℕ) : Type 0 where
     pub read : List ℕ
-    pub given : Consumes old.coming now.coming read
+    pub given : Consumes old.remaining now.remaining read
     pub counted : length read ≡ count
     pub reader_failures : now.reader_failures ≡ old.reader_failures
-    pub unquit : has_quit (ended_commands read) ≡ false
-    pub is_answered : IsAnswered answers old.exchange now.exchange (ended_commands read)
-    pub pending_is : pending ≡ kept read
+    pub no_quit : has_quit (ended_commands read) ≡ false
+    pub is_answered : AreAnswered answers old.exchange now.exchange (ended_commands read)
+    pub buffered_is : buffered ≡ pending read
 
   -- a run came to its end, and its status is that of its faults
   abbrev pub EndsAnswered : (State → Bool → Type 0) → Conversation State → Conversation State → Type 0

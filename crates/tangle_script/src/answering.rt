@@ -2,12 +2,12 @@
 ghost use Rattle.std.specs.Prelude.{◌≡◌, ◌≤◌, drop, length, false, IfErr, IfOk};
 ghost use Rattle.std.specs.Option.{option_copied};
 ghost use Rattle.tangle_script.specs.Commands.{OnlyWaits, all_commands, ended_commands};
-ghost use Rattle.tangle_script.specs.Commands.{found_commands, is_nothing, kept};
-ghost use Rattle.tangle_script.specs.Script.{IsCut, IsAnswered, has_quit, exchange};
+ghost use Rattle.tangle_script.specs.Commands.{found_commands, is_no_command, pending};
+ghost use Rattle.tangle_script.specs.Script.{IsCut, AreAnswered, has_quit, exchange};
 ghost use Rattle.tangle_script.specs.Turns.{Breaks};
 ghost use Rattle.tangle_script.specs.declared.answering.End.TheVariants.{Failed};
 
-use crate::commands::{first_command, last_parts};
+use crate::commands::{first_command, last_command};
 use crate::project::{Project, SinkFailed};
 use crate::request::parse;
 use std::alloc::Global;
@@ -23,7 +23,7 @@ pub enum End {
 }
 
 fn is_no_command(line: &[u8], text: Option<&[u8]>) -> bool
-    ensures { result ≡ is_nothing line.now (option_copied text.entry) }
+    ensures { result ≡ is_no_command line.now (option_copied text.entry) }
 {
     match text {
         Some(_) => false,
@@ -31,60 +31,65 @@ fn is_no_command(line: &[u8], text: Option<&[u8]>) -> bool
     }
 }
 
-// Answers a line with its text, and says whether the run ends after it. An empty line is no
+// Answers a line with its text, and returns whether the run ends after it. An empty line is no
 // command.
 fn answer_line<P: Project, S: Sink>(
     alloc: Global,
-    held: &mut P::Held,
+    session: &mut P::Session,
     draft: &mut P::Draft,
     line: &[u8],
     text: Option<&[u8]>,
     sink: &mut S,
 ) -> Result<bool, SinkFailed>
-    ensures answered { IfOk result (λ _. IsAnswered P.answers
-        (exchange (P.state held.old draft.old) (S.stream sink.old))
-        (exchange (P.state held.new draft.new) (S.stream sink.new))
+    ensures answered { IfOk result (λ _. AreAnswered P.answers
+        (exchange (P.state session.old draft.old) (S.stream sink.old))
+        (exchange (P.state session.new draft.new) (S.stream sink.new))
         (found_commands line.now (option_copied text.entry))) }
     ensures quit { IfOk result (λ quit.
         has_quit (found_commands line.now (option_copied text.entry)) ≡ quit) }
     ensures cut { IfErr result (λ _. IsCut P.answers
-        (exchange (P.state held.old draft.old) (S.stream sink.old))
-        (exchange (P.state held.new draft.new) (S.stream sink.new))
+        (exchange (P.state session.old draft.old) (S.stream sink.old))
+        (exchange (P.state session.new draft.new) (S.stream sink.new))
         (found_commands line.now (option_copied text.entry))) }
 {
     if is_no_command(line, text) {
         return Ok(false);
     }
     let request = parse(line, text);
-    match P::answer(alloc, held, draft, &request, sink) {
+    match P::answer(alloc, session, draft, &request, sink) {
         Ok(_) => Ok(request.is_quit()),
         Err(fault) => Err(fault),
     }
 }
 
-/// Answers the commands that have ended in the bytes, and says how many bytes these are.
+/// Answers the commands that have ended in the bytes, and returns how many bytes these are.
+///
+/// # Errors
+///
+/// `End::Done` where one of them is `quit`, after its answer; `End::Failed` where the sink failed
+/// before it took all of an answer.
 pub fn answer_all<P: Project, S: Sink>(
     alloc: Global,
-    held: &mut P::Held,
+    session: &mut P::Session,
     draft: &mut P::Draft,
     bytes: &[u8],
     sink: &mut S,
 ) -> Result<usize, End>
-    ensures answered { IfOk result (λ _. IsAnswered P.answers
-        (exchange (P.state held.old draft.old) (S.stream sink.old))
-        (exchange (P.state held.new draft.new) (S.stream sink.new))
+    ensures answered { IfOk result (λ _. AreAnswered P.answers
+        (exchange (P.state session.old draft.old) (S.stream sink.old))
+        (exchange (P.state session.new draft.new) (S.stream sink.new))
         (ended_commands bytes.now)) }
-    ensures unquit { IfOk result (λ _. has_quit (ended_commands bytes.now) ≡ false) }
+    ensures no_quit { IfOk result (λ _. has_quit (ended_commands bytes.now) ≡ false) }
     ensures used { IfOk result (λ used.
-        (kept bytes.now ≡ drop used bytes.now) × (used ≤ length bytes.now)) }
+        (pending bytes.now ≡ drop used bytes.now) × (used ≤ length bytes.now)) }
     ensures breaks { IfErr result (λ end. Breaks P.answers end
-        (exchange (P.state held.old draft.old) (S.stream sink.old))
-        (exchange (P.state held.new draft.new) (S.stream sink.new))
+        (exchange (P.state session.old draft.old) (S.stream sink.old))
+        (exchange (P.state session.new draft.new) (S.stream sink.new))
         (ended_commands bytes.now)) }
 {
     let mut rest = bytes;
     while let Some(found) = first_command(rest) {
-        match answer_line::<P, S>(alloc, held, draft, found.line, found.text, sink) {
+        match answer_line::<P, S>(alloc, session, draft, found.line, found.text, sink) {
             Err(_) => return Err(End::Failed),
             Ok(true) => return Err(End::Done),
             Ok(false) => {}
@@ -96,25 +101,29 @@ pub fn answer_all<P: Project, S: Sink>(
 
 /// Answers the command at the end of a script: a line without a line feed, or one whose text has
 /// not ended.
+///
+/// # Errors
+///
+/// `End::Failed` where the sink failed before it took all of the answer.
 pub fn answer_last<P: Project, S: Sink>(
     alloc: Global,
-    held: &mut P::Held,
+    session: &mut P::Session,
     draft: &mut P::Draft,
     bytes: &[u8],
     sink: &mut S,
 ) -> Result<(), End>
     requires { OnlyWaits bytes.now }
-    ensures answered { IfOk result (λ _. IsAnswered P.answers
-        (exchange (P.state held.old draft.old) (S.stream sink.old))
-        (exchange (P.state held.new draft.new) (S.stream sink.new))
+    ensures answered { IfOk result (λ _. AreAnswered P.answers
+        (exchange (P.state session.old draft.old) (S.stream sink.old))
+        (exchange (P.state session.new draft.new) (S.stream sink.new))
         (all_commands bytes.now)) }
     ensures cut { IfErr result (λ end. (end ≡ Failed) × IsCut P.answers
-        (exchange (P.state held.old draft.old) (S.stream sink.old))
-        (exchange (P.state held.new draft.new) (S.stream sink.new))
+        (exchange (P.state session.old draft.old) (S.stream sink.old))
+        (exchange (P.state session.new draft.new) (S.stream sink.new))
         (all_commands bytes.now)) }
 {
-    let (line, text) = last_parts(bytes);
-    match answer_line::<P, S>(alloc, held, draft, line, text, sink) {
+    let (line, text) = last_command(bytes);
+    match answer_line::<P, S>(alloc, session, draft, line, text, sink) {
         Ok(_) => Ok(()),
         Err(_) => Err(End::Failed),
     }

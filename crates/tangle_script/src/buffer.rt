@@ -1,9 +1,9 @@
-//! The bytes that are kept until more of a script is read.
+//! The bytes of a script that wait for the rest of their command.
 ghost use Rattle.std.specs.Prelude.{◌≡◌, ◌<◌, ◌≤◌, ◌+◌, ℕ, List, [], ◌++◌, length, take, drop};
 ghost use Rattle.std.specs.Prelude.{IfSome, IfNone, OnOk, OnErr};
 ghost use Rattle.std.specs.Io.KnownBytes.{Consumes, IsAtEnd, Keeps};
 ghost use Rattle.tangle_streams.specs.Feeds.{counted_read};
-ghost use Rattle.tangle_script.specs.Rooms.{in_use, chunk, stack_room};
+ghost use Rattle.tangle_script.specs.BufferSpace.{in_use, chunk, stack_size};
 
 use std::alloc::{AllocError, Global};
 use tangle_streams::Feed;
@@ -11,44 +11,45 @@ use tangle_streams::Feed;
 /// The most bytes of one reading.
 pub const CHUNK: usize = 4096;
 
-/// The room on the stack: for so many bytes of one command, and a chunk behind them.
-const ROOM: usize = 2 * CHUNK;
+/// The size of the buffer on the stack: for one short command, and a chunk after it.
+const STACK_SIZE: usize = 2 * CHUNK;
 
 /// The bytes that were read and are not answered yet. They are on the stack until one command has
-/// more than 4,096 of them. Until then there is room for a further chunk behind them.
+/// more than 4,096 of them. Until then a further chunk fits after them.
 #[derive(Drop)]
 pub struct Buffer {
-    room: [u8; ROOM],
+    short: [u8; STACK_SIZE],
     long: Vec<u8>,
     len: usize,
-    ghost within: { len ≤ length (in_use room long.items) },
-    ghost large: { stack_room ≤ length (in_use room long.items) },
+    ghost within: { len ≤ length (in_use short long.items) },
+    ghost large: { stack_size ≤ length (in_use short long.items) },
 }
 
-// Reads so many bytes at most, behind the first ones of the room.
-fn fill_behind<R: Feed>(feed: &mut R, room: &mut [u8], len: usize, most: usize) -> Option<usize>
+// Reads so many bytes at most into the space, after the first ones: how many were read, 0 at the
+// end; `None` where the reader failed.
+fn fill_after<R: Feed>(feed: &mut R, space: &mut [u8], len: usize, most: usize) -> Option<usize>
     requires some { 0 < most }
-    requires within { len + most ≤ length room.old }
+    requires within { len + most ≤ length space.old }
     ensures within { IfSome result (λ n. n ≤ most) }
-    ensures length { length room.new ≡ length room.old }
+    ensures length { length space.new ≡ length space.old }
     ensures read { IfSome result (λ n. (chunk : List ℕ) × (length chunk ≡ n)
-        × (take (len + n) room.new ≡ take len room.old ++ chunk)
-        × Consumes (R.coming feed.old) (R.coming feed.new) chunk
-        × (n ≡ 0 → IsAtEnd (R.coming feed.new))) }
-    ensures unread { IfNone result (Keeps (R.coming feed.old) (R.coming feed.new)) }
+        × (take (len + n) space.new ≡ take len space.old ++ chunk)
+        × Consumes (R.remaining feed.old) (R.remaining feed.new) chunk
+        × (n ≡ 0 → IsAtEnd (R.remaining feed.new))) }
+    ensures unread { IfNone result (Keeps (R.remaining feed.old) (R.remaining feed.new)) }
     ensures failed { R.failures feed.new ≡ counted_read (R.failures feed.old) result }
 {
-    feed.fill(&mut room[len..len + most])
+    feed.fill(&mut space[len..len + most])
 }
 
-// Moves these bytes to the front of the room.
-fn move_to_front(room: &mut [u8], from: usize, len: usize)
+// Moves these bytes to the front of the space.
+fn move_to_front(space: &mut [u8], from: usize, len: usize)
     requires ordered { from ≤ len }
-    requires within { len ≤ length room.old }
-    ensures length { length room.new ≡ length room.old }
-    ensures moved { (n : ℕ) → n + from ≡ len → take n room.new ≡ drop from (take len room.old) }
+    requires within { len ≤ length space.old }
+    ensures length { length space.new ≡ length space.old }
+    ensures moved { (n : ℕ) → n + from ≡ len → take n space.new ≡ drop from (take len space.old) }
 {
-    room.copy_within(from..len, 0);
+    space.copy_within(from..len, 0);
 }
 
 impl Buffer {
@@ -59,7 +60,7 @@ impl Buffer {
         ensures { bytes result ≡ [] }
     {
         Buffer {
-            room: [0; ROOM],
+            short: [0; STACK_SIZE],
             long: Vec::new(alloc),
             len: 0,
         }
@@ -70,26 +71,26 @@ impl Buffer {
         ensures { result.now ≡ bytes self.now }
     {
         if self.long.is_empty() {
-            return &self.room[..self.len];
+            return &self.short[..self.len];
         }
         &self.long.as_slice()[..self.len]
     }
 
-    /// Makes room for a whole further chunk behind the bytes.
+    /// Makes space for a whole further chunk after the bytes.
     ///
     /// # Errors
     ///
     /// The allocation failed. It is tried for more than 4,096 bytes alone.
-    pub fn make_room(&mut self) -> Result<(), AllocError>
+    pub fn make_space(&mut self) -> Result<(), AllocError>
         ensures bytes { OnOk result (bytes self.new ≡ bytes self.old) }
-        ensures room { OnOk result (length (bytes self.new) + chunk ≤ size self.new) }
+        ensures space { OnOk result (length (bytes self.new) + chunk ≤ size self.new) }
         ensures err { OnErr result (chunk < length (bytes self.old)) }
     {
         if self.long.is_empty() {
             if self.len <= CHUNK {
                 return Ok(());
             }
-            self.long.extend_from_slice(&self.room)?;
+            self.long.extend_from_slice(&self.short)?;
         }
         if self.len + CHUNK <= self.long.len() {
             return Ok(());
@@ -97,24 +98,25 @@ impl Buffer {
         self.long.resize(self.len + CHUNK, 0)
     }
 
-    /// Reads so many bytes at most, behind the others.
+    /// Reads so many bytes at most, after the others: how many were read, 0 at the end; `None`
+    /// where the reader failed.
     pub fn read<R: Feed>(&mut self, feed: &mut R, most: usize) -> Option<usize>
         requires some { 0 < most }
-        requires room { length (bytes self.old) + most ≤ size self.old }
+        requires space { length (bytes self.old) + most ≤ size self.old }
         ensures within { IfSome result (λ n. n ≤ most) }
         ensures read { IfSome result (λ n. (chunk : List ℕ) × (length chunk ≡ n)
             × (bytes self.new ≡ bytes self.old ++ chunk)
-            × Consumes (R.coming feed.old) (R.coming feed.new) chunk
-            × (n ≡ 0 → IsAtEnd (R.coming feed.new))) }
-        ensures unread { IfNone result (Keeps (R.coming feed.old) (R.coming feed.new)) }
+            × Consumes (R.remaining feed.old) (R.remaining feed.new) chunk
+            × (n ≡ 0 → IsAtEnd (R.remaining feed.new))) }
+        ensures unread { IfNone result (Keeps (R.remaining feed.old) (R.remaining feed.new)) }
         ensures failed { R.failures feed.new ≡ counted_read (R.failures feed.old) result }
     {
         if self.long.is_empty() {
-            let count = fill_behind(feed, &mut self.room, self.len, most)?;
+            let count = fill_after(feed, &mut self.short, self.len, most)?;
             self.len += count;
             return Some(count);
         }
-        let count = fill_behind(feed, self.long.as_mut_slice(), self.len, most)?;
+        let count = fill_after(feed, self.long.as_mut_slice(), self.len, most)?;
         self.len += count;
         Some(count)
     }
@@ -125,7 +127,7 @@ impl Buffer {
         ensures { bytes self.new ≡ drop used (bytes self.old) }
     {
         if self.long.is_empty() {
-            move_to_front(&mut self.room, used, self.len);
+            move_to_front(&mut self.short, used, self.len);
         } else {
             move_to_front(self.long.as_mut_slice(), used, self.len);
         }

@@ -1,11 +1,11 @@
 //! The commands in some bytes of a script.
 ghost use Rattle.std.specs.Prelude.{◌≡◌, ◌<◌, ℕ, List, [], ◌∷◌, ◌++◌, length, nat_lt, IfSome};
-ghost use Rattle.std.specs.Prelude.{IfNone, Option, None, Some};
+ghost use Rattle.std.specs.Prelude.{IfNone};
 ghost use Rattle.std.specs.Option.{option_copied};
 ghost use Rattle.tangle_script.specs.Commands.{OnlyWaits, all_commands, ended};
-ghost use Rattle.tangle_script.specs.Commands.{ended_commands, found_commands, kept, unended};
+ghost use Rattle.tangle_script.specs.Commands.{ended_commands, found_commands, pending, unended};
 
-use crate::request::needs_text;
+use crate::request::takes_text;
 use memchr::memchr;
 
 /// A line, its text if it takes one, and the bytes after them.
@@ -43,13 +43,14 @@ pub fn ends_a_line(bytes: &[u8]) -> bool
 pub fn first_command(bytes: &[u8]) -> Option<Found<'_>>
     ensures commands { IfSome result (λ f. ended_commands bytes.now
         ≡ found_commands f.line.now (option_copied f.text) ++ ended_commands f.rest.now) }
-    ensures kept { IfSome result (λ f. kept bytes.now ≡ kept f.rest.now) }
+    ensures pending { IfSome result (λ f. pending bytes.now ≡ pending f.rest.now) }
     ensures rest { IfSome result (λ f. (front : List ℕ)
         × (bytes.now ≡ front ++ f.rest.now) × (0 < length front)) }
-    ensures none { IfNone result ((ended_commands bytes.now ≡ []) × (kept bytes.now ≡ bytes.now)) }
+    ensures none { IfNone result
+        ((ended_commands bytes.now ≡ []) × (pending bytes.now ≡ bytes.now)) }
 {
     let (line, rest) = split_line(bytes)?;
-    if !needs_text(line) {
+    if !takes_text(line) {
         return Some(Found {
             line,
             text: None,
@@ -65,7 +66,7 @@ pub fn first_command(bytes: &[u8]) -> Option<Found<'_>>
 }
 
 /// The command at the end of a script: a line without a line feed, or one whose text has not ended.
-pub fn last_parts(bytes: &[u8]) -> (&[u8], Option<&[u8]>)
+pub fn last_command(bytes: &[u8]) -> (&[u8], Option<&[u8]>)
     requires { OnlyWaits bytes.now }
     ensures { all_commands bytes.now ≡ found_commands result.0.now (option_copied result.1) }
 {

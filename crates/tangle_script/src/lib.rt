@@ -13,5 +13,7 @@ mod request;
 mod running;
 
 pub use project::{Project, SinkFailed};
-pub use request::{Request, each_command_asks_for_its_row, needs_text, parse};
-pub use running::{SCRIPT_LIMIT, run_script, short_commands_need_no_memory, three_needs_a_reason};
+pub use request::{Request, each_command_asks_for_its_row, parse, takes_text};
+pub use running::{
+    SCRIPT_LIMIT, run_script, short_commands_need_no_memory, status_3_needs_a_failure,
+};

@@ -1,7 +1,7 @@
 //! What answers a script.
 ghost use Rattle.std.specs.Prelude.{ℕ, List, Bool};
-ghost use Rattle.tangle_script.specs.Requests.{Request, asked};
-ghost use Rattle.tangle_script.specs.Script.{Replies, WritesText};
+ghost use Rattle.tangle_script.specs.Requests.{Request, request_read};
+ghost use Rattle.tangle_script.specs.Script.{Replies, WritesAnswer};
 
 use crate::request::Request;
 use std::alloc::Global;
@@ -13,19 +13,19 @@ pub struct SinkFailed;
 
 /// A project that answers a script.
 pub trait Project {
-    /// What changes as edits are made.
-    type Held;
+    /// The session that answers, which changes as edits are made.
+    type Session;
 
     /// What a run keeps besides, and drops at its end: the list of edits that is open, if one is.
     type Draft;
 
-    // What can be asked of it.
+    // What is known of a session and its draft.
     ghost State: { Type 0 };
 
-    // The same, of this one.
-    ghost state: { Self.Held → Self.Draft → State };
+    // What is known of these.
+    ghost state: { Self.Session → Self.Draft → State };
 
-    // This text answers the request in the one state, and the other state comes after it.
+    // This output answers the request in the one state, and the other state comes after it.
     ghost answers: { State → Request → List ℕ → State → Type 0 };
 
     // Whether an error is among the faults.
@@ -38,17 +38,17 @@ pub trait Project {
     /// The sink failed. What was asked is done all the same.
     fn answer<S: Sink>(
         alloc: Global,
-        held: &mut Self::Held,
+        session: &mut Self::Session,
         draft: &mut Self::Draft,
         request: &Request<'_>,
         sink: &mut S,
     ) -> Result<(), SinkFailed>
-        ensures { (text : List ℕ)
-            × Replies answers (state held.old draft.old) (asked request.now) text
-            (state held.new draft.new)
-            × WritesText (S.stream sink.old) (S.stream sink.new) text result };
+        ensures { (output : List ℕ)
+            × Replies answers (state session.old draft.old) (request_read request.now) output
+            (state session.new draft.new)
+            × WritesAnswer (S.stream sink.old) (S.stream sink.new) output result };
 
     /// Whether an error is among the faults.
-    fn has_error(held: &Self::Held) -> bool
-        ensures { (draft : Self.Draft) → has_error (state held.now draft) result };
+    fn has_error(session: &Self::Session) -> bool
+        ensures { (draft : Self.Draft) → has_error (state session.now draft) result };
 }

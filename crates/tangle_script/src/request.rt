@@ -1,7 +1,7 @@
 //! What a script line asks for.
-ghost use Rattle.std.specs.Prelude.{◌≡◌, Option};
+ghost use Rattle.std.specs.Prelude.{◌≡◌};
 ghost use Rattle.std.specs.Option.{option_copied, option_map};
-ghost use Rattle.tangle_script.specs.Requests.{Command, after_word, asked, bare_request};
+ghost use Rattle.tangle_script.specs.Requests.{Command, after_word, request_read, word_request};
 ghost use Rattle.tangle_script.specs.Requests.{file_request, is_quit, number_and_file, request_of};
 ghost use Rattle.tangle_script.specs.Requests.{takes_text, text_request};
 ghost use Rattle.tangle_script.specs.Table.{AsksForItsRow};
@@ -15,22 +15,22 @@ pub enum Request<'a> {
         file: &'a [u8],
         text: &'a [u8],
     },
-    /// The text takes the place of this line of the file.
+    /// The text replaces this line of the file.
     Replace {
         at: u32,
         file: &'a [u8],
         text: &'a [u8],
     },
-    /// This line of the file goes.
+    /// This line of the file is removed.
     Remove {
         at: u32,
         file: &'a [u8],
     },
-    /// A file without lines comes.
+    /// A file without lines is added.
     Create {
         file: &'a [u8],
     },
-    /// The file goes.
+    /// The file is removed.
     Discard {
         file: &'a [u8],
     },
@@ -42,7 +42,7 @@ pub enum Request<'a> {
     MarksFull,
     /// They are to be written as line feeds alone.
     MarksNone,
-    /// A list of edits is to be open: edits are held until it is made whole, or dropped.
+    /// A list of edits is to be open: edits are held until the list is committed or dropped.
     Begin,
     /// The edits of the list are to be made, all or none.
     Commit,
@@ -61,21 +61,21 @@ pub enum Request<'a> {
 impl Request<'_> {
     /// Whether the run ends after it.
     pub fn is_quit(&self) -> bool
-        ensures { result ≡ is_quit (asked self.now) }
+        ensures { result ≡ is_quit (request_read self.now) }
     {
         matches!(self, Request::Quit)
     }
 }
 
 // What follows a word at the front of the line.
-fn rest_after<'a>(line: &'a [u8], word: &[u8]) -> Option<&'a [u8]>
+fn after_word<'a>(line: &'a [u8], word: &[u8]) -> Option<&'a [u8]>
     ensures { option_copied result ≡ after_word word.now line.now }
 {
     line.strip_prefix(word)
 }
 
 // One to nine digits and a space, and what follows them.
-fn number_before(rest: &[u8]) -> Option<(u32, &[u8])>
+fn number_and_file(rest: &[u8]) -> Option<(u32, &[u8])>
     ensures { option_map (λ p. (p.0, p.1.now)) result ≡ number_and_file 0 0 rest.now }
 {
     let mut number = 0u32;
@@ -91,8 +91,9 @@ fn number_before(rest: &[u8]) -> Option<(u32, &[u8])>
     None
 }
 
-fn bare<'a>(line: &'a [u8]) -> Request<'a>
-    ensures { asked result ≡ bare_request line.now }
+// A line that is one of these words.
+fn word_request<'a>(line: &'a [u8]) -> Request<'a>
+    ensures { request_read result ≡ word_request line.now }
 {
     if line == b"marks full".as_slice() {
         return Request::MarksFull;
@@ -122,39 +123,39 @@ fn bare<'a>(line: &'a [u8]) -> Request<'a>
 }
 
 // A line with a file, or without.
-fn with_file<'a>(line: &'a [u8]) -> Request<'a>
-    ensures { asked result ≡ file_request line.now }
+fn file_request<'a>(line: &'a [u8]) -> Request<'a>
+    ensures { request_read result ≡ file_request line.now }
 {
-    if let Some(rest) = rest_after(line, b"remove ") {
-        return match number_before(rest) {
+    if let Some(rest) = after_word(line, b"remove ") {
+        return match number_and_file(rest) {
             Some((at, file)) => Request::Remove { at, file },
             None => Request::BadCommand,
         };
     }
-    if let Some(file) = rest_after(line, b"create ") {
+    if let Some(file) = after_word(line, b"create ") {
         return Request::Create { file };
     }
-    if let Some(file) = rest_after(line, b"discard ") {
+    if let Some(file) = after_word(line, b"discard ") {
         return Request::Discard { file };
     }
-    if let Some(file) = rest_after(line, b"show ") {
+    if let Some(file) = after_word(line, b"show ") {
         return Request::Show { file };
     }
-    bare(line)
+    word_request(line)
 }
 
 // A line with a text.
-fn with_text<'a>(line: &'a [u8], text: &'a [u8]) -> Request<'a>
-    ensures { asked result ≡ text_request line.now text.now }
+fn text_request<'a>(line: &'a [u8], text: &'a [u8]) -> Request<'a>
+    ensures { request_read result ≡ text_request line.now text.now }
 {
-    if let Some(rest) = rest_after(line, b"insert ") {
-        return match number_before(rest) {
+    if let Some(rest) = after_word(line, b"insert ") {
+        return match number_and_file(rest) {
             Some((at, file)) => Request::Insert { at, file, text },
             None => Request::BadCommand,
         };
     }
-    if let Some(rest) = rest_after(line, b"replace ") {
-        return match number_before(rest) {
+    if let Some(rest) = after_word(line, b"replace ") {
+        return match number_and_file(rest) {
             Some((at, file)) => Request::Replace { at, file, text },
             None => Request::BadCommand,
         };
@@ -163,21 +164,21 @@ fn with_text<'a>(line: &'a [u8], text: &'a [u8]) -> Request<'a>
 }
 
 /// Whether the next line is always the text of this one.
-pub fn needs_text(line: &[u8]) -> bool
+pub fn takes_text(line: &[u8]) -> bool
     ensures { result ≡ takes_text line.now }
 {
-    rest_after(line, b"insert ").is_some() || rest_after(line, b"replace ").is_some()
+    after_word(line, b"insert ").is_some() || after_word(line, b"replace ").is_some()
 }
 
 /// What a line asks for, with its text.
 #[tactic(auto, unfolding(crate::specs::Requests::request_of))]
 pub fn parse<'a>(line: &'a [u8], text: Option<&'a [u8]>) -> Request<'a>
-    ensures { asked result
+    ensures { request_read result
         ≡ request_of (record { line = line.now; text = option_copied text.entry }) }
 {
     match text {
-        Some(text) => with_text(line, text),
-        None => with_file(line),
+        Some(text) => text_request(line, text),
+        None => file_request(line),
     }
 }
 

@@ -3,12 +3,12 @@ ghost use Rattle.std.specs.Prelude.{◌≡◌, ◌<◌, ◌≤◌, ◌+◌, ℕ,
 ghost use Rattle.std.specs.Prelude.{IfErr, IfOk, MatchResult, OnOk};
 ghost use Rattle.std.specs.Io.KnownBytes.{IsAtEnd};
 ghost use Rattle.tangle_script.specs.Buffer.{bytes};
-ghost use Rattle.tangle_script.specs.Commands.{OnlyWaits, ended_commands, kept};
-ghost use Rattle.tangle_script.specs.Script.{IsAnswered, Conversation, has_quit, conversation};
-ghost use Rattle.tangle_script.specs.Rooms.{chunk};
+ghost use Rattle.tangle_script.specs.Commands.{OnlyWaits, ended_commands, pending};
+ghost use Rattle.tangle_script.specs.Script.{AreAnswered, Conversation, has_quit, conversation};
+ghost use Rattle.tangle_script.specs.BufferSpace.{chunk};
 ghost use Rattle.tangle_script.specs.Script.{exchange};
 ghost use Rattle.tangle_script.specs.Endings.{IsStatus, ConversationEnds, script_limit};
-ghost use Rattle.tangle_script.specs.Quiet.{ThreeNeedsReason};
+ghost use Rattle.tangle_script.specs.NothingRead.{Status3NeedsFailure};
 ghost use Rattle.tangle_script.specs.Short.{ShortNeedsNoMemory};
 ghost use Rattle.tangle_script.specs.Turns.{Breaks, EndsAnswered, EndsBy, IsMidway, Probes};
 ghost use Rattle.tangle_script.specs.Turns.{counted_probe};
@@ -28,7 +28,7 @@ pub const SCRIPT_LIMIT: usize = 67_108_864;
 // line costs no more than its length.
 fn answer_chunk<P: Project, S: Sink>(
     alloc: Global,
-    held: &mut P::Held,
+    session: &mut P::Session,
     draft: &mut P::Draft,
     buffer: &mut Buffer,
     searched: usize,
@@ -36,21 +36,21 @@ fn answer_chunk<P: Project, S: Sink>(
 ) -> Result<(), End>
     requires within { searched ≤ length (bytes buffer.old) }
     requires waits { OnlyWaits (take searched (bytes buffer.old)) }
-    ensures answered { IfOk result (λ _. IsAnswered P.answers
-        (exchange (P.state held.old draft.old) (S.stream sink.old))
-        (exchange (P.state held.new draft.new) (S.stream sink.new))
+    ensures answered { IfOk result (λ _. AreAnswered P.answers
+        (exchange (P.state session.old draft.old) (S.stream sink.old))
+        (exchange (P.state session.new draft.new) (S.stream sink.new))
         (ended_commands (bytes buffer.old))) }
-    ensures unquit { OnOk result (has_quit (ended_commands (bytes buffer.old)) ≡ false) }
-    ensures kept { OnOk result (bytes buffer.new ≡ kept (bytes buffer.old)) }
+    ensures no_quit { OnOk result (has_quit (ended_commands (bytes buffer.old)) ≡ false) }
+    ensures pending { OnOk result (bytes buffer.new ≡ pending (bytes buffer.old)) }
     ensures breaks { IfErr result (λ end. Breaks P.answers end
-        (exchange (P.state held.old draft.old) (S.stream sink.old))
-        (exchange (P.state held.new draft.new) (S.stream sink.new))
+        (exchange (P.state session.old draft.old) (S.stream sink.old))
+        (exchange (P.state session.new draft.new) (S.stream sink.new))
         (ended_commands (bytes buffer.old))) }
 {
     if !ends_a_line(&buffer.as_slice()[searched..]) {
         return Ok(());
     }
-    let used = answer_all::<P, S>(alloc, held, draft, buffer.as_slice(), sink)?;
+    let used = answer_all::<P, S>(alloc, session, draft, buffer.as_slice(), sink)?;
     buffer.discard(used);
     Ok(())
 }
@@ -58,7 +58,7 @@ fn answer_chunk<P: Project, S: Sink>(
 // Reads once, and answers the commands that have ended. 0 is the end of the script.
 fn turn<P: Project, R: Feed, S: Sink>(
     alloc: Global,
-    held: &mut P::Held,
+    session: &mut P::Session,
     draft: &mut P::Draft,
     feed: &mut R,
     buffer: &mut Buffer,
@@ -70,37 +70,38 @@ fn turn<P: Project, R: Feed, S: Sink>(
     requires waits { OnlyWaits (bytes buffer.old) }
     ensures ends { (old : Conversation P.State) (count : ℕ) → count + most ≤ script_limit
         → IsMidway P.answers old
-        (conversation (P.state held.old draft.old) (S.stream sink.old)
-        (R.coming feed.old) (R.failures feed.old))
+        (conversation (P.state session.old draft.old) (S.stream sink.old)
+        (R.remaining feed.old) (R.failures feed.old))
         (bytes buffer.old) count
         → MatchResult result
         (λ n. IsMidway P.answers old
-        (conversation (P.state held.new draft.new) (S.stream sink.new)
-        (R.coming feed.new) (R.failures feed.new))
+        (conversation (P.state session.new draft.new) (S.stream sink.new)
+        (R.remaining feed.new) (R.failures feed.new))
         (bytes buffer.new) (count + n))
         (λ end. EndsBy P.answers P.has_error end old
-        (conversation (P.state held.new draft.new) (S.stream sink.new)
-        (R.coming feed.new) (R.failures feed.new))) }
-    ensures end { IfOk result (λ n. n ≡ 0 → IsAtEnd (R.coming feed.new)) }
+        (conversation (P.state session.new draft.new) (S.stream sink.new)
+        (R.remaining feed.new) (R.failures feed.new))) }
+    ensures end { IfOk result (λ n. n ≡ 0 → IsAtEnd (R.remaining feed.new)) }
     ensures within { IfOk result (λ n. n ≤ most) }
 {
-    match buffer.make_room() {
+    match buffer.make_space() {
         Err(_) => return Err(End::Failed),
         Ok(()) => {}
     }
-    let kept = buffer.as_slice().len();
+    let searched = buffer.as_slice().len();
     match buffer.read(feed, most) {
         None => Err(End::Failed),
-        Some(count) => match answer_chunk::<P, S>(alloc, held, draft, buffer, kept, sink) {
+        Some(count) => match answer_chunk::<P, S>(alloc, session, draft, buffer, searched, sink) {
             Ok(()) => Ok(count),
             Err(end) => Err(end),
         },
     }
 }
 
-// Whether the script ends here, where as much was read as is allowed.
+// Whether the script ends here, where as much was read as is allowed; `None` where the reader
+// failed.
 fn ends_here<R: Feed>(feed: &mut R) -> Option<bool>
-    ensures read { Probes (R.coming feed.old) (R.coming feed.new) result }
+    ensures read { Probes (R.remaining feed.old) (R.remaining feed.new) result }
     ensures failed { R.failures feed.new ≡ counted_probe (R.failures feed.old) result }
 {
     let mut one = [0u8; 1];
@@ -111,108 +112,108 @@ fn ends_here<R: Feed>(feed: &mut R) -> Option<bool>
 // Ends where as much was read as is allowed.
 fn end_full<P: Project, R: Feed, S: Sink>(
     alloc: Global,
-    held: &mut P::Held,
+    session: &mut P::Session,
     draft: &mut P::Draft,
     feed: &mut R,
-    pending: &[u8],
+    buffered: &[u8],
     sink: &mut S,
 ) -> Result<(), End>
-    requires { OnlyWaits pending.now }
+    requires { OnlyWaits buffered.now }
     ensures { (old : Conversation P.State) (count : ℕ) → count ≡ script_limit
         → IsMidway P.answers old
-        (conversation (P.state held.old draft.old) (S.stream sink.old)
-        (R.coming feed.old) (R.failures feed.old))
-        pending.now count
+        (conversation (P.state session.old draft.old) (S.stream sink.old)
+        (R.remaining feed.old) (R.failures feed.old))
+        buffered.now count
         → MatchResult result
         (λ _. EndsAnswered P.answers P.has_error old
-        (conversation (P.state held.new draft.new) (S.stream sink.new)
-        (R.coming feed.new) (R.failures feed.new)))
+        (conversation (P.state session.new draft.new) (S.stream sink.new)
+        (R.remaining feed.new) (R.failures feed.new)))
         (λ end. EndsBy P.answers P.has_error end old
-        (conversation (P.state held.new draft.new) (S.stream sink.new)
-        (R.coming feed.new) (R.failures feed.new))) }
+        (conversation (P.state session.new draft.new) (S.stream sink.new)
+        (R.remaining feed.new) (R.failures feed.new))) }
 {
     match ends_here(feed) {
         None => Err(End::Failed),
         Some(false) => Err(End::Failed),
-        Some(true) => answer_last::<P, S>(alloc, held, draft, pending, sink),
+        Some(true) => answer_last::<P, S>(alloc, session, draft, buffered, sink),
     }
 }
 
 // Reads the script to its end.
 fn read_script<P: Project, R: Feed, S: Sink>(
     alloc: Global,
-    held: &mut P::Held,
+    session: &mut P::Session,
     draft: &mut P::Draft,
     feed: &mut R,
     sink: &mut S,
 ) -> Result<(), End>
     ensures { MatchResult result
         (λ _. EndsAnswered P.answers P.has_error
-        (conversation (P.state held.old draft.old) (S.stream sink.old)
-        (R.coming feed.old) (R.failures feed.old))
-        (conversation (P.state held.new draft.new) (S.stream sink.new)
-        (R.coming feed.new) (R.failures feed.new)))
+        (conversation (P.state session.old draft.old) (S.stream sink.old)
+        (R.remaining feed.old) (R.failures feed.old))
+        (conversation (P.state session.new draft.new) (S.stream sink.new)
+        (R.remaining feed.new) (R.failures feed.new)))
         (λ end. EndsBy P.answers P.has_error end
-        (conversation (P.state held.old draft.old) (S.stream sink.old)
-        (R.coming feed.old) (R.failures feed.old))
-        (conversation (P.state held.new draft.new) (S.stream sink.new)
-        (R.coming feed.new) (R.failures feed.new))) }
+        (conversation (P.state session.old draft.old) (S.stream sink.old)
+        (R.remaining feed.old) (R.failures feed.old))
+        (conversation (P.state session.new draft.new) (S.stream sink.new)
+        (R.remaining feed.new) (R.failures feed.new))) }
 {
     let mut buffer = Buffer::new(alloc);
     let mut count = 0;
     while count < SCRIPT_LIMIT {
         let most = CHUNK.min(SCRIPT_LIMIT - count);
-        match turn::<P, R, S>(alloc, held, draft, feed, &mut buffer, most, sink) {
+        match turn::<P, R, S>(alloc, session, draft, feed, &mut buffer, most, sink) {
             Err(end) => return Err(end),
             Ok(given) => {
                 if given == 0 {
-                    return answer_last::<P, S>(alloc, held, draft, buffer.as_slice(), sink);
+                    return answer_last::<P, S>(alloc, session, draft, buffer.as_slice(), sink);
                 }
                 count += given;
             }
         }
     }
-    end_full::<P, R, S>(alloc, held, draft, feed, buffer.as_slice(), sink)
+    end_full::<P, R, S>(alloc, session, draft, feed, buffer.as_slice(), sink)
 }
 
-fn status_at_end<P: Project>(held: &P::Held) -> u8
-    ensures { (draft : P.Draft) → IsStatus P.has_error (P.state held.now draft) result }
+fn status_at_end<P: Project>(session: &P::Session) -> u8
+    ensures { (draft : P.Draft) → IsStatus P.has_error (P.state session.now draft) result }
 {
-    if P::has_error(held) { 1 } else { 0 }
+    if P::has_error(session) { 1 } else { 0 }
 }
 
-/// Answers a script, and gives the status of the run: 1 where an error is among the faults at its
+/// Answers a script, and returns the status of the run: 1 where an error is among the faults at its
 /// end, else 0. It is 3 where the reader or the writer failed, the script is longer than
 /// [`SCRIPT_LIMIT`], or the run is out of memory for a command of more than 4,096 bytes.
 pub fn run_script<P: Project, R: Feed, S: Sink>(
     alloc: Global,
-    held: &mut P::Held,
+    session: &mut P::Session,
     draft: &mut P::Draft,
     feed: &mut R,
     sink: &mut S,
 ) -> u8
     ensures { ConversationEnds P.answers P.has_error
-        (conversation (P.state held.old draft.old) (S.stream sink.old)
-        (R.coming feed.old) (R.failures feed.old))
-        (conversation (P.state held.new draft.new) (S.stream sink.new)
-        (R.coming feed.new) (R.failures feed.new))
+        (conversation (P.state session.old draft.old) (S.stream sink.old)
+        (R.remaining feed.old) (R.failures feed.old))
+        (conversation (P.state session.new draft.new) (S.stream sink.new)
+        (R.remaining feed.new) (R.failures feed.new))
         result }
 {
-    match read_script::<P, R, S>(alloc, held, draft, feed, sink) {
-        Ok(()) => status_at_end::<P>(held),
-        Err(End::Done) => status_at_end::<P>(held),
+    match read_script::<P, R, S>(alloc, session, draft, feed, sink) {
+        Ok(()) => status_at_end::<P>(session),
+        Err(End::Done) => status_at_end::<P>(session),
         Err(End::Failed) => 3,
     }
 }
 
 /// Where no byte of the script was read and neither the reader nor the writer failed, a run does
-/// not end with status 3. So a body that ends every run so is none.
-pub fn three_needs_a_reason<P: Project>()
-    ensures { ThreeNeedsReason P.answers P.has_error }
+/// not end with status 3. So a body that ends every run with status 3 is refused.
+pub fn status_3_needs_a_failure<P: Project>()
+    ensures { Status3NeedsFailure P.answers P.has_error }
 {}
 
-/// A run over a script whose commands have at most 4,096 bytes each, with a line feed behind their
-/// line and one behind their text, takes no memory of its own: it ends with status 3 only where the
+/// A run over a script whose commands have at most 4,096 bytes each, with a line feed after their
+/// line and one after their text, takes no memory of its own: it ends with status 3 only where the
 /// reader or the writer failed, or the script is longer than [`SCRIPT_LIMIT`].
 pub fn short_commands_need_no_memory<P: Project>()
     ensures { ShortNeedsNoMemory P.answers P.has_error }

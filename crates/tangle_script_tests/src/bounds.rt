@@ -40,7 +40,7 @@ fn scripts_at_the_bound(rt: HostRuntime) -> Result<(), Fail> {
     Ok(())
 }
 
-// An insertion of a text of so many bytes, in pieces of this size. With it the text's line has 14
+// An insertion of a text of so many bytes, in chunks of this size. With it the text's line has 14
 // bytes more in all, and the line of the `quit` 19.
 fn insertion(count: usize, size: usize) -> Long<'static> {
     Long {

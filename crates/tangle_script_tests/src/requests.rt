@@ -1,12 +1,12 @@
 //! The table of script lines, row by row, with its malformed forms.
 use std::process::Abort;
 use std::test::Fail;
-use tangle_script::{Request, needs_text, parse};
+use tangle_script::{Request, parse, takes_text};
 
 // A line without a text asks for this.
 fn check(rt: &impl Abort, line: &[u8], request: Request<'_>) {
     assert!(rt; parse(line, None) == request);
-    assert!(rt; !needs_text(line));
+    assert!(rt; !takes_text(line));
 }
 
 // A line without a text is no command.
@@ -16,7 +16,7 @@ fn check_bad(rt: &impl Abort, line: &[u8]) {
 
 // A line that takes a text asks for this with the text `x`, and is no command without one.
 fn check_with_text(rt: &impl Abort, line: &[u8], request: Request<'_>) {
-    assert!(rt; needs_text(line));
+    assert!(rt; takes_text(line));
     assert!(rt; parse(line, Some(b"x")) == request);
     assert!(rt; parse(line, None) == Request::BadCommand);
 }

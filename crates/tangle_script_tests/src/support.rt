@@ -1,10 +1,10 @@
-//! A project that answers each request by its letter, and readers that give a script in pieces or
+//! A project that answers each request by its letter, and readers that give a script in chunks or
 //! fail.
 ghost use Rattle.std.specs.Prelude.{◌≡◌, ◌≤◌, ⊤, ℕ, ◌==◌, length, Some};
 
 use std::alloc::Global;
 use tangle_script::{Project, Request, SinkFailed};
-use tangle_streams::{Feed, Sink, put};
+use tangle_streams::{Feed, Sink, write_after};
 
 /// It counts its edits, and one edit is an error. Its draft counts the lists that were begun.
 #[derive(Debug, Drop)]
@@ -56,13 +56,13 @@ fn is_edit(request: &Request<'_>) -> bool {
 }
 
 impl Project for Letters {
-    type Held = Letters;
+    type Session = Letters;
 
     type Draft = u64;
 
     ghost State = { ℕ };
 
-    ghost state = { λ held draft. held.edits };
+    ghost state = { λ session draft. session.edits };
 
     ghost answers = { λ s r text t. ⊤ };
 
@@ -70,7 +70,7 @@ impl Project for Letters {
 
     fn answer<S: Sink>(
         _alloc: Global,
-        held: &mut Letters,
+        session: &mut Letters,
         draft: &mut u64,
         request: &Request<'_>,
         sink: &mut S,
@@ -79,32 +79,32 @@ impl Project for Letters {
             *draft = draft.saturating_add(1);
         }
         if is_edit(request) {
-            held.edits = held.edits.saturating_add(1);
+            session.edits = session.edits.saturating_add(1);
         }
-        match put(sink, Ok(0), letter(request)) {
+        match write_after(sink, Ok(0), letter(request)) {
             Ok(_) => Ok(()),
             Err(_) => Err(SinkFailed),
         }
     }
 
-    fn has_error(held: &Letters) -> bool {
-        held.edits == 1
+    fn has_error(session: &Letters) -> bool {
+        session.edits == 1
     }
 }
 
-/// A script in pieces of this size, after which the reader fails if it is to.
+/// A script in chunks of this size, after which the reader fails if it is to.
 #[derive(Drop)]
-pub struct Pieces<'a> {
+pub struct Chunks<'a> {
     pub left: &'a [u8],
     pub size: usize,
     pub fails: bool,
     pub failures: u64,
 }
 
-impl<'a> Pieces<'a> {
-    /// A script in pieces.
-    pub fn new(left: &'a [u8], size: usize) -> Pieces<'a> {
-        Pieces {
+impl<'a> Chunks<'a> {
+    /// A script in chunks.
+    pub fn new(left: &'a [u8], size: usize) -> Chunks<'a> {
+        Chunks {
             left,
             size,
             fails: false,
@@ -113,19 +113,19 @@ impl<'a> Pieces<'a> {
     }
 }
 
-impl<'a> Feed for Pieces<'a> {
-    ghost coming = { λ feed. Some feed.left.now };
+impl<'a> Feed for Chunks<'a> {
+    ghost remaining = { λ feed. Some feed.left.now };
 
     ghost failures = { λ feed. feed.failures };
 
-    fn fill(&mut self, room: &mut [u8]) -> Option<usize> {
+    fn fill(&mut self, buffer: &mut [u8]) -> Option<usize> {
         if self.left.is_empty() && self.fails {
             self.failures = self.failures.saturating_add(1);
             return None;
         }
-        let count = self.size.max(1).min(self.left.len()).min(room.len());
+        let count = self.size.max(1).min(self.left.len()).min(buffer.len());
         let (front, back) = self.left.split_at(count);
-        room[..count].copy_from_slice(front);
+        buffer[..count].copy_from_slice(front);
         self.left = back;
         Some(count)
     }
@@ -135,7 +135,7 @@ impl<'a> Feed for Pieces<'a> {
     }
 }
 
-/// A prefix of a script, so many equal bytes, and a back, in pieces of this size.
+/// A prefix of a script, so many equal bytes, and a back, in chunks of this size.
 #[derive(Drop)]
 pub struct Long<'a> {
     pub front: &'a [u8],
@@ -145,14 +145,14 @@ pub struct Long<'a> {
     pub size: usize,
 }
 
-// Gives the first bytes of the text, as many as there is room for, and leaves the others.
-fn give_front(text: &mut &[u8], room: &mut [u8]) -> usize
-    ensures within { result ≤ length room.old }
-    ensures length { length room.new ≡ length room.old }
+// Gives the first bytes of the text, as many as the buffer takes, and leaves the others.
+fn give_front(text: &mut &[u8], buffer: &mut [u8]) -> usize
+    ensures within { result ≤ length buffer.old }
+    ensures length { length buffer.new ≡ length buffer.old }
 {
-    let count = text.len().min(room.len());
+    let count = text.len().min(buffer.len());
     let (front, back) = text.split_at(count);
-    room[..count].copy_from_slice(front);
+    buffer[..count].copy_from_slice(front);
     *text = back;
     count
 }
@@ -160,15 +160,15 @@ fn give_front(text: &mut &[u8], room: &mut [u8]) -> usize
 impl<'a> Feed for Long<'a> {
     ghost failures = { λ _. 0 };
 
-    fn fill(&mut self, room: &mut [u8]) -> Option<usize> {
+    fn fill(&mut self, buffer: &mut [u8]) -> Option<usize> {
         if !self.front.is_empty() {
-            return Some(give_front(&mut self.front, room));
+            return Some(give_front(&mut self.front, buffer));
         }
         if self.count == 0 {
-            return Some(give_front(&mut self.back, room));
+            return Some(give_front(&mut self.back, buffer));
         }
-        let count = self.size.max(1).min(self.count).min(room.len());
-        room[..count].fill(self.byte);
+        let count = self.size.max(1).min(self.count).min(buffer.len());
+        buffer[..count].fill(self.byte);
         self.count -= count;
         Some(count)
     }

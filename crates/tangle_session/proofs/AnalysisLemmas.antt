@@ -80,7 +80,7 @@ module _ (files : FileTable) (roles : RolesRead) (source : SourceRead) (web : We
     numbers = numbers;
     faults = record {
       of_graph = before.store.faults;
-      is_graph = of_graph;
+      are_of_graph = of_graph;
       list = list ∙ ap (λ l. source.faults ++ (web.faults ++ (l ++ before.store.faults))) of_names;
     };
     line_truth = truth;

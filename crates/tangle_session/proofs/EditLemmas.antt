@@ -6,7 +6,7 @@ use Rattle.std.specs.Option.{option_map, option_map_or}
 use Rattle.std.specs.Str.{bytes_eq}
 use Rattle.std.proofs.lemmas.Bool.{and_parts, and_from}
 use Rattle.std.proofs.lemmas.Slice.Eq.{bytes_eq-Decides}
-use Rattle.tangle_files.specs.Edited.{edited, edited_all, with_lines_changed}
+use Rattle.tangle_files.specs.Edited.{edited, edited_all, with_lines_edited}
 use Rattle.tangle_files.specs.Edits.{edit_refusal, or_else, refusal_if}
 use Rattle.tangle_files.specs.Lines.{FileTable, lines_of}
 use Rattle.tangle_files.specs.Adding.{has_file}
@@ -51,16 +51,16 @@ kept_changed (f ∷ files) name other lines = by (bytes_eq name f.0) (kept_chang
     by true h = hit (bytes_eq other f.0)
     by false h = miss (bytes_eq other f.0) h
 
-kept_with_changed : (files : FileTable) (name other : List ℕ) (change : List (List ℕ) → List (List ℕ)) → is_some (lines_of (with_lines_changed files name change) other) ≡ is_some (lines_of files other)
+kept_with_changed : (files : FileTable) (name other : List ℕ) (change : List (List ℕ) → List (List ℕ)) → is_some (lines_of (with_lines_edited files name change) other) ≡ is_some (lines_of files other)
 kept_with_changed files name other change = by (lines_of files name)
   where
     by : (o : Option (List (List ℕ))) → is_some (lines_of (option_map_or (λ lines. set_value (bytes_eq name) files (change lines)) o files) other) ≡ is_some (lines_of files other)
     by None = refl
     by (Some lines) = kept_changed files name other (change lines)
 
-kept_behind : (files : FileTable) (name other : List ℕ) → is_some (lines_of files other) ≡ true → is_some (lines_of (files ++ (name, []) ∷ []) other) ≡ true
-kept_behind [] name other h = absurd (cc)
-kept_behind (f ∷ files) name other h = by (bytes_eq other f.0) h (kept_behind files name other)
+kept_after : (files : FileTable) (name other : List ℕ) → is_some (lines_of files other) ≡ true → is_some (lines_of (files ++ (name, []) ∷ []) other) ≡ true
+kept_after [] name other h = absurd (cc)
+kept_after (f ∷ files) name other h = by (bytes_eq other f.0) h (kept_after files name other)
   where
     by : (b : Bool) → is_some (cond b (Some f.1) (lines_of files other)) ≡ true → (is_some (lines_of files other) ≡ true → is_some (lines_of (files ++ (name, []) ∷ []) other) ≡ true)
         → is_some (cond b (Some f.1) (lines_of (files ++ (name, []) ∷ []) other)) ≡ true
@@ -102,7 +102,7 @@ lines_stay : (files : FileTable) (edit : Edit) (other : List ℕ) → is_some (l
 lines_stay files (Insert file at text) other h s = kept_with_changed files file.items other _ ∙ h
 lines_stay files (Remove file at) other h s = kept_with_changed files file.items other _ ∙ h
 lines_stay files (Replace file at text) other h s = kept_with_changed files file.items other _ ∙ h
-lines_stay files (Create file) other h s = kept_behind files file.items other h
+lines_stay files (Create file) other h s = kept_after files file.items other h
 lines_stay files (Discard file) other h s = kept_apart files file.items other s ∙ h
 lines_stay files (Marks mode) other h s = h
 
@@ -134,12 +134,12 @@ fits_edited files roles edit h none =
     and_from (has_file (edited files edit) roles.web) (has_file_if_any (edited files edit) roles.change)
     (stays_there files edit roles.web parts.0 spared.0) (any_stays files edit roles.change parts.1 spared.1)
 
--- where no edit of a list is refused, neither the first is, nor one of those behind it
-none_first : (first : Option Refusal) (behind : Option ListRefusal) → first_refused first behind ≡ None
-    → (None ≡ first) × (behind ≡ None)
+-- where no edit of a list is refused, neither the first is, nor one of those after it
+none_first : (first : Option Refusal) (after : Option ListRefusal) → first_refused first after ≡ None
+    → (None ≡ first) × (after ≡ None)
 none_first None None h = (refl, refl)
 none_first None (Some refused) h = absurd (cc)
-none_first (Some refusal) behind h = absurd (cc)
+none_first (Some refusal) after h = absurd (cc)
 
 -- the web and the change file are there after a list that is not refused
 pub fits_all : (files : FileTable) (roles : RolesRead) (edits : List Edit) → fits files roles ≡ true
@@ -156,8 +156,8 @@ one_refused (Some refusal) = refl
 
 -- The first refusal of the edits that are left, where the first of them has this number.
 abbrev pub refused_at : ℕ → Option Refusal → Option ListRefusal → Option ListRefusal
-refused_at at (Some refusal) behind = Some (record { at = at; refusal = refusal })
-refused_at at None behind = behind
+refused_at at (Some refusal) after = Some (record { at = at; refusal = refusal })
+refused_at at None after = after
 
 abbrev pub refused_from : ℕ → FileTable → RolesRead → List Edit → Option ListRefusal
 refused_from at files roles [] = None
@@ -167,9 +167,9 @@ refused_from at files roles (edit ∷ edits) =
 abbrev later_by : ℕ → ListRefusal → ListRefusal
 later_by at refused = record { at = refused.at + at; refusal = refused.refusal }
 
-one_more : (at : ℕ) (first : Option Refusal) (behind : Option ListRefusal)
-    → refused_at at first (option_map (later_by (at + 1)) behind) ≡ option_map (later_by at) (first_refused first behind)
-one_more at (Some refusal) behind =
+one_more : (at : ℕ) (first : Option Refusal) (after : Option ListRefusal)
+    → refused_at at first (option_map (later_by (at + 1)) after) ≡ option_map (later_by at) (first_refused first after)
+one_more at (Some refusal) after =
     let same : at ≡ 0 + at = omega arith in ap (λ n. Some (record { at = n; refusal = refusal })) same
 one_more at None None = refl
 one_more at None (Some refused) =

@@ -14,7 +14,7 @@ use Rattle.tangle_lines.specs.Reading.{source_of}
 use Rattle.tangle_scan.specs.Web.{web_of}
 use Rattle.tangle_names.specs.NameTable.{table_of}
 use Rattle.tangle_session.specs.Files.{source_at, web_at}
-use Rattle.tangle_session.specs.Headline.{Call, EditsRead, OneEdit, ListOf, History, Started, Edited, IsAnswered, ListsLastExpanded, ByStart, ByLast, IsPlainTangling}
+use Rattle.tangle_session.specs.Headline.{Call, EditsRead, Single, Several, History, Started, Edited, IsAnswered, ListsLastExpanded, ByStart, ByLast, IsPlainTangling}
 use Rattle.tangle_session.specs.Headline.{NoOutputReachesACycle, EachCycleIsReported, ShowsPlainTangling, ShowsLastWork}
 use Rattle.tangle_session.specs.Headline.{accepted, edits_of, files_after, roles_with, web_after}
 use Rattle.tangle_session.specs.Sessions.{AreMade, ListsAffectedOfWebs, SessionRead}
@@ -95,17 +95,17 @@ reached_made files roles lists before after edits reached are =
 
 reached_edited : (files : FileTable) (roles : RolesRead) (calls : List Call) (before after : SessionRead) (edits : EditsRead) (answer : Result (Unit {0}) ListRefusal)
     → IsReached files roles (accepted calls) before → IsAnswered before edits answer after → IsReached files roles (accepted (calls ++ (edits, answer) ∷ [])) after
-reached_edited files roles calls before after (OneEdit edit) (Ok done) reached is =
-    subst (λ lists. IsReached files roles lists after) (sym (accepted_one (OneEdit edit) done calls))
+reached_edited files roles calls before after (Single edit) (Ok done) reached is =
+    subst (λ lists. IsReached files roles lists after) (sym (accepted_one (Single edit) done calls))
     (reached_made files roles (accepted calls) before after (edit ∷ []) reached is.1)
-reached_edited files roles calls before after (ListOf edits) (Ok done) reached is =
-    subst (λ lists. IsReached files roles lists after) (sym (accepted_one (ListOf edits) done calls))
+reached_edited files roles calls before after (Several edits) (Ok done) reached is =
+    subst (λ lists. IsReached files roles lists after) (sym (accepted_one (Several edits) done calls))
     (reached_made files roles (accepted calls) before after edits reached is.1)
-reached_edited files roles calls before after (OneEdit edit) (Err refused) reached is =
-    subst (λ lists. IsReached files roles lists after) (sym (accepted_none (OneEdit edit) refused calls))
+reached_edited files roles calls before after (Single edit) (Err refused) reached is =
+    subst (λ lists. IsReached files roles lists after) (sym (accepted_none (Single edit) refused calls))
     (subst (λ s. IsReached files roles (accepted calls) s) (sym is.1) reached)
-reached_edited files roles calls before after (ListOf edits) (Err refused) reached is =
-    subst (λ lists. IsReached files roles lists after) (sym (accepted_none (ListOf edits) refused calls))
+reached_edited files roles calls before after (Several edits) (Err refused) reached is =
+    subst (λ lists. IsReached files roles lists after) (sym (accepted_none (Several edits) refused calls))
     (subst (λ s. IsReached files roles (accepted calls) s) (sym is.1) reached)
 
 pub reached : {files : FileTable} {roles : RolesRead} {calls : List Call} {session : SessionRead} → History files roles calls session → IsReached files roles (accepted calls) session
@@ -133,14 +133,14 @@ pub one_made : (before after : SessionRead) (edit : Edit) (done : Unit {0})
     → after.files ≡ edited before.files edit → after.roles ≡ edited_roles before.roles edit
     → ListsAffectedOfWebs (web_at before.files before.roles) (web_at after.files after.roles) after.work
     → IfSome (session_refusal before.files before.roles edit) (λ refusal. Ok done ≡ Err refusal)
-    → IsAnswered before (OneEdit edit) (Ok done) after
+    → IsAnswered before (Single edit) (Ok done) after
 one_made before after edit done files roles work refused =
     (no_refusal (session_refusal before.files before.roles edit) done refused, record { files = files; roles = roles; work = work })
 
 pub one_refused : (before after : SessionRead) (edit : Edit) (refusal : Refusal) (answer : Result (Unit {0}) Refusal) → answer ≡ Err refusal
     → IfSome (session_refusal before.files before.roles edit) (λ r. answer ≡ Err r)
     → IfNone (session_refusal before.files before.roles edit) (IsOkUnless answer NoMemory)
-    → after ≡ before → IsAnswered before (OneEdit edit) (Err (of_first refusal)) after
+    → after ≡ before → IsAnswered before (Single edit) (Err (of_first refusal)) after
 one_refused before after edit refusal answer is refused only same =
     (ap of_first (first_reason (session_refusal before.files before.roles edit) refusal answer is refused only), same)
 
@@ -149,7 +149,7 @@ pub several_answered : (before after : SessionRead) (edits : List Edit) (answer 
     → OnOk answer (ListsAffectedOfWebs (web_at before.files before.roles) (web_at after.files after.roles) after.work)
     → IfSome (list_refusal before.files before.roles edits) (λ refused. (answer ≡ Err refused) ⊎ (answer ≡ Err list_memory))
     → IfNone (list_refusal before.files before.roles edits) (IsOkUnless answer list_memory)
-    → OnErr answer (after ≡ before) → IsAnswered before (ListOf edits) answer after
+    → OnErr answer (after ≡ before) → IsAnswered before (Several edits) answer after
 several_answered before after edits (Ok done) files roles work refused only err =
     (none (list_refusal before.files before.roles edits) refused, record { files = files; roles = roles; work = work })
   where
@@ -189,11 +189,11 @@ plain_at files roles faults are = record {
   reading = read_at files roles;
   web = web_at files roles;
   scanning = scanned_at files roles;
-  names = table_of (web_at files roles);
+  table = table_of (web_at files roles);
   naming = refl;
   writing = refl;
-  of_uses = are.of_graph;
-  are_of_uses = are.is_graph;
+  of_graph = are.of_graph;
+  are_of_graph = are.are_of_graph;
   reporting = are.list;
 }
 

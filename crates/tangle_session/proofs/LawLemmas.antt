@@ -21,7 +21,7 @@ use Rattle.tangle_expansion.specs.Affected.{IsExpandable}
 use Rattle.tangle_expansion.specs.Outputs.{OutputRead}
 use Rattle.tangle_plans.specs.WebShapes.{shapes, shape_item, ResolvesInside}
 use Rattle.tangle_plans.specs.Shapes.{Title, Named, Shape, Shapes, UsesInShape, Reaches, here, on, ContainsItself}
-use Rattle.tangle_graph.specs.Faults.{AreGraphFaults, fault_of, fault_at_number, fault_occurrence, faults_of_names, graph_faults, large_program, no_program}
+use Rattle.tangle_graph.specs.Faults.{AreGraphFaults, fault_of, fault_occurrence, faults_of_names}
 use Rattle.tangle_graph.specs.Faults as of_graph
 use Rattle.tangle_graph.specs.Nodes.{title_of_node}
 use Rattle.tangle_graph.specs.Outputs.{name_with_number}
@@ -38,7 +38,7 @@ AreOneList = (web : WebRead) (table : TableRead) (out : List ℕ) (a b : List Fa
 
 one_faults : AreOneList → (source : SourceRead) (web : WebRead) (out : List ℕ) (a b : List FaultRead) → AreFaults source web out a → AreFaults source web out b → a ≡ b
 one_faults law source web out a b x y =
-    x.list ∙ ap (λ l. source.faults ++ (web.faults ++ ((table_of web).faults ++ l))) (law web (table_of web) out x.of_graph y.of_graph x.is_graph y.is_graph) ∙ sym y.list
+    x.list ∙ ap (λ l. source.faults ++ (web.faults ++ ((table_of web).faults ++ l))) (law web (table_of web) out x.of_graph y.of_graph x.are_of_graph y.are_of_graph) ∙ sym y.list
 
 pub one_tangling : AreOneList → (files : FileTable) (roles : RolesRead) (a b : Tangling) → IsTanglingOf files roles a → IsTanglingOf files roles b → a ≡ b
 one_tangling law files roles a b x y =
@@ -128,5 +128,5 @@ reported_in source web out faults name inside occur are c =
       is_first = o.1;
       reported = subst (λ l. Contains l (fault_about kind.SelfContaining (named_place_of web.file_names o.0.origin) name)) (sym are.list)
           (Contains-append_right source.faults _ _ (Contains-append_right web.faults _ _ (Contains-append_right (table_of web).faults _ _
-          (reported web out are.of_graph are.is_graph found.0 name o.0 found.1 found.2 c o.1))));
+          (reported web out are.of_graph are.are_of_graph found.0 name o.0 found.1 found.2 c o.1))));
     }

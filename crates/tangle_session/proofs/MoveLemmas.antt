@@ -1,4 +1,4 @@
--- What says the same at other origins has the same shapes, and expands nothing.
+-- What is written alike at other origins has the same shapes, and expands nothing.
 use Rattle.std.proofs.Common.{◌≡◌, ◌∙◌, ℕ, Bool, true, false, not, cond, List, [], ◌∷◌, map, filter, refl, ap, sym, arith}
 use Rattle.std.specs.Prelude.{Option, None, Some, if◌then◌else◌}
 use Rattle.tangle_lexer.specs.Occurrences.{OccurrenceRead}
@@ -6,14 +6,14 @@ use Rattle.tangle_scan.specs.Web.{WebRead, PieceRead}
 use Rattle.tangle_scan.specs.declared.items.Item.{Item}
 use Rattle.tangle_scan.specs.declared.items.Item.TheVariants as item
 use Rattle.tangle_names.specs.declared.Resolved.{Resolved}
-use Rattle.tangle_names.specs.Names.{Text, Meaning, One, full_names, meaning, only_with, prefix}
+use Rattle.tangle_names.specs.Names.{NameText, Meaning, One, full_names, meaning, only_with, prefix}
 use Rattle.tangle_names.specs.NameTable.{TableRead, table_of}
-use Rattle.tangle_names.specs.Resolving.{names_in_order, names_of, resolution, resolve}
-use Rattle.tangle_plans.specs.WebShapes.{is_node, is_piece_of, node_of_name, resolved_at, shape_item, use_of}
+use Rattle.tangle_names.specs.Resolving.{names_in_order, names_of, resolve, resolved_meaning}
+use Rattle.tangle_plans.specs.WebShapes.{is_node, is_piece_of, node_of_occurrence, resolved_at, shape_item, use_of}
 use Rattle.tangle_plans.specs.Shapes.{Shape, ShapeItem, Title}
 use Rattle.tangle_plans.specs.declared.nodes.Node.{Node}
 use Rattle.tangle_session.specs.Files.{shapes_of}
-use Rattle.tangle_session.specs.Moves.{HaveSameShapes, IsMoved, said_item, said_name, said_piece}
+use Rattle.tangle_session.specs.Moves.{HaveSameShapes, IsMoved, said_item, said_occurrence, said_piece}
 use Rattle.tangle_session.specs.Sessions.{ListsAffectedOfWebs}
 
 pub nothing_affected : (old new : WebRead) (nodes : List Node) → HaveSameShapes old new → ListsAffectedOfWebs old new nodes → nodes ≡ []
@@ -26,45 +26,45 @@ map_of_map : {A B C : Type 0} (f : B → C) (g : A → B) (xs : List A) → map 
 map_of_map f g [] = refl
 map_of_map f g (x ∷ xs) = ap (λ l. f (g x) ∷ l) (map_of_map f g xs)
 
--- the names, by what their occurrences say
+-- the names, by how their occurrences are written
 
-abbrev SaidName : Type 0
-SaidName = Text × Bool
+abbrev SaidOccurrence : Type 0
+SaidOccurrence = NameText × Bool
 
-abbrev full_said : List SaidName → List Text
+abbrev full_said : List SaidOccurrence → List NameText
 full_said ss = map (λ s. s.0) (filter (λ s. not s.1) ss)
 
-full_same : (os : List OccurrenceRead) → full_names os ≡ full_said (map said_name os)
+full_same : (os : List OccurrenceRead) → full_names os ≡ full_said (map said_occurrence os)
 full_same [] = refl
 full_same (o ∷ os) = by (not o.is_abbreviation) (full_same os)
   where
-    by : (b : Bool) → full_names os ≡ full_said (map said_name os)
+    by : (b : Bool) → full_names os ≡ full_said (map said_occurrence os)
         → map (λ (x : OccurrenceRead). x.text) (cond b (o ∷ filter (λ x. not x.is_abbreviation) os) (filter (λ x. not x.is_abbreviation) os))
-        ≡ map (λ (s : SaidName). s.0) (cond b (said_name o ∷ filter (λ s. not s.1) (map said_name os)) (filter (λ s. not s.1) (map said_name os)))
+        ≡ map (λ (s : SaidOccurrence). s.0) (cond b (said_occurrence o ∷ filter (λ s. not s.1) (map said_occurrence os)) (filter (λ s. not s.1) (map said_occurrence os)))
     by true h = ap (λ l. o.text ∷ l) h
     by false h = h
 
-abbrev meaning_said : List Text → SaidName → Meaning
+abbrev meaning_said : List NameText → SaidOccurrence → Meaning
 meaning_said full s = if s.1 then only_with full (prefix s.0) else One s.0
 
-abbrev names_said : List SaidName → List Text
+abbrev names_said : List SaidOccurrence → List NameText
 names_said ss = names_of (map (meaning_said (full_said ss)) ss)
 
-abbrev resolved_said : List SaidName → List Resolved
-resolved_said ss = map (λ s. resolution (names_said ss) (meaning_said (full_said ss) s)) ss
+abbrev resolved_said : List SaidOccurrence → List Resolved
+resolved_said ss = map (λ s. resolved_meaning (names_said ss) (meaning_said (full_said ss) s)) ss
 
-names_same : (os : List OccurrenceRead) → names_in_order os ≡ names_said (map said_name os)
+names_same : (os : List OccurrenceRead) → names_in_order os ≡ names_said (map said_occurrence os)
 names_same os =
     ap (λ full. names_of (map (meaning full) os)) (full_same os)
-    ∙ ap names_of (sym (map_of_map (meaning_said (full_said (map said_name os))) said_name os))
+    ∙ ap names_of (sym (map_of_map (meaning_said (full_said (map said_occurrence os))) said_occurrence os))
 
-resolved_same : (os : List OccurrenceRead) → map (resolve os) os ≡ resolved_said (map said_name os)
+resolved_same : (os : List OccurrenceRead) → map (resolve os) os ≡ resolved_said (map said_occurrence os)
 resolved_same os =
-    ap (λ names. map (λ o. resolution names (meaning (full_names os) o)) os) (names_same os)
-    ∙ ap (λ full. map (λ o. resolution (names_said (map said_name os)) (meaning full o)) os) (full_same os)
-    ∙ sym (map_of_map (λ s. resolution (names_said (map said_name os)) (meaning_said (full_said (map said_name os)) s)) said_name os)
+    ap (λ names. map (λ o. resolved_meaning names (meaning (full_names os) o)) os) (names_same os)
+    ∙ ap (λ full. map (λ o. resolved_meaning (names_said (map said_occurrence os)) (meaning full o)) os) (full_same os)
+    ∙ sym (map_of_map (λ s. resolved_meaning (names_said (map said_occurrence os)) (meaning_said (full_said (map said_occurrence os)) s)) said_occurrence os)
 
--- the shapes, by what the pieces say
+-- the shapes, by how the pieces are written
 
 abbrev SaidItem : Type 0
 SaidItem = ShapeItem × Option ℕ
@@ -72,8 +72,8 @@ SaidItem = ShapeItem × Option ℕ
 abbrev SaidPiece : Type 0
 SaidPiece = Option ℕ × List SaidItem
 
-abbrev bare : List Text → List Resolved → TableRead
-bare names resolved = record { names = names; resolved = resolved; first_occurrences = []; first_file_occurrences = []; faults = [] }
+abbrev table_with : List NameText → List Resolved → TableRead
+table_with names resolved = record { names = names; resolved = resolved; first_occurrences = []; first_file_occurrences = []; faults = [] }
 
 module _ (table : TableRead) where
   abbrev item_said : SaidItem → ShapeItem
@@ -97,7 +97,7 @@ module _ (table : TableRead) where
   items_same texts (i ∷ items) = ap (λ x. x ∷ map (shape_item texts table) items) (item_same texts i) ∙ ap (λ l. item_said (said_item texts i) ∷ l) (items_same texts items)
 
   abbrev shapes_said : List SaidPiece → Title → Shape
-  shapes_said pieces node = map (λ p. map item_said p.1) (filter (λ p. is_node table node (node_of_name table p.0)) pieces)
+  shapes_said pieces node = map (λ p. map item_said p.1) (filter (λ p. is_node table node (node_of_occurrence table p.0)) pieces)
 
   one_shape : (texts : List (List ℕ)) (piece : PieceRead) (rest : List PieceRead) (rest_said : List SaidPiece) (b : Bool)
       → map (λ (x : PieceRead). map (shape_item texts table) x.items) rest ≡ map (λ (s : SaidPiece). map item_said s.1) rest_said
@@ -111,20 +111,20 @@ module _ (table : TableRead) where
       → map (λ (p : PieceRead). map (shape_item texts table) p.items) (filter (is_piece_of table node) pieces) ≡ shapes_said (map (said_piece texts) pieces) node
   shape_same texts node [] = refl
   shape_same texts node (p ∷ pieces) =
-      one_shape texts p (filter (is_piece_of table node) pieces) (filter (λ s. is_node table node (node_of_name table s.0)) (map (said_piece texts) pieces))
+      one_shape texts p (filter (is_piece_of table node) pieces) (filter (λ s. is_node table node (node_of_occurrence table s.0)) (map (said_piece texts) pieces))
       (is_piece_of table node p) (shape_same texts node pieces)
 
--- the shapes of a web are a function of what it says
+-- the shapes of a web are a function of how it is written
 shapes_same : (web : WebRead) (node : Title)
-    → shapes_of web node ≡ shapes_said (bare (names_said (map said_name web.occurrences)) (resolved_said (map said_name web.occurrences))) (map (said_piece web.texts) web.pieces) node
+    → shapes_of web node ≡ shapes_said (table_with (names_said (map said_occurrence web.occurrences)) (resolved_said (map said_occurrence web.occurrences))) (map (said_piece web.texts) web.pieces) node
 shapes_same web node =
     shape_same (table_of web) web.texts node web.pieces
-    ∙ ap (λ names. shapes_said (bare names (table_of web).resolved) (map (said_piece web.texts) web.pieces) node) (names_same web.occurrences)
-    ∙ ap (λ resolved. shapes_said (bare (names_said (map said_name web.occurrences)) resolved) (map (said_piece web.texts) web.pieces) node) (resolved_same web.occurrences)
+    ∙ ap (λ names. shapes_said (table_with names (table_of web).resolved) (map (said_piece web.texts) web.pieces) node) (names_same web.occurrences)
+    ∙ ap (λ resolved. shapes_said (table_with (names_said (map said_occurrence web.occurrences)) resolved) (map (said_piece web.texts) web.pieces) node) (resolved_same web.occurrences)
 
 pub moved_same : (old new : WebRead) → IsMoved old new → HaveSameShapes old new
 moved_same old new moved node =
     shapes_same new node
-    ∙ ap (λ ss. shapes_said (bare (names_said ss) (resolved_said ss)) (map (said_piece new.texts) new.pieces) node) moved.names
-    ∙ ap (λ ps. shapes_said (bare (names_said (map said_name old.occurrences)) (resolved_said (map said_name old.occurrences))) ps node) moved.pieces
+    ∙ ap (λ ss. shapes_said (table_with (names_said ss) (resolved_said ss)) (map (said_piece new.texts) new.pieces) node) moved.occurrences
+    ∙ ap (λ ps. shapes_said (table_with (names_said (map said_occurrence old.occurrences)) (resolved_said (map said_occurrence old.occurrences))) ps node) moved.pieces
     ∙ sym (shapes_same old node)

@@ -20,9 +20,9 @@ use Rattle.tangle_expansion.specs.Outputs.{OutputRead}
 use Rattle.tangle_plans.specs.WebShapes.{shapes, ResolvesInside}
 use Rattle.tangle_plans.specs.Shapes.{Named, Program}
 use Rattle.tangle_plans.specs.declared.nodes.Node.TheVariants as node
-use Rattle.tangle_graph.specs.Outputs.{firsts, file_names, has_pieces, is_expandable, is_written, name_with_number, named_file, outputs}
+use Rattle.tangle_graph.specs.Outputs.{firsts, file_names, shape_has_piece, is_expandable, is_written, name_with_number, named_file, outputs}
 use Rattle.tangle_graph.proofs.NodeLemmas.{once_named}
-use Rattle.tangle_session.specs.Files.{written_outputs}
+use Rattle.tangle_session.specs.Files.{output_files}
 use Rattle.tangle_session.specs.Tangle.{output_at, outputs_of}
 use Rattle.tangle_session.proofs.OutputLemmas.{names_below, names_written}
 
@@ -85,18 +85,18 @@ module _ (web : WebRead) (table : TableRead) (resolves : ResolvesInside table) (
       (λ i d h. not_main (is_expandable (shapes web table) (Named (name_with_number table (get_or ids i d)))) (get_or ids i d) (ids_written i d h)))
 
   main : OutputRead
-  main = record { name = out; node = node.Program; has_macros = not web.has_defs_code; has_piece = has_pieces (shapes web table Program) }
+  main = record { name = out; node = node.Program; has_macros = not web.has_all_macros; has_piece = shape_has_piece (shapes web table Program) }
 
   pub names_once : AllPairs (λ a b. a ≢ b) (map (λ o. o.name) (outputs web table out))
   unfolding ids main
-  names_once = by (not (has_pieces (shapes web table Program)) || is_expandable (shapes web table) Program)
+  names_once = by (not (shape_has_piece (shapes web table Program)) || is_expandable (shapes web table) Program)
     where
       by : (b : Bool) → AllPairs (λ a b. a ≢ b) (map (λ o. o.name) ((if b then main ∷ [] else []) ++ map (named_file table) ids))
       by true = AllPairs-cons (λ a b. a ≢ b) out (map name_of (map (named_file table) ids)) main_apart named_once
       by false = named_once
 
 pub names_distinct : (web : WebRead) → ResolvesInside (table_of web) → IsDistinct bytes_eq (table_of web).names → (marks : MarkMode) (out : List ℕ)
-    → IsDistinct bytes_eq (map (λ o. o.0) (written_outputs web marks out))
+    → IsDistinct bytes_eq (map (λ o. o.0) (output_files web marks out))
 names_distinct web resolves distinct marks out =
     subst (IsDistinct bytes_eq) (names_written web marks (outputs web (table_of web) out))
     (IsDistinct-from_AllPairs bytes_eq-Decides (map (λ o. o.name) (outputs web (table_of web) out)) (names_once web (table_of web) resolves distinct out))

@@ -17,20 +17,20 @@ use Rattle.tangle_names.specs.NameTable.{TableRead, table_of}
 use Rattle.tangle_expansion.specs.Kept.{kept_at}
 use Rattle.tangle_expansion.specs.Limits.{heaviest, flat_of, IsExpandableNode}
 use Rattle.tangle_expansion.specs.Numbers.{numbers_of}
-use Rattle.tangle_expansion.specs.Outputs.{OutputRead, IsReady, file_text, node_symbols, output_text}
+use Rattle.tangle_expansion.specs.Outputs.{OutputRead, IsReady, output_file_bytes, node_symbols, kept_output_bytes}
 use Rattle.tangle_plans.specs.WebShapes.{shapes, resolved_at, IsNameBelow, ResolvesInside}
 use Rattle.tangle_plans.specs.Shapes.{Title, Named, Shape, Shapes}
 use Rattle.tangle_plans.specs.Shapes as title
 use Rattle.tangle_expansion.specs.declared.kept.Kept.{Kept}
 use Rattle.tangle_plans.specs.declared.nodes.Node.TheVariants as node
-use Rattle.tangle_graph.specs.Grouping.{number_of_name}
+use Rattle.tangle_graph.specs.Grouping.{resolved_number}
 use Rattle.tangle_graph.specs.Nodes.{IsNodeOf, title_of_node}
-use Rattle.tangle_graph.specs.Outputs.{has_pieces, is_expandable, firsts, file_occurrences, file_names, name_with_number, named_file, main_file, is_written, outputs}
+use Rattle.tangle_graph.specs.Outputs.{shape_has_piece, is_expandable, firsts, file_occurrences, file_names, name_with_number, named_file, main_file, is_written, outputs}
 use Rattle.tangle_graph.specs.Stores.{StoreRead, IsStoreOf, is_expandable_at, title_in_store}
 use Rattle.tangle_graph.proofs.NodeLemmas.{title_inside}
 use Rattle.tangle_graph.proofs.StoreLemmas.{expandable_is, mapped_contains}
 use Rattle.tangle_affected.specs.Keeping.{KeepsJust}
-use Rattle.tangle_session.specs.Files.{shapes_of, output_bytes, written}
+use Rattle.tangle_session.specs.Files.{shapes_of, output_bytes, named_bytes}
 
 -- what holds of each output file: its node is the program or a name, and is expandable if it has a piece
 pub record IsFit (shapes : Shapes) (names : List (List ℕ)) (output : OutputRead) : Type 0 where
@@ -38,7 +38,7 @@ pub record IsFit (shapes : Shapes) (names : List (List ℕ)) (output : OutputRea
   pub there : output.has_piece ≡ true → IsExpandableNode shapes (title_of_node names output.node)
   pub none : output.has_piece ≡ false → shapes (title_of_node names output.node) ≡ []
 
-no_pieces : (s : Shape) → has_pieces s ≡ false → s ≡ []
+no_pieces : (s : Shape) → shape_has_piece s ≡ false → s ≡ []
 no_pieces [] e = refl
 no_pieces (x ∷ s) e = absurd (let no : true ≡ false = e in cc)
 
@@ -59,19 +59,19 @@ all_flat P f [] each = All-nil P
 all_flat P f (x ∷ xs) each = All-append P (f x) (flat_map f xs) (each x) (all_flat P f xs each)
 
 module _ (web : WebRead) (table : TableRead) (resolves : ResolvesInside table) (out : List ℕ) where
-  below_one : (r : Resolved) → IsNameBelow (length table.names) r → All (λ id. id < length table.names) (option_to_list (number_of_name r))
+  below_one : (r : Resolved) → IsNameBelow (length table.names) r → All (λ id. id < length table.names) (option_to_list (resolved_number r))
   below_one (resolved.Name id) h = All-cons (λ id. id < length table.names) id [] h (All-nil (λ id. id < length table.names))
   below_one resolved.NoFullName h = All-nil (λ id. id < length table.names)
   below_one resolved.Ambiguous h = All-nil (λ id. id < length table.names)
 
   pub names_below : All (λ id. id < length table.names) (file_names web table)
   names_below =
-      all_firsts (λ id. id < length table.names) (flat_map (λ occurrence. option_to_list (number_of_name (resolved_at table occurrence))) (file_occurrences web table))
-      (all_flat (λ id. id < length table.names) (λ occurrence. option_to_list (number_of_name (resolved_at table occurrence))) (file_occurrences web table)
+      all_firsts (λ id. id < length table.names) (flat_map (λ occurrence. option_to_list (resolved_number (resolved_at table occurrence))) (file_occurrences web table))
+      (all_flat (λ id. id < length table.names) (λ occurrence. option_to_list (resolved_number (resolved_at table occurrence))) (file_occurrences web table)
       (λ occurrence. below_one (resolved_at table occurrence) (resolves occurrence)))
 
-  main_fits : (b e : Bool) → b ≡ has_pieces (shapes web table title.Program) → e ≡ is_expandable (shapes web table) title.Program → (not b || e) ≡ true
-      → IsFit (shapes web table) table.names (record { name = out; node = node.Program; has_macros = not web.has_defs_code; has_piece = b })
+  main_fits : (b e : Bool) → b ≡ shape_has_piece (shapes web table title.Program) → e ≡ is_expandable (shapes web table) title.Program → (not b || e) ≡ true
+      → IsFit (shapes web table) table.names (record { name = out; node = node.Program; has_macros = not web.has_all_macros; has_piece = b })
   main_fits b e is_b is_e h = record {
     inside = tt;
     there = λ t. (expandable_is (shapes web table) title.Program).0 (sym is_e ∙ second b e t h);
@@ -96,9 +96,9 @@ module _ (web : WebRead) (table : TableRead) (resolves : ResolvesInside table) (
 
   pub outputs_fit : (output : OutputRead) → Contains (outputs web table out) output → IsFit (shapes web table) table.names output
   outputs_fit output c = elim (Contains-append_cases (main_file web table out) (map (named_file table) (filter (is_written web table out) (file_names web table))) output c) [
-    | inl main ↦ (let found = one_where (not (has_pieces (shapes web table title.Program)) || is_expandable (shapes web table) title.Program)
-        (record { name = out; node = node.Program; has_macros = not web.has_defs_code; has_piece = has_pieces (shapes web table title.Program) }) output main in
-        subst (IsFit (shapes web table) table.names) found.1 (main_fits (has_pieces (shapes web table title.Program)) (is_expandable (shapes web table) title.Program) refl refl found.0))
+    | inl main ↦ (let found = one_where (not (shape_has_piece (shapes web table title.Program)) || is_expandable (shapes web table) title.Program)
+        (record { name = out; node = node.Program; has_macros = not web.has_all_macros; has_piece = shape_has_piece (shapes web table title.Program) }) output main in
+        subst (IsFit (shapes web table) table.names) found.1 (main_fits (shape_has_piece (shapes web table title.Program)) (is_expandable (shapes web table) title.Program) refl refl found.0))
     | inr named ↦ (let found = mapped_contains (named_file table) (filter (is_written web table out) (file_names web table)) output named in
         let low = All-contains (λ id. id < length table.names) (filter (is_written web table out) (file_names web table)) found.0
         (All-filter (is_written web table out) (λ id. id < length table.names) (file_names web table) names_below) found.1 in
@@ -106,7 +106,7 @@ module _ (web : WebRead) (table : TableRead) (resolves : ResolvesInside table) (
         subst (IsFit (shapes web table) table.names) found.2 (named_fits found.0 low is))
   ]
 
--- The text of an output that fits is ready to be written, and is what its node expands to.
+-- An output that fits is ready to be written, and its bytes are those that its node expands to.
 module _ (web : WebRead) (store : StoreRead) (kept : Kept) (is : IsStoreOf (shapes_of web) store) (names_are : store.names ≡ (table_of web).names)
     (keeps : KeepsJust (shapes_of web) store kept) (marks : MarkMode) (output : OutputRead) (fit : IsFit (shapes_of web) (table_of web).names output) where
   titled : title_in_store store output.node ≡ title_of_node (table_of web).names output.node
@@ -138,23 +138,23 @@ module _ (web : WebRead) (store : StoreRead) (kept : Kept) (is : IsStoreOf (shap
       by true e = subst (λ o. length (unwrap_or o []) ≤ heaviest) (sym (kept_there e)) (law (shapes_of web) (title_of_node (table_of web).names output.node) (fit.there e))
       by false e = subst (λ o. length (unwrap_or o []) ≤ heaviest) (sym (kept_none e)) (omega arith)
 
-  pub same_text : output_text (numbers_of web (table_of web) marks) kept output ≡ output_bytes web marks output
-  same_text = by output.has_piece refl
+  pub same_bytes : kept_output_bytes (numbers_of web (table_of web) marks) kept output ≡ output_bytes web marks output
+  same_bytes = by output.has_piece refl
     where
-      by : (b : Bool) → output.has_piece ≡ b → file_text (numbers_of web (table_of web) marks) output.has_macros output.has_piece (node_symbols kept output.node) ≡ output_bytes web marks output
-      by true e = ap (λ o. file_text (numbers_of web (table_of web) marks) output.has_macros output.has_piece (unwrap_or o [])) (kept_there e)
+      by : (b : Bool) → output.has_piece ≡ b → output_file_bytes (numbers_of web (table_of web) marks) output.has_macros output.has_piece (node_symbols kept output.node) ≡ output_bytes web marks output
+      by true e = ap (λ o. output_file_bytes (numbers_of web (table_of web) marks) output.has_macros output.has_piece (unwrap_or o [])) (kept_there e)
       by false e =
-          ap (λ p. file_text (numbers_of web (table_of web) marks) output.has_macros p (node_symbols kept output.node)) e
-          ∙ ap (λ p. file_text (numbers_of web (table_of web) marks) output.has_macros p (flat_of (shapes_of web) (title_of_node (table_of web).names output.node))) (sym e)
+          ap (λ p. output_file_bytes (numbers_of web (table_of web) marks) output.has_macros p (node_symbols kept output.node)) e
+          ∙ ap (λ p. output_file_bytes (numbers_of web (table_of web) marks) output.has_macros p (flat_of (shapes_of web) (title_of_node (table_of web).names output.node))) (sym e)
 
 -- the bytes of a name are those of the output that is found by it
 pub look_up : (web : WebRead) (marks : MarkMode) (name : List ℕ) (os : List OutputRead)
-    → lookup (bytes_eq name) (map (written web marks) os) ≡ option_map (output_bytes web marks) (find (λ o. bytes_eq name o.name) os)
+    → lookup (bytes_eq name) (map (named_bytes web marks) os) ≡ option_map (output_bytes web marks) (find (λ o. bytes_eq name o.name) os)
 look_up web marks name [] = refl
 look_up web marks name (o ∷ os) = by (bytes_eq name o.name) (look_up web marks name os)
   where
-    by : (b : Bool) → lookup (bytes_eq name) (map (written web marks) os) ≡ option_map (output_bytes web marks) (find (λ o. bytes_eq name o.name) os)
-        → cond b (Some (output_bytes web marks o)) (lookup (bytes_eq name) (map (written web marks) os))
+    by : (b : Bool) → lookup (bytes_eq name) (map (named_bytes web marks) os) ≡ option_map (output_bytes web marks) (find (λ o. bytes_eq name o.name) os)
+        → cond b (Some (output_bytes web marks o)) (lookup (bytes_eq name) (map (named_bytes web marks) os))
         ≡ option_map (output_bytes web marks) (cond b (Some o) (find (λ o. bytes_eq name o.name) os))
     by true e = refl
     by false e = e
@@ -182,7 +182,7 @@ pub find_end : {X : Type 0} (p : X → Bool) (xs : List X) (i : ℕ) → length 
 find_end p xs i h sofar = sym (ap (find p) (drop_all i xs h)) ∙ sofar
 
 -- the names of the outputs as they are written
-pub names_written : (web : WebRead) (marks : MarkMode) (os : List OutputRead) → map (λ o. o.name) os ≡ map (λ o. o.0) (map (written web marks) os)
+pub names_written : (web : WebRead) (marks : MarkMode) (os : List OutputRead) → map (λ o. o.name) os ≡ map (λ o. o.0) (map (named_bytes web marks) os)
 names_written web marks [] = refl
 names_written web marks (o ∷ os) = ap (λ l. o.name ∷ l) (names_written web marks os)
 

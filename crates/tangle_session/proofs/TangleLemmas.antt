@@ -1,4 +1,4 @@
--- What a session holds of the files, by the parts that are made one after another.
+-- What the state of a session has of the files, by its fields, which are made one after another.
 use Rattle.std.proofs.Common.{◌≡◌, ◌∙◌, ◌≤◌, ◌&&◌, arith, ℕ, Bool, true, false, List, [], ◌∷◌, length, refl, ap, sym, subst, Bor, Contains, map}
 use Rattle.std.specs.List.{IsDistinct}
 use Rattle.std.specs.Option.{option_copied, option_map}
@@ -18,8 +18,8 @@ use Rattle.tangle_scan.specs.Web.{WebRead}
 use Rattle.tangle_names.specs.NameTable.{table_of}
 use Rattle.tangle_expansion.specs.Affected.{IsAffected}
 use Rattle.tangle_expansion.specs.Limits.{levels, heaviest, flat_of, IsExpandableNode}
-use Rattle.tangle_expansion.specs.Numbers.{numbers_of, text}
-use Rattle.tangle_expansion.specs.Outputs.{OutputRead, IsReady, IsTrueToLines, output_text}
+use Rattle.tangle_expansion.specs.Numbers.{numbers_of, expansion_bytes}
+use Rattle.tangle_expansion.specs.Outputs.{OutputRead, IsReady, IsTrueToLines, kept_output_bytes}
 use Rattle.tangle_plans.specs.WebShapes.{ResolvesInside}
 use Rattle.tangle_plans.specs.Shapes.{Title, Shapes}
 use Rattle.tangle_plans.specs.declared.nodes.Node.{Node}
@@ -33,7 +33,7 @@ use Rattle.tangle_session.specs.Sessions.{AgreesWithFiles, ListsAffectedOfWebs, 
 use Rattle.tangle_session.specs.Tangle.{output_at, outputs_of}
 use Rattle.tangle_session.specs.Writes.{IsTrueFile, WritesOutput}
 use Rattle.tangle_session.specs.declared.tangling.SessionState.{SessionState}
-use Rattle.tangle_session.proofs.OutputLemmas.{IsFit, found_in, look_up, names_written, outputs_fit, ready, same_text}
+use Rattle.tangle_session.proofs.OutputLemmas.{IsFit, found_in, look_up, names_written, outputs_fit, ready, same_bytes}
 
 -- the list of the store's nodes, as one of the web's
 pub lists_nodes : (web : WebRead) (store : StoreRead) (nodes : List Node) → IsStoreOf (shapes_of web) store → store.names ≡ (table_of web).names → keeping.ListsExpandable store nodes → ListsExpandableOfWeb web nodes
@@ -113,7 +113,7 @@ pub some_copied : {X : Type 0} (o : Option (Bor X)) → is_some (option_copied o
 some_copied None = refl
 some_copied (Some x) = refl
 
--- What is found by a name, where what is held is what the files make.
+-- What is found by a name, where the state is what the files make.
 module _ (files : FileTable) (roles : RolesRead) (state : SessionState) (hold : AgreesWithFiles files roles state) (name : List ℕ) where
   abbrev named : OutputRead → Bool
   named o = bytes_eq name o.name
@@ -123,7 +123,7 @@ module _ (files : FileTable) (roles : RolesRead) (state : SessionState) (hold : 
       look_up (web_at files roles) roles.marks name (outputs (web_at files roles) (table_of (web_at files roles)) roles.out)
       ∙ ap (λ os. option_map (output_bytes (web_at files roles) roles.marks) (find named os)) (sym hold.analysis.outputs_are)
 
-  -- no two outputs that are held have one name
+  -- no two outputs of the store have one name
   pub names_apart : IsDistinct bytes_eq (map (λ o. o.0) (outputs_of files roles)) → IsDistinct bytes_eq (map (λ (o : OutputRead). o.name) state.analysis.store.outputs)
   names_apart distinct =
       subst (λ os. IsDistinct bytes_eq (map (λ (o : OutputRead). o.name) os)) (sym hold.analysis.outputs_are)
@@ -148,13 +148,13 @@ module _ (files : FileTable) (roles : RolesRead) (state : SessionState) (hold : 
       pub is_ready : ((p : Shapes) (t : Title) → IsExpandableNode p t → length (flat_of p t) ≤ heaviest) → IsReady output state.kept
       is_ready law = ready (web_at files roles) state.analysis.store state.kept hold.analysis.store hold.analysis.store_names hold.kept roles.marks output fit law
 
-      pub text_is : output_text state.analysis.numbers state.kept output ≡ output_bytes (web_at files roles) roles.marks output
-      text_is =
-          ap (λ n. output_text n state.kept output) hold.analysis.numbers
-          ∙ same_text (web_at files roles) state.analysis.store state.kept hold.analysis.store hold.analysis.store_names hold.kept roles.marks output fit
+      pub bytes_are : kept_output_bytes state.analysis.numbers state.kept output ≡ output_bytes (web_at files roles) roles.marks output
+      bytes_are =
+          ap (λ n. kept_output_bytes n state.kept output) hold.analysis.numbers
+          ∙ same_bytes (web_at files roles) state.analysis.store state.kept hold.analysis.store hold.analysis.store_names hold.kept roles.marks output fit
 
     pub truth_at : ((source : SourceRead) (web : WebRead) (node : Title) → PiecesAreAtTheirLines source web
-        → IsTrueToLines source web node (text (numbers_of web (table_of web) Full) (flat_of (shapes_of web) node)))
+        → IsTrueToLines source web node (expansion_bytes (numbers_of web (table_of web) Full) (flat_of (shapes_of web) node)))
         → roles.marks ≡ Full → IsTrueFile files roles name
     truth_at law full = record {
       output = output;
@@ -162,7 +162,7 @@ module _ (files : FileTable) (roles : RolesRead) (state : SessionState) (hold : 
       bytes = output_bytes (web_at files roles) Full output;
       are_its = some_at ∙ ap (λ m. Some (output_bytes (web_at files roles) m output)) full;
       true_to_lines = record {
-        text = text (numbers_of (web_at files roles) (table_of (web_at files roles)) Full) (flat_of (shapes_of (web_at files roles)) (title_of_node (table_of (web_at files roles)).names output.node));
+        of_node = expansion_bytes (numbers_of (web_at files roles) (table_of (web_at files roles)) Full) (flat_of (shapes_of (web_at files roles)) (title_of_node (table_of (web_at files roles)).names output.node));
         made = refl;
         true_to_lines = law (source_at files roles) (web_at files roles) (title_of_node (table_of (web_at files roles)).names output.node) hold.analysis.line_truth;
       };
@@ -170,11 +170,11 @@ module _ (files : FileTable) (roles : RolesRead) (state : SessionState) (hold : 
 
 -- how the writing of an output ends
 
-pub written_whole : (o : Option (List ℕ)) (old new : Stream) (text bytes : List ℕ) (n : ℕ) → o ≡ Some bytes → text ≡ bytes → IsWritten old new text (Ok n) → WritesOutput o old new (Ok n)
-written_whole o old new text bytes n at same puts = subst (λ x. WritesOutput x old new (Ok n)) (sym at) (subst (λ t. IsWritten old new t (Ok n)) same puts)
+pub written_whole : (o : Option (List ℕ)) (old new : Stream) (bytes of_output : List ℕ) (n : ℕ) → o ≡ Some of_output → bytes ≡ of_output → IsWritten old new bytes (Ok n) → WritesOutput o old new (Ok n)
+written_whole o old new bytes of_output n at same puts = subst (λ x. WritesOutput x old new (Ok n)) (sym at) (subst (λ b. IsWritten old new b (Ok n)) same puts)
 
-pub written_front : (o : Option (List ℕ)) (old new : Stream) (text bytes : List ℕ) (n : ℕ) → o ≡ Some bytes → text ≡ bytes → IsWritten old new text (Err (record { 0 = n })) → WritesOutput o old new (Err (refusal.WriteFault n))
-written_front o old new text bytes n at same puts = subst (λ x. WritesOutput x old new (Err (refusal.WriteFault n))) (sym at) (subst (λ t. IsWritten old new t (Err (record { 0 = n }))) same puts)
+pub written_front : (o : Option (List ℕ)) (old new : Stream) (bytes of_output : List ℕ) (n : ℕ) → o ≡ Some of_output → bytes ≡ of_output → IsWritten old new bytes (Err (record { 0 = n })) → WritesOutput o old new (Err (refusal.WriteFault n))
+written_front o old new bytes of_output n at same puts = subst (λ x. WritesOutput x old new (Err (refusal.WriteFault n))) (sym at) (subst (λ b. IsWritten old new b (Err (record { 0 = n }))) same puts)
 
 pub written_none : (o : Option (List ℕ)) (old new : Stream) → o ≡ None → new ≡ old → WritesOutput o old new (Err refusal.NoOutput)
 written_none o old new at same = subst (λ x. WritesOutput x old new (Err refusal.NoOutput)) (sym at) (refl, same)

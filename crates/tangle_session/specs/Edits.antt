@@ -38,10 +38,10 @@ of_first refusal = record { at = 0; refusal = refusal }
 abbrev pub one_later : ListRefusal → ListRefusal
 one_later refused = record { at = refused.at + 1; refusal = refused.refusal }
 
--- the refusal of the first edit, if it has one, else that of the edits behind it
+-- the refusal of the first edit, if it has one, else that of the edits after it
 abbrev pub first_refused : Option Refusal → Option ListRefusal → Option ListRefusal
-first_refused (Some refusal) behind = Some (of_first refusal)
-first_refused None behind = option_map one_later behind
+first_refused (Some refusal) after = Some (of_first refusal)
+first_refused None after = option_map one_later after
 
 -- The first refusal that applies to a list of edits, each made on what the earlier ones left. No
 -- edit changes the names that have roles.

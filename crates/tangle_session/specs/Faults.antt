@@ -10,5 +10,5 @@ use Rattle.tangle_graph.specs.Faults.{AreGraphFaults}
 -- Those of the graph are one list, which is a law of it.
 pub record AreFaults (source : SourceRead) (web : WebRead) (out : List ℕ) (faults : List FaultRead) : Type 0 where
   pub of_graph : List FaultRead
-  pub is_graph : AreGraphFaults web (table_of web) out of_graph
+  pub are_of_graph : AreGraphFaults web (table_of web) out of_graph
   pub list : faults ≡ source.faults ++ (web.faults ++ ((table_of web).faults ++ of_graph))

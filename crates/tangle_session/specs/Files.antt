@@ -8,7 +8,7 @@ use Rattle.tangle_scan.specs.Web.{WebRead, web_of}
 use Rattle.tangle_names.specs.NameTable.{table_of}
 use Rattle.tangle_expansion.specs.Limits.{flat_of}
 use Rattle.tangle_expansion.specs.Numbers.{numbers_of}
-use Rattle.tangle_expansion.specs.Outputs.{OutputRead, file_text}
+use Rattle.tangle_expansion.specs.Outputs.{OutputRead, output_file_bytes}
 use Rattle.tangle_plans.specs.WebShapes.{shapes}
 use Rattle.tangle_plans.specs.Shapes.{Shapes}
 use Rattle.tangle_graph.specs.Nodes.{title_of_node}
@@ -31,12 +31,13 @@ module _ (web : WebRead) where
     -- the bytes of an output file of a web whose line marks are written so
     abbrev pub output_bytes : OutputRead → List ℕ
     output_bytes output =
-        file_text (numbers_of web (table_of web) marks) output.has_macros output.has_piece
+        output_file_bytes (numbers_of web (table_of web) marks) output.has_macros output.has_piece
         (flat_of shapes_of (title_of_node (table_of web).names output.node))
 
-    abbrev pub written : OutputRead → List ℕ × List ℕ
-    written output = (output.name, output_bytes output)
+    -- the name of an output, and its bytes
+    abbrev pub named_bytes : OutputRead → List ℕ × List ℕ
+    named_bytes output = (output.name, output_bytes output)
 
     -- the output files of a web with a main file of this name, in order: each a name and its bytes
-    abbrev pub written_outputs : List ℕ → List (List ℕ × List ℕ)
-    written_outputs out = map written (outputs web (table_of web) out)
+    abbrev pub output_files : List ℕ → List (List ℕ × List ℕ)
+    output_files out = map named_bytes (outputs web (table_of web) out)

@@ -34,7 +34,7 @@ use Rattle.tangle_scan.specs.Web.{WebRead, web_of}
 use Rattle.tangle_names.specs.NameTable.{TableRead, table_of}
 use Rattle.tangle_expansion.specs.Limits.{flat_of}
 use Rattle.tangle_expansion.specs.Numbers.{numbers_of}
-use Rattle.tangle_expansion.specs.Outputs.{OutputRead, file_text}
+use Rattle.tangle_expansion.specs.Outputs.{OutputRead, output_file_bytes}
 use Rattle.tangle_plans.specs.WebShapes.{shapes}
 use Rattle.tangle_plans.specs.Shapes.{Title, Named, Reaches, ContainsItself}
 use Rattle.tangle_plans.specs.declared.nodes.Node.{Node}
@@ -48,7 +48,7 @@ use Rattle.tangle_session.specs.Sessions.{AreMade, ListsAffectedOfWebs, ListsExp
 use Rattle.tangle_session.specs.Sessions.{SessionRead, start_refusal}
 use Rattle.tangle_session.specs.Writes.{IsTrueFile, WritesOutput}
 use Rattle.tangle_session.specs.declared.headline.Edits.{Edits}
-use Rattle.tangle_session.specs.declared.headline.Edits.TheVariants.{Single, Several}
+use Rattle.tangle_session.specs.declared.headline.Edits.TheVariants as variant
 use Rattle.tangle_session.specs.declared.headline.Shown.{Shown}
 use Rattle.tangle_session.specs.declared.refusing.ListRefusal.{ListRefusal}
 
@@ -58,9 +58,9 @@ use Rattle.tangle_session.specs.declared.refusing.ListRefusal.{ListRefusal}
 -- the bytes of an output file: all macros, if they begin it, and then what its node expands to,
 -- with section numbers and line marks
 abbrev pub output_of_web : WebRead → TableRead → MarkMode → OutputRead → List ℕ
-output_of_web web names marks output =
-    file_text (numbers_of web names marks) output.has_macros output.has_piece
-    (flat_of (shapes web names) (title_of_node names.names output.node))
+output_of_web web table marks output =
+    output_file_bytes (numbers_of web table marks) output.has_macros output.has_piece
+    (flat_of (shapes web table) (title_of_node table.names output.node))
 
 -- Each step is a function of what the steps before it gave, and of the roles; of nothing else.
 pub record IsPlainTangling (files : FileTable) (roles : RolesRead)
@@ -73,27 +73,27 @@ pub record IsPlainTangling (files : FileTable) (roles : RolesRead)
   pub web : WebRead
   pub scanning : web ≡ web_of source
   -- web to names: the full names, and which of them each occurrence means
-  pub names : TableRead
-  pub naming : names ≡ table_of web
+  pub table : TableRead
+  pub naming : table ≡ table_of web
   -- names to outputs: the main file, and then the files of `@(`, each with its name and its bytes
   pub writing : output_files ≡
-      map (λ output. (output.name, output_of_web web names roles.marks output))
-      (outputs web names roles.out)
+      map (λ output. (output.name, output_of_web web table roles.marks output))
+      (outputs web table roles.out)
   -- and to faults: those of reading, of scanning, of names, and of what uses what, in this order
-  pub of_uses : List FaultRead
-  pub are_of_uses : AreGraphFaults web names roles.out of_uses
-  pub reporting : faults ≡ source.faults ++ (web.faults ++ (names.faults ++ of_uses))
+  pub of_graph : List FaultRead
+  pub are_of_graph : AreGraphFaults web table roles.out of_graph
+  pub reporting : faults ≡ source.faults ++ (web.faults ++ (table.faults ++ of_graph))
 
 -- 2. A history: edits from a start on, each with its answer.
 
 -- what is passed at once: one edit, or a list of edits that are made all or none
 pub data EditsRead : Type 0 where
-  OneEdit : (edit : Edit) → EditsRead
-  ListOf : (edits : List Edit) → EditsRead
+  Single : (edit : Edit) → EditsRead
+  Several : (edits : List Edit) → EditsRead
 
 abbrev pub edits_read : Edits → EditsRead
-edits_read (Single edit) = OneEdit edit
-edits_read (Several edits) = ListOf edits.items
+edits_read (variant.Single edit) = Single edit
+edits_read (variant.Several edits) = Several edits.items
 
 -- the edits, and their answer: they are accepted (`Ok`), or refused for a reason (`Err`), which has
 -- the number of the first edit that is refused
@@ -101,8 +101,8 @@ abbrev pub Call : Type 0
 Call = EditsRead × Result (Unit {0}) ListRefusal
 
 abbrev pub edits_of : EditsRead → List Edit
-edits_of (OneEdit edit) = edit ∷ []
-edits_of (ListOf edits) = edits
+edits_of (Single edit) = edit ∷ []
+edits_of (Several edits) = edits
 
 -- the edits of each call that was accepted, in order
 abbrev pub accepted : List Call → List (List Edit)
@@ -122,14 +122,14 @@ roles_with roles lists = roles_after roles (joined lists)
 -- none does, out of memory, which may come before any other reason is found in a list; then nothing
 -- changes.
 abbrev pub IsAnswered : SessionRead → EditsRead → Result (Unit {0}) ListRefusal → SessionRead → Type 0
-IsAnswered before (OneEdit edit) (Ok done) after =
+IsAnswered before (Single edit) (Ok done) after =
     (session_refusal before.files before.roles edit ≡ None) × AreMade before (edit ∷ []) after
-IsAnswered before (OneEdit edit) (Err refused) after =
+IsAnswered before (Single edit) (Err refused) after =
     (refused ≡ of_first (unwrap_or (session_refusal before.files before.roles edit) NoMemory))
     × (after ≡ before)
-IsAnswered before (ListOf edits) (Ok done) after =
+IsAnswered before (Several edits) (Ok done) after =
     (list_refusal before.files before.roles edits ≡ None) × AreMade before edits after
-IsAnswered before (ListOf edits) (Err refused) after =
+IsAnswered before (Several edits) (Err refused) after =
     ((list_refusal before.files before.roles edits ≡ Some refused) ⊎ (refused ≡ list_memory))
     × (after ≡ before)
 
@@ -150,15 +150,15 @@ pub data History (files : FileTable) (roles : RolesRead) : List Call → Session
 
 -- no output file reaches a name that contains itself; the main file reaches what the program does
 abbrev pub NoOutputReachesACycle : WebRead → TableRead → List ℕ → Type 0
-NoOutputReachesACycle web names out =
-    (output : OutputRead) (other : Title) → Contains (outputs web names out) output
-    → Reaches (shapes web names) (title_of_node names.names output.node) other
-    → ¬ (ContainsItself (shapes web names) other)
+NoOutputReachesACycle web table out =
+    (output : OutputRead) (other : Title) → Contains (outputs web table out) output
+    → Reaches (shapes web table) (title_of_node table.names output.node) other
+    → ¬ (ContainsItself (shapes web table) other)
 
 -- each name that contains itself has its fault, at its first occurrence
 abbrev pub EachCycleIsReported : WebRead → TableRead → List FaultRead → Type 0
-EachCycleIsReported web names faults =
-    (name : List ℕ) → ContainsItself (shapes web names) (Named name)
+EachCycleIsReported web table faults =
+    (name : List ℕ) → ContainsItself (shapes web table) (Named name)
     → IsReportedSelfContaining web name faults
 
 -- A session was asked everything, and for the output file of this name, whatever the name, with a
@@ -177,12 +177,12 @@ pub record ShowsPlainTangling (files : FileTable) (roles : RolesRead) (name : Li
   -- its bytes were written, or the first so many of them and the writer failed; where there is no
   -- such file, nothing was written, and it is refused
   pub written : WritesOutput (lookup (bytes_eq name) output_files) old new shown.written
-  -- where all are written, with line marks in full, each byte of a word, sign, text or code is on the
-  -- line that the compiler counts as its own, but for those behind a line end that a text or a join
-  -- took, up to the next line end or mark
+  -- where all are written, with line marks in full, each byte of a word, a sign, a quoted or verbatim
+  -- text or an ASCII constant is on the line that the compiler counts as its own, but for those after
+  -- a line end that a quoted text or a join took, up to the next line end or mark
   pub line_truth : roles.marks ≡ Full → OnOk shown.written (IsTrueFile files roles name)
-  pub no_cycle : NoOutputReachesACycle plain.web plain.names roles.out
-  pub cycles : EachCycleIsReported plain.web plain.names shown.faults.now
+  pub no_cycle : NoOutputReachesACycle plain.web plain.table roles.out
+  pub cycles : EachCycleIsReported plain.web plain.table shown.faults.now
 
 -- the web of the files with these edits made
 abbrev pub web_after : FileTable → RolesRead → List (List Edit) → WebRead

@@ -1,4 +1,4 @@
--- Webs that say the same at other origins.
+-- Webs whose occurrences and pieces are written alike, apart from their origins.
 use Rattle.std.specs.Prelude.{◌≡◌, ℕ, Bool, List, [], map, Option, None, Some}
 use Rattle.tangle_lexer.specs.Occurrences.{OccurrenceRead}
 use Rattle.tangle_scan.specs.Web.{WebRead, PieceRead}
@@ -28,20 +28,20 @@ abbrev pub used_occurrence : Item → Option ℕ
 used_occurrence (UseOf occurrence) = Some occurrence
 used_occurrence _ = None
 
--- what an item says: its bytes without their origin, or the number of the occurrence that it uses
+-- how an item is written: its bytes without their origin, or the number of the occurrence that it uses
 abbrev pub said_item : List (List ℕ) → Item → ShapeItem × Option ℕ
 said_item texts item = (shape_item texts no_names item, used_occurrence item)
 
--- what a piece says: the number of its name's occurrence, and its items, without its section
+-- how a piece is written: the number of its name's occurrence, and its items, without its section
 abbrev pub said_piece : List (List ℕ) → PieceRead → Option ℕ × List (ShapeItem × Option ℕ)
 said_piece texts piece = (piece.occurrence, map (said_item texts) piece.items)
 
--- what an occurrence of a name says
-abbrev pub said_name : OccurrenceRead → List ℕ × Bool
-said_name occurrence = (occurrence.text, occurrence.is_abbreviation)
+-- how an occurrence of a name is written
+abbrev pub said_occurrence : OccurrenceRead → List ℕ × Bool
+said_occurrence occurrence = (occurrence.text, occurrence.is_abbreviation)
 
--- The same names occur and the same pieces follow one another. Lines, origins, files, section
--- numbers, macros and faults may differ.
+-- The occurrences and the pieces are written alike, one after another. Lines, origins, files,
+-- section numbers, macros and faults may differ.
 pub record IsMoved (old new : WebRead) : Type 0 where
-  pub names : map said_name new.occurrences ≡ map said_name old.occurrences
+  pub occurrences : map said_occurrence new.occurrences ≡ map said_occurrence old.occurrences
   pub pieces : map (said_piece new.texts) new.pieces ≡ map (said_piece old.texts) old.pieces

@@ -1,4 +1,4 @@
--- What a session shows, and what it holds besides.
+-- What a session shows, and its state besides.
 use Rattle.std.specs.Prelude.{◌≡◌, ◌≢◌, ◌↔◌, ℕ, true, List, [], None, Some, Option, AllPairs, Contains, if◌then◌else◌}
 use Rattle.tangle_files.specs.Edited.{edited_all, roles_after}
 use Rattle.tangle_files.specs.Lines.{FileTable}
@@ -79,8 +79,8 @@ pub record IsAnalysis (analysis : Analysis) : Type 0 where
   pub roles : RolesRead
   pub made : IsAnalysisAt files roles analysis
 
--- What is held is what the files make, with what each expandable node expands to; and the web and the change file are there.
+-- The state is what the files make, with what each expandable node expands to; and the web and the change file are there.
 pub record AgreesWithFiles (files : FileTable) (roles : RolesRead) (state : SessionState) : Type 0 where
-  pub are_there : fits files roles ≡ true
+  pub files_fit : fits files roles ≡ true
   pub analysis : IsAnalysisAt files roles state.analysis
   pub kept : KeepsJust (shapes_of (web_at files roles)) state.analysis.store state.kept

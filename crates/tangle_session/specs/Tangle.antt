@@ -6,7 +6,7 @@ use Rattle.tangle_faults.specs.Faults.{FaultRead}
 use Rattle.tangle_files.specs.Lines.{FileTable}
 use Rattle.tangle_files.specs.Roles.{RolesRead}
 use Rattle.tangle_session.specs.Faults.{AreFaults}
-use Rattle.tangle_session.specs.Files.{source_at, web_at, written_outputs}
+use Rattle.tangle_session.specs.Files.{source_at, web_at, output_files}
 
 -- the faults in order, and the output files: each a name and its bytes
 pub record Tangling : Type 0 where
@@ -16,7 +16,7 @@ pub record Tangling : Type 0 where
 module _ (files : FileTable) (roles : RolesRead) where
   -- the output files, in order
   abbrev pub outputs_of : List (List ℕ × List ℕ)
-  outputs_of = written_outputs (web_at files roles) roles.marks roles.out
+  outputs_of = output_files (web_at files roles) roles.marks roles.out
 
   -- the bytes of the output file of this name
   abbrev pub output_at : List ℕ → Option (List ℕ)

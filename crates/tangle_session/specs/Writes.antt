@@ -12,14 +12,14 @@ use Rattle.tangle_streams.specs.Streams.{Stream, IsWritten}
 use Rattle.tangle_scan.specs.Web.{WebRead}
 use Rattle.tangle_names.specs.NameTable.{table_of}
 use Rattle.tangle_expansion.specs.Numbers.{numbers_of}
-use Rattle.tangle_expansion.specs.Outputs.{OutputRead, front_text, IsTrueToLines}
+use Rattle.tangle_expansion.specs.Outputs.{OutputRead, front_bytes, IsTrueToLines}
 use Rattle.tangle_graph.specs.Nodes.{title_of_node}
 use Rattle.tangle_graph.specs.Outputs.{outputs}
 use Rattle.tangle_session.specs.Files.{source_at, web_at}
 use Rattle.tangle_session.specs.Tangle.{output_at}
 
--- An output of these bytes was written. At Ok the writer has all of them; at a fault of the writer exactly the front that the number
--- says. There is no other refusal.
+-- An output of these bytes was written. At Ok the writer has all of them; at a fault of the writer exactly the prefix that the
+-- number says. There is no other refusal.
 abbrev pub WritesOut : Stream → Stream → List ℕ → Result ℕ Refusal → Type 0
 WritesOut old new bytes (Ok n) = IsWritten old new bytes (Ok n)
 WritesOut old new bytes (Err (refusal.WriteFault n)) = IsWritten old new bytes (Err (record { 0 = n }))
@@ -31,14 +31,14 @@ WritesOutput None old new result = (result ≡ Err refusal.NoOutput) × (new ≡
 WritesOutput (Some bytes) old new result = WritesOut old new bytes result
 
 -- Where line marks are written in full, the bytes of an output are the macros, if they begin it, and
--- the text of its node and a line feed, if the node has a piece; and each byte of a word, sign,
--- quoted text, verbatim text or ASCII constant in that text that is in no stretch is at the counted
+-- the bytes of its node and a line feed, if the node has a piece; and each of these bytes that is of a
+-- word, a sign, a quoted or verbatim text or an ASCII constant, and in no stretch, is at the counted
 -- origin that is its own.
 pub record IsTrueOutput (source : SourceRead) (web : WebRead) (output : OutputRead) (bytes : List ℕ) : Type 0 where
-  pub text : List ℕ
-  pub made : bytes ≡ front_text (numbers_of web (table_of web) Full) output.has_macros
-      ++ (if output.has_piece then text ++ line_feed ∷ [] else [])
-  pub true_to_lines : IsTrueToLines source web (title_of_node (table_of web).names output.node) text
+  pub of_node : List ℕ
+  pub made : bytes ≡ front_bytes (numbers_of web (table_of web) Full) output.has_macros
+      ++ (if output.has_piece then of_node ++ line_feed ∷ [] else [])
+  pub true_to_lines : IsTrueToLines source web (title_of_node (table_of web).names output.node) of_node
 
 -- the output file of this name, and its bytes, which are true to the lines of the source
 pub record IsTrueFile (files : FileTable) (roles : RolesRead) (name : List ℕ) : Type 0 where

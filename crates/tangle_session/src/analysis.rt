@@ -18,15 +18,15 @@ use tangle_names::NameTable;
 use tangle_scan::{Occurrence, Web, scan};
 
 /// The occurrences, the names, the store and the numbers of a web, and the faults of its files. The
-/// occurrences are kept for the next edit, which keeps what the names resolve to if they are
-/// written as they were.
+/// occurrences are kept for the next edit: where its occurrences are written alike, what the names
+/// resolve to is kept.
 #[derive(Drop)]
 pub(crate) struct Analysis {
     pub(crate) occurrences: Vec<Occurrence>,
     pub(crate) table: NameTable,
     pub(crate) store: Store,
     /// Of each node, whether it has the body of before, and uses names as before.
-    pub(crate) are_kept: Vec<bool>,
+    pub(crate) are_as_before: Vec<bool>,
     pub(crate) numbers: Numbers,
     pub(crate) faults: Vec<Fault>,
 }
@@ -54,21 +54,24 @@ fn store(
     requires { table.now ≡ record (table_of web.now) { faults = table.now.faults } }
     ensures store { IfOk result (λ made. IsStoreOfWeb web.now table.now out.now made.store) }
     ensures kept { IfOk result (λ made. IfSome old.entry
-        (λ before. KeepsBodies before.now.store made.store made.are_kept.items)) }
+        (λ before. KeepsBodies before.now.store made.store made.are_as_before.items)) }
 {
     match old {
         Some(old) => Store::rebuild(alloc, web, table, out, &old.store),
         None => {
             let store = Store::build(alloc, web, table, out)?;
-            let are_kept = Vec::new(alloc);
-            Ok(Rebuilt { store, are_kept })
+            let are_as_before = Vec::new(alloc);
+            Ok(Rebuilt {
+                store,
+                are_as_before,
+            })
         }
     }
 }
 
 impl Analysis {
-    /// What a web is made into, for a main file of this name and line marks that are written so.
-    /// The web has its occurrences as yet. The faults are those of names; the store has those of
+    /// The analysis of a web, for a main file of this name and line marks that are written so. Its
+    /// occurrences are still the web's, and its faults are those of names; the store has those of
     /// the graph.
     fn of_web(
         alloc: Global,
@@ -89,11 +92,11 @@ impl Analysis {
         ensures of_graph { IfOk result
             (λ made. AreGraphFaults web.now (table_of web.now) out.now made.store.faults) }
         ensures kept { IfOk result (λ made. IfSome old.entry
-            (λ before. KeepsBodies before.now.store made.store made.are_kept.items)) }
+            (λ before. KeepsBodies before.now.store made.store made.are_as_before.items)) }
     {
         let mut table = name_table(alloc, web, old)?;
         let made = store(alloc, web, &table, out, old)?;
-        let are_kept = made.are_kept;
+        let are_as_before = made.are_as_before;
         let store = made.store;
         let numbers = Numbers::build(alloc, web, &store, marks)?;
         let faults = table.take_faults();
@@ -101,14 +104,14 @@ impl Analysis {
             occurrences: Vec::new(alloc),
             table,
             store,
-            are_kept,
+            are_as_before,
             numbers,
             faults,
         })
     }
 
-    /// Puts the faults of a source and of its web before those of names, and those of the store,
-    /// which has none from then on, behind them.
+    /// Adds the faults of a source and of its web before those of names, and those of the store,
+    /// which has none from then on, after them.
     fn join_faults(
         &mut self,
         mut faults: Vec<Fault>,
@@ -144,7 +147,7 @@ impl Analysis {
         ensures made { IfOk result (λ made.
             IsAnalysisAt files.now (record roles.now { marks = marks }) made) }
         ensures kept { IfOk result (λ made. IfSome old.entry
-            (λ before. KeepsBodies before.now.store made.store made.are_kept.items)) }
+            (λ before. KeepsBodies before.now.store made.store made.are_as_before.items)) }
     {
         let source = read_source(alloc, files, roles)?;
         let web = scan(alloc, &source)?;

@@ -18,8 +18,8 @@ use crate::session::{Session, refusal_to_start};
 use std::alloc::Global;
 use tangle_lines::{Edit, Fault, Files, Refusal, Roles, Sink};
 
-/// What a session answers to each question, and of one output file how many bytes it has and how
-/// writing it ended.
+/// What a session shows: what each of its calls returned, and of one output file how many bytes it
+/// has and how writing it ended.
 #[derive(Drop)]
 pub struct Shown<'a> {
     pub files: &'a Files,
@@ -60,13 +60,13 @@ fn edit_each(
     mut answers: Vec<Result<(), ListRefusal>>,
 ) -> Vec<Result<(), ListRefusal>>
     requires empty { answers.items ≡ [] }
-    requires room { vec_capacity answers ≡ length edits.now }
+    requires capacity { vec_capacity answers ≡ length edits.now }
     ensures answered { length result.items ≡ length edits.now }
     ensures history { (files : FileTable) (roles : RolesRead) → History files roles [] session.old
         → History files roles (zip (map edits_read edits.now) result.items) session.new }
 {
-    for call in edits {
-        answers.push_reserved(apply_edits(session, call));
+    for one in edits {
+        answers.push_reserved(apply_edits(session, one));
     }
     answers
 }

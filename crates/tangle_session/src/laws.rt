@@ -75,7 +75,8 @@ pub fn self_containing_names_are_reported()
 }
 
 /// An edit that leaves each shape as it was expands nothing. So it is where text only moves: where
-/// lines, files, section numbers and macros change, and names and pieces say what they said.
+/// lines, files, section numbers and macros change, and occurrences and pieces are written as they
+/// were, apart from their origins.
 pub fn moved_text_expands_nothing()
     ensures nothing { (old new : WebRead) (nodes : List Node) → HaveSameShapes old new
         → ListsAffectedOfWebs old new nodes → nodes ≡ [] }

@@ -1,10 +1,8 @@
-//! The project as one object: a session tangles files with roles, and answers for their outputs and
-//! faults.
+//! The project as one object: a session tangles files with roles, and has their outputs and faults.
 //!
-//! [`Session::start`] takes the files and the roles. What it answers is defined over these two
-//! alone: the output files and their bytes, and the list of faults. [`Session::apply`] makes an
-//! edit and [`Session::apply_all`] a list of edits, and the session then answers for what they
-//! left.
+//! [`Session::start`] takes the files and the roles. What it shows is defined over these two alone:
+//! the output files and their bytes, and the list of faults. [`Session::apply`] makes an edit and
+//! [`Session::apply_all`] a list of edits, and the session then shows what they left.
 #![tactic(auto)]
 
 mod analysis;

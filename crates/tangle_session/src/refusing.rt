@@ -41,7 +41,7 @@ fn has_role(roles: &Roles, name: &[u8]) -> bool
     }
 }
 
-/// Why a file with a role is not to be discarded.
+/// Why an edit is refused for the role of its file.
 fn refusal_of_role(roles: &Roles, edit: &Edit) -> Option<Refusal>
     ensures { result ≡ role_refusal roles.now edit.now }
 {
@@ -56,8 +56,8 @@ fn refusal_of_role(roles: &Roles, edit: &Edit) -> Option<Refusal>
     }
 }
 
-/// Why an edit is refused in a session, but for lack of memory. Only a file that is there, and has
-/// a role, is refused for that.
+/// Why an edit is refused in a session, but for lack of memory. A role is a reason only where the
+/// file is there.
 pub(crate) fn refusal_to_apply(files: &Files, roles: &Roles, edit: &Edit) -> Option<Refusal>
     ensures { result ≡ session_refusal files.now roles.now edit.now }
 {

@@ -21,7 +21,7 @@ use std::alloc::Global;
 use std::marker::Model;
 use tangle_affected::expand_all;
 use tangle_expansion::{
-    Work, expandable_nodes_are_light, file_size, texts_are_true_to_lines, write_file,
+    Work, expandable_nodes_are_light, file_size, outputs_are_true_to_lines, write_file,
 };
 use tangle_lines::{Edit, Fault, Files, Refusal, Roles, Sink, WriteFault};
 use tangle_plans::names_resolve_inside;
@@ -66,7 +66,7 @@ impl Session {
     /// # Errors
     ///
     /// `NoWeb` where the web isn't among the files, else `NoChange` where the change file that is
-    /// named isn't, else `NoMemory` where an allocation failed. The files and the roles are
+    /// named isn't, else `NoMemory`, where an allocation failed. The files and the roles are
     /// returned as they were.
     pub fn start(
         alloc: Global,
@@ -108,13 +108,13 @@ impl Session {
     /// Makes an edit of the files, or sets how line marks are written, and tangles the project
     /// anew. Just those nodes are expanded that can be expanded and reach one whose shape isn't
     /// what it was, each once; of the others the expansions are kept. The new state is built beside
-    /// the old one and takes its place at once. What is left is what [`Session::apply_all`] leaves
-    /// for a list of this edit alone.
+    /// the old one and replaces it at once. What is left is what [`Session::apply_all`] leaves for
+    /// a list of this edit alone.
     ///
     /// # Errors
     ///
     /// That of [`Files::refusal_to_edit`] if there is one, else `RoleFile` where the web or the
-    /// change file is to be discarded, else `NoMemory` where an allocation failed; and then
+    /// change file is to be discarded, else `NoMemory`, where an allocation failed; and then
     /// nothing changes.
     pub fn apply(&mut self, edit: &Edit) -> Result<(), Refusal>
         ensures files { OnOk result (self.new.files ≡ edited self.old.files edit.now) }
@@ -131,7 +131,7 @@ impl Session {
             return Err(refusal);
         }
         let work = Work::new(self.alloc);
-        match self.make(std::slice::from_ref(edit), work) {
+        match self.make_all(std::slice::from_ref(edit), work) {
             Ok(()) => Ok(()),
             Err(refused) => Err(refused.refusal),
         }
@@ -144,7 +144,8 @@ impl Session {
     /// # Errors
     ///
     /// That of the first edit that is refused, with its number from 0; or `NoMemory` with the
-    /// number 0, which may come before such an edit is met; and then nothing changes.
+    /// number 0, where an allocation failed, which may come before such an edit is found; and then
+    /// nothing changes.
     pub fn apply_all(&mut self, edits: &[Edit]) -> Result<(), ListRefusal>
         ensures files { OnOk result (self.new.files ≡ edited_all self.old.files edits.now) }
         ensures roles { OnOk result (self.new.roles ≡ roles_after self.old.roles edits.now) }
@@ -157,13 +158,13 @@ impl Session {
         ensures err { OnErr result (self.new ≡ self.old) }
     {
         let work = Work::new(self.alloc);
-        self.make(edits, work)
+        self.make_all(edits, work)
     }
 
-    /// Makes the edits, all or none: what an edit alone and a list of edits have in common. The
-    /// work has no node yet. The setting of line marks changes last, when the new state is whole,
-    /// since it cannot fail; source, web, faults and refusals do not depend on it.
-    fn make(&mut self, edits: &[Edit], work: Work) -> Result<(), ListRefusal>
+    /// Makes the edits, all or none, for `apply` and `apply_all`. The work has no node yet. The
+    /// setting of line marks changes last, when the new state is whole, since it cannot fail;
+    /// source, web, faults and refusals do not depend on it.
+    fn make_all(&mut self, edits: &[Edit], work: Work) -> Result<(), ListRefusal>
         requires { work ≡ [] }
         ensures files { OnOk result (self.new.files ≡ edited_all self.old.files edits.now) }
         ensures roles { OnOk result (self.new.roles ≡ roles_after self.old.roles edits.now) }
@@ -203,10 +204,10 @@ impl Session {
         }
     }
 
-    /// Writes the output file of this name: how many bytes it has. At Ok, and where line marks are
-    /// written in full, each byte of a word, a sign, a quoted or verbatim text or an ASCII constant
-    /// is at the counted origin that is its own, but for those behind a line end that a quoted
-    /// text or a join took, up to the next line end or mark.
+    /// Writes the output file of this name, and returns how many bytes it has. At Ok, and where
+    /// line marks are written in full, each byte of a word, a sign, a quoted or verbatim text or an
+    /// ASCII constant is at the counted origin that is its own, but for those after a line end that
+    /// a quoted text or a join took, up to the next line end or mark.
     ///
     /// # Errors
     ///
@@ -221,9 +222,9 @@ impl Session {
         self.write_output_at(0, name, sink)
     }
 
-    /// Writes the output file of this name as [`Session::write_output`] does. It is looked for at
-    /// this index of [`Session::output_names`] first, and searched for only where it is not there:
-    /// so a caller that goes over the names has no search for each.
+    /// Writes the output file of this name as [`Session::write_output`] does. The output at this
+    /// index of [`Session::output_names`] is compared first, and the others only where it has
+    /// another name: so a caller that goes over the names has no search for each.
     ///
     /// # Errors
     ///
@@ -241,7 +242,7 @@ impl Session {
     {
         names_resolve_inside();
         expandable_nodes_are_light();
-        texts_are_true_to_lines();
+        outputs_are_true_to_lines();
         outputs_are_found_by_their_names();
         match self.state.find_output_at(index, name) {
             Some(output) => {

@@ -1,4 +1,4 @@
-//! Files with what tangling makes of them: what a session holds besides its roles.
+//! The state of a session: files with what tangling makes of them.
 ghost use Rattle.std.specs.Prelude.{◌≡◌, ◌⊎◌, [], true, None, Some, find, map, IfErr, IfOk, OnOk};
 ghost use Rattle.std.specs.List.{IsDistinct};
 ghost use Rattle.std.specs.Option.{option_copied};
@@ -40,7 +40,7 @@ impl SessionState {
         None
     }
 
-    /// The same, where no two output files have one name: it is looked for at this index first.
+    /// The same. The output at this index is compared first, so no two outputs may have one name.
     pub(crate) fn find_output_at(&self, index: usize, name: &[u8]) -> Option<&Output>
         requires { IsDistinct bytes_eq
             (map (λ output. output.name) self.now.analysis.store.outputs) }
@@ -54,7 +54,7 @@ impl SessionState {
     }
 }
 
-/// How line marks are written after a list of edits: as the last edit that sets it says.
+/// How line marks are written after a list of edits: as the last edit that sets them says.
 pub(crate) fn marks_after(roles: &Roles, edits: &[Edit]) -> MarkMode
     ensures { record roles.now { marks = result } ≡ roles_after roles.now edits.now }
 {
@@ -70,7 +70,7 @@ pub(crate) fn marks_after(roles: &Roles, edits: &[Edit]) -> MarkMode
 /// A copy of the files in which the edits are made, each on what the earlier ones left.
 fn edited_copy(files: &Files, roles: &Roles, edits: &[Edit]) -> Result<Files, ListRefusal>
     ensures made { IfOk result (λ copy. copy ≡ edited_all files.now edits.now) }
-    ensures taken { OnOk result (list_refusal files.now roles.now edits.now ≡ None) }
+    ensures unrefused { OnOk result (list_refusal files.now roles.now edits.now ≡ None) }
     ensures refused { IfErr result (λ refused.
         (list_refusal files.now roles.now edits.now ≡ Some refused) ⊎ (refused ≡ list_memory)) }
 {
@@ -86,8 +86,8 @@ fn edited_copy(files: &Files, roles: &Roles, edits: &[Edit]) -> Result<Files, Li
     Ok(copy)
 }
 
-/// What is held with this analysis of the files, over the expansions that were kept. The work has
-/// no node yet.
+/// The state with this analysis of the files. Expansions that no change affects are shared with the
+/// old state. The work has no node yet.
 fn expand_over(
     alloc: Global,
     old: &SessionState,
@@ -95,12 +95,12 @@ fn expand_over(
     analysis: Analysis,
     mut work: Work,
 ) -> Result<SessionState, NoMemory>
-    requires held { (before after : RolesRead)
+    requires agrees { (before after : RolesRead)
         × AgreesWithFiles old.now.files before old.now × IsAnalysisAt files after analysis }
-    requires kept { KeepsBodies old.now.analysis.store analysis.store analysis.are_kept.items }
+    requires kept { KeepsBodies old.now.analysis.store analysis.store analysis.are_as_before.items }
     requires unbegun { work ≡ [] }
     ensures files { IfOk result (λ new. new.files ≡ files) }
-    ensures held { (before after : RolesRead) → AgreesWithFiles old.now.files before old.now
+    ensures agrees { (before after : RolesRead) → AgreesWithFiles old.now.files before old.now
         → IsAnalysisAt files after analysis → fits files after ≡ true
         → IfOk result (λ new. AgreesWithFiles new.files after new) }
     ensures work { (before after : RolesRead) → AgreesWithFiles old.now.files before old.now
@@ -112,7 +112,7 @@ fn expand_over(
         &old.analysis.store,
         &old.kept,
         &analysis.store,
-        &analysis.are_kept,
+        &analysis.are_as_before,
         &mut work,
     )?;
     Ok(SessionState {
@@ -123,9 +123,9 @@ fn expand_over(
     })
 }
 
-/// What is held after a list of edits, after which line marks are written so: the files are tangled
-/// anew, over the expansions that are kept. The work has no node yet; what is expanded is noted
-/// there.
+/// The state after a list of edits, after which line marks are written so: the files are tangled
+/// anew, and the expansions that no change affects are kept. The work has no node yet; the nodes
+/// that are expanded are added to it.
 pub(crate) fn tangle_again(
     alloc: Global,
     old: &SessionState,
@@ -134,14 +134,14 @@ pub(crate) fn tangle_again(
     marks: MarkMode,
     work: Work,
 ) -> Result<SessionState, ListRefusal>
-    requires held { AgreesWithFiles old.now.files roles.now old.now }
+    requires agrees { AgreesWithFiles old.now.files roles.now old.now }
     requires unbegun { work ≡ [] }
     ensures files { IfOk result (λ new. new.files ≡ edited_all old.now.files edits.now) }
-    ensures held { IfOk result (λ new.
+    ensures agrees { IfOk result (λ new.
         AgreesWithFiles new.files (record roles.now { marks = marks }) new) }
     ensures work { IfOk result (λ new. ListsAffectedOfWebs (web_at old.now.files roles.now)
         (web_at new.files (record roles.now { marks = marks })) new.work) }
-    ensures taken { OnOk result (list_refusal old.now.files roles.now edits.now ≡ None) }
+    ensures unrefused { OnOk result (list_refusal old.now.files roles.now edits.now ≡ None) }
     ensures refused { IfErr result (λ refused.
         (list_refusal old.now.files roles.now edits.now ≡ Some refused)
         ⊎ (refused ≡ list_memory)) }

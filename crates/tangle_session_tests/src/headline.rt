@@ -1,5 +1,5 @@
 //! A session that is started and edited in one call, and asked everything in another.
-use crate::support::{AMPLE, check_handed_back, report_all, reported_project, start};
+use crate::support::{AMPLE, check_returned, report_all, reported_project, start};
 use crate::webs::CYCLE;
 use std::alloc::{AllocError, Global};
 use std::process::Abort;
@@ -7,7 +7,7 @@ use std::test::Fail;
 use tangle_folders::MemorySink;
 use tangle_lines::{Edit, Files, Refusal, Roles};
 use tangle_session::{Edits, ListRefusal, Session, Shown, ask_all, start_and_edit};
-use tangle_test_support::{Kind, edit, end_refusals, fail_allocation, files_with};
+use tangle_test_support::{EditKind, edit, end_failures, fail_allocation, files_with};
 
 // More allocations than any call makes here.
 const MOST: u32 = 10_000;
@@ -29,7 +29,7 @@ type Edited = Result<(Session, Answers), (Files, Roles, Refusal)>;
 fn push_edit(
     alloc: Global,
     edits: &mut Vec<Edit>,
-    kind: Kind,
+    kind: EditKind,
     at: usize,
     text: &[u8],
 ) -> Result<(), AllocError> {
@@ -39,14 +39,14 @@ fn push_edit(
 // A list of edits that breaks the cycle.
 fn breaking(alloc: Global) -> Result<Vec<Edit>, AllocError> {
     let mut edits = Vec::new(alloc);
-    push_edit(alloc, &mut edits, Kind::Insert, 7, b"b;")?;
-    push_edit(alloc, &mut edits, Kind::Remove, 8, b"")?;
+    push_edit(alloc, &mut edits, EditKind::Insert, 7, b"b;")?;
+    push_edit(alloc, &mut edits, EditKind::Remove, 8, b"")?;
     Ok(edits)
 }
 
 // An edit of a line that isn't there, and that list.
 fn push_calls(alloc: Global, calls: &mut Vec<Edits>) -> Result<(), AllocError> {
-    let missing = edit(alloc, Kind::Insert, b"a.w", 99, b"x")?;
+    let missing = edit(alloc, EditKind::Insert, b"a.w", 99, b"x")?;
     calls.push(Edits::Single(missing))?;
     Ok(calls.push(Edits::Several(breaking(alloc)?))?)
 }
@@ -63,21 +63,21 @@ fn cycle(alloc: Global) -> Result<(Files, Roles), Fail> {
     Ok((files, roles))
 }
 
-// Starts and edits with this allocation failing: what comes of it, and whether none was refused.
-fn edited_without(
+// Starts and edits with this allocation failing: what comes of it, and whether none failed.
+fn edited_with_failure(
     alloc: Global,
     files: Files,
     roles: Roles,
     calls: &[Edits],
     nth: u32,
 ) -> (Edited, bool) {
-    let is_harnessed = fail_allocation(alloc, nth);
+    let has_library = fail_allocation(alloc, nth);
     let edited = start_and_edit(alloc, files, roles, calls);
-    (edited, end_refusals(alloc, is_harnessed))
+    (edited, end_failures(alloc, has_library))
 }
 
-// Asks for everything, and for the main file. It is a function of its own, so that its promise is
-// looked at once.
+// Asks for everything, and for the main file. It is a function of its own, so that its clauses
+// are used once.
 fn ask<'a>(session: &'a Session, sink: &mut MemorySink) -> Shown<'a> {
     ask_all(session, b"a.c", sink)
 }
@@ -127,11 +127,11 @@ fn check_answers(
     alloc: Global,
     session: &Session,
     answers: &[Answer],
-    was_spared: bool,
+    none_failed: bool,
 ) -> Result<(), Fail> {
     assert_eq!(rt; answers.len(), 2);
     assert_eq!(rt; answers.first(), Some(&refused(Refusal::NoSuchLine)));
-    if was_spared {
+    if none_failed {
         assert_eq!(rt; answers.last(), Some(&Ok(())));
         return check_whole(rt, alloc, session);
     }
@@ -146,16 +146,16 @@ fn check_edited(
     alloc: Global,
     before: &MemorySink,
     edited: &Edited,
-    was_spared: bool,
+    none_failed: bool,
 ) -> Result<(), Fail> {
     match edited {
-        Ok((session, answers)) => check_answers(rt, alloc, session, answers, was_spared),
-        Err(handed_back) => check_handed_back(rt, alloc, before, handed_back, Refusal::NoMemory),
+        Ok((session, answers)) => check_answers(rt, alloc, session, answers, none_failed),
+        Err(returned) => check_returned(rt, alloc, before, returned, Refusal::NoMemory),
     }
 }
 
 // Starts and edits with this allocation failing, and says whether none did.
-fn edits_are_spared(
+fn edits_without_failure(
     rt: &impl Abort,
     alloc: Global,
     calls: &[Edits],
@@ -163,18 +163,18 @@ fn edits_are_spared(
 ) -> Result<bool, Fail> {
     let (files, roles) = cycle(alloc)?;
     let before = reported_project(alloc, &files, &roles)?;
-    let (edited, was_spared) = edited_without(alloc, files, roles, calls, nth);
-    let checked = check_edited(rt, alloc, &before, &edited, was_spared);
-    // what owns a session is dropped once, in front of the ways out
+    let (edited, none_failed) = edited_with_failure(alloc, files, roles, calls, nth);
+    let checked = check_edited(rt, alloc, &before, &edited, none_failed);
+    // what owns a session is dropped once, before the exits
     drop(edited);
     checked?;
-    Ok(was_spared)
+    Ok(none_failed)
 }
 
 // Fails the first allocation, the second and so on, until none fails.
-fn refuse_each(rt: &impl Abort, alloc: Global, calls: &[Edits]) -> Result<(), Fail> {
+fn fail_each_allocation(rt: &impl Abort, alloc: Global, calls: &[Edits]) -> Result<(), Fail> {
     for nth in 1..MOST {
-        if edits_are_spared(rt, alloc, calls, nth)? {
+        if edits_without_failure(rt, alloc, calls, nth)? {
             return Ok(());
         }
     }
@@ -185,39 +185,35 @@ fn refuse_each(rt: &impl Abort, alloc: Global, calls: &[Edits]) -> Result<(), Fa
 fn started_and_edited_with_each_allocation_failing(rt: HostRuntime) -> Result<(), Fail> {
     let mut calls = Vec::new(rt.alloc());
     push_calls(rt.alloc(), &mut calls)?;
-    refuse_each(&rt, rt.alloc(), &calls)
+    fail_each_allocation(&rt, rt.alloc(), &calls)
 }
 
 // Asks with this allocation of the writer failing, and says whether none did; else the writer has
 // failed, and has the front of the main file that is counted.
-fn answers_are_spared(
+fn answers_without_failure(
     rt: &impl Abort,
     alloc: Global,
     session: &Session,
     nth: u32,
 ) -> Result<bool, Fail> {
     let mut sink = MemorySink::new(alloc, AMPLE);
-    let is_harnessed = fail_allocation(alloc, nth);
+    let has_library = fail_allocation(alloc, nth);
     let written = ask(session, &mut sink).written;
-    let was_spared = end_refusals(alloc, is_harnessed);
+    let none_failed = end_failures(alloc, has_library);
     let taken = sink.bytes().len();
-    let expected = if was_spared {
+    let expected = if none_failed {
         Ok(taken as u128)
     } else {
         Err(Refusal::WriteFault(taken as u128))
     };
     assert_eq!(rt; written, expected);
     assert!(rt; Some(sink.bytes()) == ONE_PIECE.get(..taken));
-    Ok(was_spared)
+    Ok(none_failed)
 }
 
-fn refuse_each_of_the_writer(
-    rt: &impl Abort,
-    alloc: Global,
-    session: &Session,
-) -> Result<(), Fail> {
+fn fail_each_of_the_writer(rt: &impl Abort, alloc: Global, session: &Session) -> Result<(), Fail> {
     for nth in 1..MOST {
-        if answers_are_spared(rt, alloc, session, nth)? {
+        if answers_without_failure(rt, alloc, session, nth)? {
             return Ok(());
         }
     }
@@ -227,5 +223,5 @@ fn refuse_each_of_the_writer(
 #[test]
 fn asked_with_each_allocation_of_the_writer_failing(rt: HostRuntime) -> Result<(), Fail> {
     let session = start(rt.alloc(), b"@ A.\n@c\nint x;\n")?;
-    refuse_each_of_the_writer(&rt, rt.alloc(), &session)
+    fail_each_of_the_writer(&rt, rt.alloc(), &session)
 }

@@ -1,4 +1,4 @@
-//! The tests of sessions, of what no clause of theirs says and no conversation shows: refused
+//! The tests of sessions, of what no clause of theirs says and no conversation shows: failing
 //! allocations, a writer that fails, and starts that are refused; and lists of edits by the call
 //! that takes them, with the number of the edit that is refused.
 //!

@@ -1,6 +1,6 @@
 //! Each allocation of a list of edits failing in turn: the list is refused so, and all is as it
 //! was.
-use crate::lists::{Step, push_edits, refusal_of};
+use crate::lists::{EditRow, push_edits, refusal_of};
 use crate::support::{report_all, start};
 use crate::webs::TWO_BRANCHES;
 use std::alloc::Global;
@@ -8,7 +8,7 @@ use std::process::Abort;
 use std::test::Fail;
 use tangle_lines::{Edit, MarkMode, Refusal};
 use tangle_session::{ListRefusal, Session};
-use tangle_test_support::{Kind, end_refusals, fail_allocation};
+use tangle_test_support::{EditKind, end_failures, fail_allocation};
 
 // More allocations than any list makes here.
 const MOST: u32 = 10_000;
@@ -19,9 +19,9 @@ const NO_MEMORY: ListRefusal = ListRefusal {
     refusal: Refusal::NoMemory,
 };
 
-// Makes the list with this allocation failing. It says whether none was, and the list was made;
+// Makes the list with this allocation failing. It says whether none did, and the list was made;
 // else the session answers as before.
-fn list_is_spared(
+fn list_without_failure(
     rt: &impl Abort,
     alloc: Global,
     session: &mut Session,
@@ -29,16 +29,16 @@ fn list_is_spared(
     nth: u32,
 ) -> Result<bool, Fail> {
     let before = report_all(alloc, session)?;
-    let is_harnessed = fail_allocation(alloc, nth);
+    let has_library = fail_allocation(alloc, nth);
     let refused = refusal_of(session, edits);
-    let was_spared = end_refusals(alloc, is_harnessed);
-    if was_spared {
+    let none_failed = end_failures(alloc, has_library);
+    if none_failed {
         assert_eq!(rt; refused, None);
     } else {
         assert_eq!(rt; refused, Some(NO_MEMORY));
         assert!(rt; report_all(alloc, session)?.bytes() == before.bytes());
     }
-    Ok(was_spared)
+    Ok(none_failed)
 }
 
 // Fails the first allocation of the list, the second and so on, until none fails; then so many
@@ -51,7 +51,7 @@ fn fail_each_allocation(
     work: u64,
 ) -> Result<(), Fail> {
     for nth in 1..MOST {
-        if list_is_spared(rt, alloc, session, edits, nth)? {
+        if list_without_failure(rt, alloc, session, edits, nth)? {
             assert_eq!(rt; session.last_work(), work);
             return Ok(());
         }
@@ -60,53 +60,53 @@ fn fail_each_allocation(
 }
 
 // Makes these edits as one list, with every allocation of it failing in turn.
-fn refuse_in_list(
+fn fail_in_list(
     rt: &impl Abort,
     alloc: Global,
     session: &mut Session,
-    steps: &[Step],
+    rows: &[EditRow],
     work: u64,
 ) -> Result<(), Fail> {
     let mut edits = Vec::new(alloc);
-    push_edits(alloc, &mut edits, steps)?;
+    push_edits(alloc, &mut edits, rows)?;
     fail_each_allocation(rt, alloc, session, &edits, work)
 }
 
-// A line is replaced and another one comes behind it, and then both edits are taken back.
-fn refuse_in_two(rt: &impl Abort, alloc: Global, session: &mut Session) -> Result<(), Fail> {
-    let there: [Step; 2] = [
-        (Kind::Replace, b"a.w", 9, b"3"),
-        (Kind::Insert, b"a.w", 10, b"4"),
+// A line is replaced and another one comes after it, and then both edits are taken back.
+fn fail_in_two(rt: &impl Abort, alloc: Global, session: &mut Session) -> Result<(), Fail> {
+    let there: [EditRow; 2] = [
+        (EditKind::Replace, b"a.w", 9, b"3"),
+        (EditKind::Insert, b"a.w", 10, b"4"),
     ];
-    let back: [Step; 2] = [
-        (Kind::Remove, b"a.w", 10, b""),
-        (Kind::Replace, b"a.w", 9, b"1"),
+    let back: [EditRow; 2] = [
+        (EditKind::Remove, b"a.w", 10, b""),
+        (EditKind::Replace, b"a.w", 9, b"1"),
     ];
-    refuse_in_list(rt, alloc, session, &there, 4)?;
-    refuse_in_list(rt, alloc, session, &back, 4)
+    fail_in_list(rt, alloc, session, &there, 4)?;
+    fail_in_list(rt, alloc, session, &back, 4)
 }
 
 #[test]
 fn each_allocation_of_a_list_of_two_edits_failing(rt: HostRuntime) -> Result<(), Fail> {
     let mut session = start(rt.alloc(), TWO_BRANCHES)?;
-    refuse_in_two(&rt, rt.alloc(), &mut session)
+    fail_in_two(&rt, rt.alloc(), &mut session)
 }
 
 // A line is replaced and the marks are set, and then nothing else is.
-fn refuse_with_marks(rt: &impl Abort, alloc: Global, session: &mut Session) -> Result<(), Fail> {
-    let steps: [Step; 2] = [
-        (Kind::BareMarks, b"", 0, b""),
-        (Kind::Replace, b"a.w", 9, b"3"),
+fn fail_with_marks(rt: &impl Abort, alloc: Global, session: &mut Session) -> Result<(), Fail> {
+    let rows: [EditRow; 2] = [
+        (EditKind::BareMarks, b"", 0, b""),
+        (EditKind::Replace, b"a.w", 9, b"3"),
     ];
-    refuse_in_list(rt, alloc, session, &steps, 4)?;
+    fail_in_list(rt, alloc, session, &rows, 4)?;
     assert_eq!(rt; session.roles().marks(), MarkMode::Bare);
-    refuse_in_list(rt, alloc, session, &[(Kind::FullMarks, b"", 0, b"")], 0)?;
+    fail_in_list(rt, alloc, session, &[(EditKind::FullMarks, b"", 0, b"")], 0)?;
     assert_eq!(rt; session.roles().marks(), MarkMode::Full);
-    refuse_in_list(rt, alloc, session, &[], 0)
+    fail_in_list(rt, alloc, session, &[], 0)
 }
 
 #[test]
 fn each_allocation_of_a_list_with_marks_failing(rt: HostRuntime) -> Result<(), Fail> {
     let mut session = start(rt.alloc(), TWO_BRANCHES)?;
-    refuse_with_marks(&rt, rt.alloc(), &mut session)
+    fail_with_marks(&rt, rt.alloc(), &mut session)
 }

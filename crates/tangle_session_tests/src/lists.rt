@@ -7,24 +7,24 @@ use std::process::Abort;
 use std::test::Fail;
 use tangle_lines::{Edit, MarkMode, Refusal};
 use tangle_session::{ListRefusal, Session};
-use tangle_test_support::{Kind, edit};
+use tangle_test_support::{EditKind, edit};
 
 /// An edit: its kind, the file, the line and the text.
-pub(crate) type Step = (Kind, &'static [u8], usize, &'static [u8]);
+pub(crate) type EditRow = (EditKind, &'static [u8], usize, &'static [u8]);
 
 /// Adds these edits to the list.
 pub(crate) fn push_edits(
     alloc: Global,
     edits: &mut Vec<Edit>,
-    steps: &[Step],
+    rows: &[EditRow],
 ) -> Result<(), AllocError> {
-    for (kind, file, at, text) in steps {
+    for (kind, file, at, text) in rows {
         edits.push(edit(alloc, *kind, file, *at, text)?)?;
     }
     Ok(())
 }
 
-/// How the list is refused, if it is. It is separate, so that what the call promises is looked at
+/// How the list is refused, if it is. It is separate, so that the clauses of the call are used
 /// once.
 pub(crate) fn refusal_of(session: &mut Session, edits: &[Edit]) -> Option<ListRefusal> {
     session.apply_all(edits).err()
@@ -34,10 +34,10 @@ pub(crate) fn refusal_of(session: &mut Session, edits: &[Edit]) -> Option<ListRe
 fn make(
     alloc: Global,
     session: &mut Session,
-    steps: &[Step],
+    rows: &[EditRow],
 ) -> Result<Option<ListRefusal>, AllocError> {
     let mut edits = Vec::new(alloc);
-    push_edits(alloc, &mut edits, steps)?;
+    push_edits(alloc, &mut edits, rows)?;
     Ok(refusal_of(session, &edits))
 }
 
@@ -46,24 +46,24 @@ fn check_made(
     rt: &impl Abort,
     alloc: Global,
     session: &mut Session,
-    steps: &[Step],
+    rows: &[EditRow],
     work: u64,
 ) -> Result<(), Fail> {
-    let refused = make(alloc, session, steps)?;
+    let refused = make(alloc, session, rows)?;
     assert_eq!(rt; refused, None);
     assert_eq!(rt; session.last_work(), work);
     Ok(())
 }
 
 // The list is made, nothing is expanded for it, and all else is as before.
-fn check_made_in_vain(
+fn check_no_effect(
     rt: &impl Abort,
     alloc: Global,
     session: &mut Session,
-    steps: &[Step],
+    rows: &[EditRow],
 ) -> Result<(), Fail> {
     let before = report_shown(alloc, session)?;
-    check_made(rt, alloc, session, steps, 0)?;
+    check_made(rt, alloc, session, rows, 0)?;
     assert!(rt; report_shown(alloc, session)?.bytes() == before.bytes());
     Ok(())
 }
@@ -73,74 +73,74 @@ fn check_refused(
     rt: &impl Abort,
     alloc: Global,
     session: &mut Session,
-    steps: &[Step],
+    rows: &[EditRow],
     refused: ListRefusal,
 ) -> Result<(), Fail> {
     let before = report_all(alloc, session)?;
-    let found = make(alloc, session, steps)?;
+    let found = make(alloc, session, rows)?;
     assert_eq!(rt; found, Some(refused));
     assert!(rt; report_all(alloc, session)?.bytes() == before.bytes());
     Ok(())
 }
 
 // Two edits of one line, of which the second takes the first one back; and a list without edits.
-fn make_in_vain(rt: &impl Abort, alloc: Global, session: &mut Session) -> Result<(), Fail> {
-    let there_and_back: [Step; 2] = [
-        (Kind::Replace, b"a.w", 9, b"3"),
-        (Kind::Replace, b"a.w", 9, b"1"),
+fn make_without_effect(rt: &impl Abort, alloc: Global, session: &mut Session) -> Result<(), Fail> {
+    let there_and_back: [EditRow; 2] = [
+        (EditKind::Replace, b"a.w", 9, b"3"),
+        (EditKind::Replace, b"a.w", 9, b"1"),
     ];
     assert_eq!(rt; session.last_work(), 5);
-    check_made_in_vain(rt, alloc, session, &there_and_back)?;
-    check_made_in_vain(rt, alloc, session, &[])
+    check_no_effect(rt, alloc, session, &there_and_back)?;
+    check_no_effect(rt, alloc, session, &[])
 }
 
 #[test]
 fn lists_that_leave_all_as_it_was(rt: HostRuntime) -> Result<(), Fail> {
     let mut session = start(rt.alloc(), TWO_BRANCHES)?;
-    make_in_vain(&rt, rt.alloc(), &mut session)
+    make_without_effect(&rt, rt.alloc(), &mut session)
 }
 
 #[test]
 fn a_line_that_is_not_there(rt: HostRuntime) -> Result<(), Fail> {
-    let steps: [Step; 2] = [
-        (Kind::Replace, b"a.w", 9, b"3"),
-        (Kind::Remove, b"a.w", 99, b""),
+    let rows: [EditRow; 2] = [
+        (EditKind::Replace, b"a.w", 9, b"3"),
+        (EditKind::Remove, b"a.w", 99, b""),
     ];
     let refused = ListRefusal {
         at: 1,
         refusal: Refusal::NoSuchLine,
     };
     let mut session = start(rt.alloc(), TWO_BRANCHES)?;
-    check_refused(&rt, rt.alloc(), &mut session, &steps, refused)
+    check_refused(&rt, rt.alloc(), &mut session, &rows, refused)
 }
 
 #[test]
 fn the_web_is_to_be_discarded(rt: HostRuntime) -> Result<(), Fail> {
-    let steps: [Step; 3] = [
-        (Kind::Create, b"b.w", 0, b""),
-        (Kind::Insert, b"b.w", 1, b"z"),
-        (Kind::Discard, b"a.w", 0, b""),
+    let rows: [EditRow; 3] = [
+        (EditKind::Create, b"b.w", 0, b""),
+        (EditKind::Insert, b"b.w", 1, b"z"),
+        (EditKind::Discard, b"a.w", 0, b""),
     ];
     let refused = ListRefusal {
         at: 2,
         refusal: Refusal::RoleFile,
     };
     let mut session = start(rt.alloc(), TWO_BRANCHES)?;
-    check_refused(&rt, rt.alloc(), &mut session, &steps, refused)
+    check_refused(&rt, rt.alloc(), &mut session, &rows, refused)
 }
 
 // The first of three edits is refused, though the others could be made.
 fn refuse_the_first(rt: &impl Abort, alloc: Global, session: &mut Session) -> Result<(), Fail> {
-    let steps: [Step; 3] = [
-        (Kind::Create, b"a.w", 0, b""),
-        (Kind::Replace, b"a.w", 9, b"3"),
-        (Kind::BareMarks, b"", 0, b""),
+    let rows: [EditRow; 3] = [
+        (EditKind::Create, b"a.w", 0, b""),
+        (EditKind::Replace, b"a.w", 9, b"3"),
+        (EditKind::BareMarks, b"", 0, b""),
     ];
     let refused = ListRefusal {
         at: 0,
         refusal: Refusal::FileExists,
     };
-    check_refused(rt, alloc, session, &steps, refused)
+    check_refused(rt, alloc, session, &rows, refused)
 }
 
 #[test]
@@ -151,14 +151,14 @@ fn a_file_that_is_there(rt: HostRuntime) -> Result<(), Fail> {
 
 // A list with the marks among its edits: the last setting holds, and four nodes are expanded.
 fn set_marks(rt: &impl Abort, alloc: Global, session: &mut Session) -> Result<(), Fail> {
-    let steps: [Step; 3] = [
-        (Kind::BareMarks, b"", 0, b""),
-        (Kind::Replace, b"a.w", 9, b"3"),
-        (Kind::BareMarks, b"", 0, b""),
+    let rows: [EditRow; 3] = [
+        (EditKind::BareMarks, b"", 0, b""),
+        (EditKind::Replace, b"a.w", 9, b"3"),
+        (EditKind::BareMarks, b"", 0, b""),
     ];
-    check_made(rt, alloc, session, &steps, 4)?;
+    check_made(rt, alloc, session, &rows, 4)?;
     assert_eq!(rt; session.roles().marks(), MarkMode::Bare);
-    check_made(rt, alloc, session, &[(Kind::FullMarks, b"", 0, b"")], 0)?;
+    check_made(rt, alloc, session, &[(EditKind::FullMarks, b"", 0, b"")], 0)?;
     assert_eq!(rt; session.roles().marks(), MarkMode::Full);
     Ok(())
 }

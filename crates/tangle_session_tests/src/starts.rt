@@ -1,5 +1,5 @@
 //! Starts that are refused.
-use crate::support::{check_handed_back, handed_back, reported_project};
+use crate::support::{check_returned, refused_start, reported_project};
 use std::alloc::Global;
 use std::process::Abort;
 use std::test::Fail;
@@ -17,8 +17,8 @@ fn check_refused(
     let files = files_with(alloc, &[(b"b.w", b"@ A.\n@c\nx\n"), (b"a.ch", b"@x\n")])?;
     let roles = Roles::new(alloc, web, change, b"b.c")?;
     let before = reported_project(alloc, &files, &roles)?;
-    match handed_back(alloc, files, roles) {
-        Some(handed_back) => check_handed_back(rt, alloc, &before, &handed_back, refusal),
+    match refused_start(alloc, files, roles) {
+        Some(returned) => check_returned(rt, alloc, &before, &returned, refusal),
         None => Err(Fail::from("started")),
     }
 }

@@ -1,23 +1,23 @@
-//! What the tests share: sessions, edits, and all that a session answers as text.
+//! What the tests share: sessions, edits, and all that a session answers as bytes.
 use itoa::Buffer;
 use std::alloc::Global;
 use std::process::Abort;
 use std::test::Fail;
 use tangle_folders::MemorySink;
-use tangle_lines::{Files, Line, MarkMode, Refusal, Roles, put, write_fault};
+use tangle_lines::{Files, Line, MarkMode, Refusal, Roles, write_after, write_fault};
 use tangle_session::Session;
 use tangle_test_support::files_with;
 
 /// Capacity for all that a test writes.
 pub(crate) const AMPLE: usize = 10_000_000;
 
-// It is separate, so that what a start promises is looked at once.
+// It is separate, so that the clauses of a start are used once.
 fn started(alloc: Global, files: Files, roles: Roles) -> Option<Session> {
     Session::start(alloc, files, roles).ok()
 }
 
 /// What a start that is refused returns.
-pub(crate) fn handed_back(
+pub(crate) fn refused_start(
     alloc: Global,
     files: Files,
     roles: Roles,
@@ -34,12 +34,12 @@ pub(crate) fn start(alloc: Global, web: &[u8]) -> Result<Session, Fail> {
 
 // Reports a line.
 fn report(sink: &mut MemorySink, line: &[u8]) -> Result<(), Fail> {
-    put(sink, Ok(0), line)?;
-    put(sink, Ok(0), b"\n")?;
+    write_after(sink, Ok(0), line)?;
+    write_after(sink, Ok(0), b"\n")?;
     Ok(())
 }
 
-/// Writes an output file. It is separate, so that what a session promises of it is looked at once.
+/// Writes an output file. It is separate, so that the clauses of the call are used once.
 pub(crate) fn write_output(
     session: &Session,
     name: &[u8],
@@ -131,14 +131,14 @@ pub(crate) fn reported_project(
 }
 
 /// A start that was refused so returned files and roles as they were reported before.
-pub(crate) fn check_handed_back(
+pub(crate) fn check_returned(
     rt: &impl Abort,
     alloc: Global,
     before: &MemorySink,
-    handed_back: &(Files, Roles, Refusal),
+    returned: &(Files, Roles, Refusal),
     expected: Refusal,
 ) -> Result<(), Fail> {
-    let (files, roles, refusal) = handed_back;
+    let (files, roles, refusal) = returned;
     assert_eq!(rt; *refusal, expected);
     assert!(rt; reported_project(alloc, files, roles)?.bytes() == before.bytes());
     Ok(())

@@ -7,7 +7,7 @@ use tangle_folders::MemorySink;
 use tangle_lines::Refusal;
 use tangle_session::Session;
 
-// A writer with room for seven bytes has taken the front of the main file.
+// A writer that takes seven bytes has the front of the main file.
 fn check_seven(rt: &impl Abort, alloc: Global, session: &Session) {
     let mut sink = MemorySink::new(alloc, 7);
     let written = write_output(session, b"a.c", &mut sink);

@@ -6,7 +6,7 @@ use Rattle.std.proofs.lemmas.Bool.{ne_eqb, lt-ltb}
 use borrow.Author.Tests.{ltb-true, ltb-false}
 use Rattle.std.specs.Prelude.{nat_lt, ◌==◌, ◌&&◌}
 use Rattle.std.specs.Io.KnownBytes.{Appends, Keeps}
-use Rattle.tangle_streams.specs.Streams.{Stream, Failed, IsWritten, one_more_failure, Takes, counted}
+use Rattle.tangle_streams.specs.Streams.{Stream, Failed, IsWritten, one_more_failure, Takes, counted_write}
 
 pub Appends-none : (a : Option (List ℕ)) → Appends a a []
 Appends-none None = tt
@@ -31,48 +31,48 @@ Failed-one_more n = by (nat_lt n (2 ^ 64 - 1)) refl
     by true e = let h : n < 2 ^ 64 - 1 = omega (arith, ltb-true n (2 ^ 64 - 1) e) in inl (omega arith)
     by false e = let h : 2 ^ 64 - 1 ≤ n = omega (arith, ltb-false n (2 ^ 64 - 1) e) in inr (omega arith)
 
--- the text and a prefix of the bytes were written, and the rest is still to come
-pub record IsHalfway (old new : Stream) (count : ℕ) (text bytes rest : List ℕ) : Type 0 where
+-- the output and a prefix of the bytes were written, and the rest is still to be written
+pub record IsHalfway (old new : Stream) (count : ℕ) (output bytes rest : List ℕ) : Type 0 where
   pub front : List ℕ
   pub whole : bytes ≡ front ++ rest
-  pub so_far : count ≡ length text + length front
-  pub reported : Appends old.taken new.taken (text ++ front)
+  pub so_far : count ≡ length output + length front
+  pub reported : Appends old.taken new.taken (output ++ front)
   pub unfailed : new.failures ≡ old.failures
 
-pub halfway_at_first : (a b : Stream) (n : ℕ) (text bytes : List ℕ) → IsWritten a b text (Ok n) → IsHalfway a b n text bytes bytes
-halfway_at_first a b n text bytes h =
+pub halfway_at_first : (a b : Stream) (n : ℕ) (output bytes : List ℕ) → IsWritten a b output (Ok n) → IsHalfway a b n output bytes bytes
+halfway_at_first a b n output bytes h =
     record { front = []; whole = refl; so_far = omega (arith, h.0); reported = simp append-nil h.1; unfailed = h.2 }
 
-unfailed_at : {g g' : ℕ} (n : ℕ) (rest : List ℕ) → 0 < n → g' ≡ counted g rest (Some n) → g' ≡ g
+unfailed_at : {g g' : ℕ} (n : ℕ) (rest : List ℕ) → 0 < n → g' ≡ counted_write g rest (Some n) → g' ≡ g
 unfailed_at {g} n rest some e =
     let other : (n == 0) ≡ false = ne_eqb n 0 (λ e. absurd (omega arith)) in
     e ∙ ap (λ t. cond (t && nat_lt 0 (length rest)) (one_more_failure g) g) other
 
-pub halfway_more : (a b c : Stream) (count n : ℕ) (text bytes rest : List ℕ)
-    → IsHalfway a b count text bytes rest → 0 < n → n ≤ length rest → Takes b.taken c.taken rest (Some n) → c.failures ≡ counted b.failures rest (Some n)
-    → IsHalfway a c (count + n) text bytes (drop n rest)
-halfway_more a b c count n text bytes rest h some within reported failed = record {
+pub halfway_more : (a b c : Stream) (count n : ℕ) (output bytes rest : List ℕ)
+    → IsHalfway a b count output bytes rest → 0 < n → n ≤ length rest → Takes b.taken c.taken rest (Some n) → c.failures ≡ counted_write b.failures rest (Some n)
+    → IsHalfway a c (count + n) output bytes (drop n rest)
+halfway_more a b c count n output bytes rest h some within reported failed = record {
   front = h.front ++ take n rest;
   whole = h.whole ∙ ap (λ l. h.front ++ l) (sym (take-append-drop n rest)) ∙ sym (append_assoc h.front (take n rest) (drop n rest));
   so_far = omega (arith, h.so_far, length-append h.front (take n rest), length-take-le n rest within);
-  reported = rw (← append_assoc) (Appends-append a.taken b.taken c.taken (text ++ h.front) (take n rest) h.reported reported);
+  reported = rw (← append_assoc) (Appends-append a.taken b.taken c.taken (output ++ h.front) (take n rest) h.reported reported);
   unfailed = unfailed_at n rest some failed ∙ h.unfailed;
 }
 
-pub halfway_at_end : (a b : Stream) (count : ℕ) (text bytes rest : List ℕ)
-    → IsHalfway a b count text bytes rest → rest ≡ [] → IsWritten a b (text ++ bytes) (Ok count)
-halfway_at_end a b count text bytes rest h none =
+pub halfway_at_end : (a b : Stream) (count : ℕ) (output bytes rest : List ℕ)
+    → IsHalfway a b count output bytes rest → rest ≡ [] → IsWritten a b (output ++ bytes) (Ok count)
+halfway_at_end a b count output bytes rest h none =
     let e : bytes ≡ h.front = h.whole ∙ ap (λ l. h.front ++ l) none ∙ simp append-nil in
-    (rw e (omega (arith, h.so_far, length-append text h.front)), rw e h.reported, h.unfailed)
+    (rw e (omega (arith, h.so_far, length-append output h.front)), rw e h.reported, h.unfailed)
 
-pub halfway_fault : (a b c : Stream) (count : ℕ) (text bytes rest : List ℕ)
-    → IsHalfway a b count text bytes rest → 0 < length rest → Keeps b.taken c.taken → c.failures ≡ one_more_failure b.failures
-    → IsWritten a c (text ++ bytes) (Err (record { 0 = count }))
-halfway_fault a b c count text bytes rest h some kept failed =
-    let e : text ++ bytes ≡ (text ++ h.front) ++ rest = ap (λ l. text ++ l) h.whole ∙ sym (append_assoc text h.front rest) in
-    let k : count ≡ length (text ++ h.front) = omega (arith, h.so_far, length-append text h.front) in (
-      rw (e, k) (omega (arith, length-append (text ++ h.front) rest)),
-      rw (e, k, take-append_seam) (Appends-kept a.taken b.taken c.taken (text ++ h.front) h.reported kept),
+pub halfway_fault : (a b c : Stream) (count : ℕ) (output bytes rest : List ℕ)
+    → IsHalfway a b count output bytes rest → 0 < length rest → Keeps b.taken c.taken → c.failures ≡ one_more_failure b.failures
+    → IsWritten a c (output ++ bytes) (Err (record { 0 = count }))
+halfway_fault a b c count output bytes rest h some kept failed =
+    let e : output ++ bytes ≡ (output ++ h.front) ++ rest = ap (λ l. output ++ l) h.whole ∙ sym (append_assoc output h.front rest) in
+    let k : count ≡ length (output ++ h.front) = omega (arith, h.so_far, length-append output h.front) in (
+      rw (e, k) (omega (arith, length-append (output ++ h.front) rest)),
+      rw (e, k, take-append_seam) (Appends-kept a.taken b.taken c.taken (output ++ h.front) h.reported kept),
       rw (failed, h.unfailed) (Failed-one_more a.failures),
     )
 
@@ -83,15 +83,16 @@ Keeps-none (Some xs) None h = absurd h
 Keeps-none (Some xs) (Some ys) h = h ∙ simp append-nil
 
 -- to take no byte of some is a failure
-pub failed_at_none : (g g' n : ℕ) (rest : List ℕ) → n ≡ 0 → 0 < length rest → g' ≡ counted g rest (Some n) → g' ≡ one_more_failure g
+pub failed_at_none : (g g' n : ℕ) (rest : List ℕ) → n ≡ 0 → 0 < length rest → g' ≡ counted_write g rest (Some n) → g' ≡ one_more_failure g
 failed_at_none g g' n rest none some e =
     let h : nat_lt 0 (length rest) ≡ true = lt-ltb 0 (length rest) some in
-    let k : g' ≡ counted g rest (Some 0) = e ∙ ap (λ m. counted g rest (Some m)) none in
+    let k : g' ≡ counted_write g rest (Some 0) = e ∙ ap (λ m. counted_write g rest (Some m)) none in
     k ∙ ap (λ t. cond t (one_more_failure g) g) h
 
-pub room : (old new : Stream) (count : ℕ) (text bytes rest : List ℕ)
-    → IsHalfway old new count text bytes rest → count + length rest ≡ length text + length bytes
-room old new count text bytes rest h = omega (arith, h.so_far, ap length h.whole, length-append h.front rest)
+-- the count and the rest are as many bytes as the output and the bytes
+pub count_and_rest : (old new : Stream) (count : ℕ) (output bytes rest : List ℕ)
+    → IsHalfway old new count output bytes rest → count + length rest ≡ length output + length bytes
+count_and_rest old new count output bytes rest h = omega (arith, h.so_far, ap length h.whole, length-append h.front rest)
 
 pub empty_list : (xs : List ℕ) → length xs ≡ 0 → xs ≡ []
 empty_list [] h = refl

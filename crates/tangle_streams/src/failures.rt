@@ -1,4 +1,4 @@
-//! What may stop a call that is asked for nothing wrong.
+//! Why a call may fail whose arguments are right.
 use std::alloc::{AllocError, AllocFailed};
 use thiserror::Error;
 

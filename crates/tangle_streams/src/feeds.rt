@@ -7,16 +7,16 @@ use std::io::Read;
 /// A reader of bytes.
 pub trait Feed {
     // The bytes that it has left, where it reports them.
-    ghost coming: { Self → Option (List ℕ) } = { λ _. None };
+    ghost remaining: { Self → Option (List ℕ) } = { λ _. None };
 
     // How often it failed; at its last value the count stays.
     ghost failures: { Self → ℕ };
 
-    /// Gives so many bytes into the front of the room. No byte, where there is room, is the end.
-    /// `None` is a failure.
-    fn fill(&mut self, room: &mut [u8]) -> Option<usize>
-        ensures within { IfSome result (λ n. n ≤ length room.old) }
-        ensures reported { Gives (coming self.old) (coming self.new) room.new result }
+    /// Fills the front of the buffer: how many bytes it gave. No byte, where the buffer is not
+    /// empty, is the end. `None` is a failure.
+    fn fill(&mut self, buffer: &mut [u8]) -> Option<usize>
+        ensures within { IfSome result (λ n. n ≤ length buffer.old) }
+        ensures reported { Gives (remaining self.old) (remaining self.new) buffer.new result }
         ensures failed { failures self.new ≡ counted_read (failures self.old) result };
 
     /// How often it failed.
@@ -42,12 +42,12 @@ impl<R: Read> IoFeed<R> {
 }
 
 impl<R: Read> Feed for IoFeed<R> {
-    ghost coming = { λ s. R.remaining s.inner };
+    ghost remaining = { λ s. R.remaining s.inner };
 
     ghost failures = { λ s. s.failures };
 
-    fn fill(&mut self, room: &mut [u8]) -> Option<usize> {
-        match self.inner.read(room) {
+    fn fill(&mut self, buffer: &mut [u8]) -> Option<usize> {
+        match self.inner.read(buffer) {
             Ok(n) => Some(n),
             Err(_) => {
                 self.failures = self.failures.saturating_add(1);

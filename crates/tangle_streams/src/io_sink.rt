@@ -22,8 +22,8 @@ impl<W: Write> IoSink<W> {
         IoSink { inner, failures: 0 }
     }
 
-    /// Passes on what the writer has kept back. To fail in it is one more failure. No contract of a
-    /// writer reports when that fails, so that none here can report it: tests do.
+    /// Writes what the writer has buffered. A flush that fails counts as one failure more. The
+    /// library's contract does not say when a flush fails, so no clause here does; tests show it.
     pub fn flush(&mut self)
         ensures kept { Keeps (W.contents self.old.inner) (W.contents self.new.inner) }
         ensures failed { (self.new.failures ≡ self.old.failures)

@@ -2,18 +2,18 @@
 //!
 //! A [`Feed`] is such a reader, and [`IoFeed`] makes one of any reader.
 //!
-//! [`Sink`] is such a writer, [`IoSink`] makes one of any writer, and [`put`] puts bytes out after
-//! others.
+//! [`Sink`] is such a writer, and [`IoSink`] makes one of any writer. [`write_after`] writes bytes
+//! after those that were written before.
 #![tactic(auto)]
 
 mod failures;
 mod feeds;
 mod io_sink;
-mod putting;
 mod sinks;
+mod writing;
 
 pub use failures::{NoMemory, WriteFault};
 pub use feeds::{Feed, IoFeed};
 pub use io_sink::IoSink;
-pub use putting::put;
 pub use sinks::Sink;
+pub use writing::write_after;

@@ -1,6 +1,6 @@
-//! The writers that everything is written to.
+//! Writers that report the bytes that they took, and count their failures.
 ghost use Rattle.std.specs.Prelude.{◌≡◌, ◌≤◌, length, IfSome};
-ghost use Rattle.tangle_streams.specs.Streams.{Stream, Takes, counted};
+ghost use Rattle.tangle_streams.specs.Streams.{Stream, Takes, counted_write};
 
 /// A writer of bytes.
 pub trait Sink {
@@ -8,12 +8,13 @@ pub trait Sink {
     // value the count stays.
     ghost stream: { Self → Stream };
 
-    /// Takes so many bytes from the front. `None`, or none of some bytes, is a failure.
+    /// Takes bytes from the front: how many it took. `None`, or 0 where there are bytes, is a
+    /// failure.
     fn take(&mut self, bytes: &[u8]) -> Option<usize>
         ensures within { IfSome result (λ n. n ≤ length bytes.now) }
         ensures reported { Takes (stream self.old).taken (stream self.new).taken bytes.now result }
         ensures failed { (stream self.new).failures
-            ≡ counted (stream self.old).failures bytes.now result };
+            ≡ counted_write (stream self.old).failures bytes.now result };
 
     /// How often it failed.
     fn failures(&self) -> u64

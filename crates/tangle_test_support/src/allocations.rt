@@ -1,15 +1,16 @@
-//! Allocations that fail, where the library that `tests/memory.sh` makes is before the allocator.
+//! Allocations that fail, where the library that `tests/memory.sh` makes is loaded before the
+//! allocator.
 use std::alloc::Global;
 
-/// Fails the nth allocation from here on, none at 0, and says whether the library is there. Without
-/// it no memory is so large, and nothing is refused.
+/// Makes the nth allocation from here on fail, none at 0: whether the library is there. Without it
+/// the request is too large to succeed, and no later one fails.
 pub fn fail_allocation(alloc: Global, nth: u32) -> bool {
     Vec::<u8>::with_capacity(alloc, (1 << 62) + nth as usize).is_ok()
 }
 
-/// Ends the refusals, and says whether the last one never came; without the library none does.
-pub fn end_refusals(alloc: Global, is_harnessed: bool) -> bool {
+/// Ends the failures: true where the nth allocation was not reached, or there is no library.
+pub fn end_failures(alloc: Global, has_library: bool) -> bool {
     let is_waiting = Vec::<u8>::with_capacity(alloc, 3 << 61).is_ok();
     fail_allocation(alloc, 0);
-    is_waiting || !is_harnessed
+    is_waiting || !has_library
 }

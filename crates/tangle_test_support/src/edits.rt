@@ -2,9 +2,9 @@
 use std::alloc::{AllocError, Global};
 use tangle_lines::{Edit, MarkMode};
 
-/// The kinds of edits.
+/// A kind of edit, with the setting for marks.
 #[derive(Clone, Copy)]
-pub enum Kind {
+pub enum EditKind {
     Insert,
     Remove,
     Replace,
@@ -15,9 +15,13 @@ pub enum Kind {
 }
 
 /// An edit of this kind, of this file, at this line and with this text where it has them.
+///
+/// # Errors
+///
+/// `AllocError`, where an allocation failed.
 pub fn edit(
     alloc: Global,
-    kind: Kind,
+    kind: EditKind,
     file: &[u8],
     at: usize,
     text: &[u8],
@@ -25,15 +29,15 @@ pub fn edit(
     let file = Vec::from_slice(alloc, file)?;
     let text = Vec::from_slice(alloc, text)?;
     Ok(match kind {
-        Kind::Insert => Edit::Insert { file, at, text },
-        Kind::Remove => Edit::Remove { file, at },
-        Kind::Replace => Edit::Replace { file, at, text },
-        Kind::Create => Edit::Create { file },
-        Kind::Discard => Edit::Discard { file },
-        Kind::FullMarks => Edit::Marks {
+        EditKind::Insert => Edit::Insert { file, at, text },
+        EditKind::Remove => Edit::Remove { file, at },
+        EditKind::Replace => Edit::Replace { file, at, text },
+        EditKind::Create => Edit::Create { file },
+        EditKind::Discard => Edit::Discard { file },
+        EditKind::FullMarks => Edit::Marks {
             mode: MarkMode::Full,
         },
-        Kind::BareMarks => Edit::Marks {
+        EditKind::BareMarks => Edit::Marks {
             mode: MarkMode::Bare,
         },
     })

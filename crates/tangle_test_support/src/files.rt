@@ -3,11 +3,19 @@ use std::alloc::{AllocError, Global};
 use tangle_lines::{Files, Refusal, Roles, Source, read_source};
 
 /// So many of one byte.
+///
+/// # Errors
+///
+/// `AllocError`, where an allocation failed.
 pub fn repeated(alloc: Global, byte: u8, count: usize) -> Result<Vec<u8>, AllocError> {
     vec![in alloc; byte; count]
 }
 
 /// A table of these files, each a name and its bytes.
+///
+/// # Errors
+///
+/// Those of [`Files::add`].
 pub fn files_with(alloc: Global, files: &[(&[u8], &[u8])]) -> Result<Files, Refusal> {
     let mut table = Files::new(alloc);
     for (name, bytes) in files {
@@ -17,6 +25,11 @@ pub fn files_with(alloc: Global, files: &[(&[u8], &[u8])]) -> Result<Files, Refu
 }
 
 /// The source of the web `a.w` of these files, with this change file.
+///
+/// # Errors
+///
+/// Those of [`Roles::new`], `UnknownFile` where the web or the change file is not in the table, and
+/// `NoMemory`, where an allocation failed.
 pub fn read<'a>(
     alloc: Global,
     files: &'a Files,

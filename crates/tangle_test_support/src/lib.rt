@@ -8,8 +8,8 @@ mod faults;
 mod files;
 mod webs;
 
-pub use allocations::{end_refusals, fail_allocation};
-pub use edits::{Kind, edit};
-pub use faults::lines_of;
+pub use allocations::{end_failures, fail_allocation};
+pub use edits::{EditKind, edit};
+pub use faults::lines_of_faults;
 pub use files::{files_with, read, repeated};
-pub use webs::{DOUBLING_FILE, add_sections, chain, doubling};
+pub use webs::{DOUBLING_FILE, chain, doubling};

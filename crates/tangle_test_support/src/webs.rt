@@ -2,7 +2,7 @@
 use itoa::Buffer;
 use std::alloc::{AllocError, Global};
 
-// Adds these bytes, and the digits of the number but for its first: 1007 represents `007`.
+// Adds these bytes, and the digits of the number but for its first: 1007 gives `007`.
 fn add_numbered(text: &mut Vec<u8>, front: &[u8], number: usize) -> Result<(), AllocError> {
     let mut digits = Buffer::new();
     text.extend_from_slice(front)?;
@@ -28,9 +28,9 @@ fn add_section(
     text.extend_from_slice(b"\n")
 }
 
-/// Adds the sections of some names, which are a letter and the digits of a number but for its
-/// first. Each name but the last uses the next one so many times.
-pub fn add_sections(
+// Adds the sections of some names, which are a letter and the digits of a number but for its first.
+// Each name but the last uses the next one so many times.
+fn add_sections(
     text: &mut Vec<u8>,
     letter: u8,
     first: usize,
@@ -44,7 +44,11 @@ pub fn add_sections(
     text.extend_from_slice(b"@>=\n1\n")
 }
 
-/// A web of a program that uses the first of such names, and of their sections.
+/// A web: the program, which uses the first of these names, and their sections.
+///
+/// # Errors
+///
+/// `AllocError`, where an allocation failed.
 pub fn chain(
     alloc: Global,
     letter: u8,
@@ -61,6 +65,10 @@ pub fn chain(
 
 /// The program and the names from `n00` to `n29`, each of which but the last uses the next one
 /// twice, and a named file.
+///
+/// # Errors
+///
+/// `AllocError`, where an allocation failed.
 pub fn doubling(alloc: Global) -> Result<Vec<u8>, AllocError> {
     let mut text = chain(alloc, b'n', 100, 129, 2)?;
     text.extend_from_slice(b"@ @(s.h@>=\n1\n")?;

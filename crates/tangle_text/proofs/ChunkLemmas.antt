@@ -2,7 +2,7 @@
 use Rattle.std.proofs.Common.{◌≡◌, ◌<◌, ◌≤◌, ℕ, ◌+◌, ◌-◌, zero, suc, Bool, false, List, [], ◌∷◌, ◌++◌, Option, Some, take, drop, length, get_or, refl, ap, sym, subst, ◌∙◌, arith, nat_eq, length-drop, inl, inr}
 use Rattle.std.proofs.lemmas.Bool.Decides.{eqb_tells}
 use Rattle.std.proofs.lemmas.List.{get_or-drop}
-use Rattle.tangle_lines.specs.Reading.{Line}
+use Rattle.tangle_lines.specs.Reading.{SourceLine}
 use Rattle.tangle_text.specs.declared.regions.Region.TheVariants as region
 use Rattle.tangle_text.specs.declared.regions.Unit.TheVariants as unit
 use Rattle.tangle_text.specs.Text.{Cell, line_text, text_from, byte_at}
@@ -39,22 +39,22 @@ end-line line column (b ∷ bs) rest (suc n) h other =
     region_end-one region.Name (c ∷ cs) (plain-one b (byte_at 0 cs) (not-at b (other 0 (omega arith))))
     ∙ end-line line (column + 1) bs rest n (omega (arith, h)) (λ k lt. other (suc k) (omega (arith, lt)))
 
-pub bytes_begin : (lines : List Line) (text : List ℕ) (line column end : ℕ) (done : Bool) (old : List Cell) → done ≡ false → rest_of lines text line column done ≡ old
-    → column ≤ end → end ≤ length text → ((k : ℕ) → column + k < end → get_or text (column + k) 0 ≡ 64 → ⊥)
-    → BeginsName (take (end - column) (drop column text)) old (rest_of lines text line end done)
-bytes_begin lines text line column end done old here is low high other =
+pub bytes_begin : (lines : List SourceLine) (bytes : List ℕ) (line column end : ℕ) (done : Bool) (old : List Cell) → done ≡ false → rest_of lines bytes line column done ≡ old
+    → column ≤ end → end ≤ length bytes → ((k : ℕ) → column + k < end → get_or bytes (column + k) 0 ≡ 64 → ⊥)
+    → BeginsName (take (end - column) (drop column bytes)) old (rest_of lines bytes line end done)
+bytes_begin lines bytes line column end done old here is low high other =
     let n = end - column in
-    let bs = drop column text in
-    let behind = text_from (line + 1) (drop (line + 1) lines) in
-    let few : n ≤ length bs = omega (arith, low, high, length-drop column text) in
-    let plain = λ (k : ℕ) (lt : k < n) (same : get_or bs k 0 ≡ 64). other k (omega (arith, lt, low)) (sym (get_or-drop column text k 0) ∙ same) in
-    let front : line_text line column bs ++ behind ≡ old = sym (ap (rest_of lines text line column) here) ∙ is in
-    let next : rest_of lines text line end done ≡ drop n old
-    = ap (λ k. rest_of lines text line k done) (omega (arith, low)) ∙ rest_of-further lines text line column n done (omega (arith, low, high)) ∙ ap (drop n) is in
+    let bs = drop column bytes in
+    let after = text_from (line + 1) (drop (line + 1) lines) in
+    let few : n ≤ length bs = omega (arith, low, high, length-drop column bytes) in
+    let plain = λ (k : ℕ) (lt : k < n) (same : get_or bs k 0 ≡ 64). other k (omega (arith, lt, low)) (sym (get_or-drop column bytes k 0) ∙ same) in
+    let front : line_text line column bs ++ after ≡ old = sym (ap (rest_of lines bytes line column) here) ∙ is in
+    let next : rest_of lines bytes line end done ≡ drop n old
+    = ap (λ k. rest_of lines bytes line k done) (omega (arith, low)) ∙ rest_of-further lines bytes line column n done (omega (arith, low, high)) ∙ ap (drop n) is in
     let units : from_units name_bytes region.Name 0 old ≡ take n bs ++ from_units name_bytes region.Name 0 (drop n old)
-    = subst (λ t. from_units name_bytes region.Name 0 t ≡ take n bs ++ from_units name_bytes region.Name 0 (drop n t)) front (units-line line column bs behind n few plain) in
+    = subst (λ t. from_units name_bytes region.Name 0 t ≡ take n bs ++ from_units name_bytes region.Name 0 (drop n t)) front (units-line line column bs after n few plain) in
     let ends : region_end region.Name old ≡ region_end region.Name (drop n old)
-    = subst (λ t. region_end region.Name t ≡ region_end region.Name (drop n t)) front (end-line line column bs behind n few plain) in
+    = subst (λ t. region_end region.Name t ≡ region_end region.Name (drop n t)) front (end-line line column bs after n few plain) in
     record {
       units = units ∙ ap (λ t. take n bs ++ from_units name_bytes region.Name 0 t) (sym next);
       end = ends ∙ ap (region_end region.Name) (sym next);

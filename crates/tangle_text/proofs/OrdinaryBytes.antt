@@ -5,7 +5,7 @@ use Rattle.tangle_text.specs.declared.regions.Region.TheVariants as region
 use Rattle.tangle_text.specs.declared.regions.Unit.TheVariants as unit
 use Rattle.tangle_text.specs.Bytes.{holds}
 use Rattle.tangle_text.specs.Text.{Cell, line_text, byte_at}
-use Rattle.tangle_text.specs.Regions.{unit_of, region_end, is_ordinary, holds_ordinary, AreOrdinary, is_text}
+use Rattle.tangle_text.specs.Regions.{unit_of, region_end, is_ordinary, holds_ordinary, AreOrdinary, skips_ordinary}
 use Rattle.tangle_text.specs.Ahead.{run_length}
 use Rattle.tangle_text.proofs.RegionLemmas.{region_end-one}
 
@@ -20,36 +20,36 @@ pub or-false : (a b : Bool) → not (a || b) ≡ true → (not a ≡ true) × (b
 or-false true b h = absurd (not-true h)
 or-false false b h = (refl, not-false b h)
 
--- in each of these texts such a byte is a unit of its own
-byte-one : (r : Region) (b : ℕ) (next : Option ℕ) → is_text r ≡ true → is_ordinary b ≡ true → unit_of r (Some b) next ≡ unit.One
-byte-one r b next text h =
+-- in each region that skips them such a byte is a unit of its own
+byte-one : (r : Region) (b : ℕ) (next : Option ℕ) → skips_ordinary r ≡ true → is_ordinary b ≡ true → unit_of r (Some b) next ≡ unit.One
+byte-one r b next skips h =
     let greater = or-false _ _ h in
     let apostrophe = or-false _ _ greater.0 in
     let quote = or-false _ _ apostrophe.0 in
     let backslash = or-false _ _ quote.0 in
     let asterisk = or-false _ _ backslash.0 in
-    go r text (not-false _ asterisk.0) asterisk.1 backslash.1 quote.1 apostrophe.1 greater.1
+    go r skips (not-false _ asterisk.0) asterisk.1 backslash.1 quote.1 apostrophe.1 greater.1
   where
-    go : (r : Region) → is_text r ≡ true → holds 64 (Some b) ≡ false → holds 42 (Some b) ≡ false → holds 92 (Some b) ≡ false → holds 34 (Some b) ≡ false →
+    go : (r : Region) → skips_ordinary r ≡ true → holds 64 (Some b) ≡ false → holds 42 (Some b) ≡ false → holds 92 (Some b) ≡ false → holds 34 (Some b) ≡ false →
         holds 39 (Some b) ≡ false → holds 62 (Some b) ≡ false → unit_of r (Some b) next ≡ unit.One
-    go region.Comment text at asterisk backslash quote apostrophe greater = rw (at, asterisk) refl
-    go region.ControlText text at asterisk backslash quote apostrophe greater = rw at refl
-    go region.Verbatim text at asterisk backslash quote apostrophe greater = rw at refl
-    go region.DoubleQuote text at asterisk backslash quote apostrophe greater = rw (at, backslash, quote) refl
-    go region.Apostrophe text at asterisk backslash quote apostrophe greater = rw (at, backslash, apostrophe) refl
-    go region.IncludeName text at asterisk backslash quote apostrophe greater = rw (at, greater) refl
-    go region.LineComment text at asterisk backslash quote apostrophe greater = rw at refl
-    go region.Name text at asterisk backslash quote apostrophe greater = absurd (not-true text)
-    go region.Word text at asterisk backslash quote apostrophe greater = absurd (not-true text)
-    go region.White text at asterisk backslash quote apostrophe greater = absurd (not-true text)
-    go region.Prose text at asterisk backslash quote apostrophe greater = absurd (not-true text)
-    go region.BadConstant text at asterisk backslash quote apostrophe greater = absurd (not-true text)
+    go region.BlockComment skips at asterisk backslash quote apostrophe greater = rw (at, asterisk) refl
+    go region.ControlText skips at asterisk backslash quote apostrophe greater = rw at refl
+    go region.Verbatim skips at asterisk backslash quote apostrophe greater = rw at refl
+    go region.DoubleQuote skips at asterisk backslash quote apostrophe greater = rw (at, backslash, quote) refl
+    go region.Apostrophe skips at asterisk backslash quote apostrophe greater = rw (at, backslash, apostrophe) refl
+    go region.HeaderName skips at asterisk backslash quote apostrophe greater = rw (at, greater) refl
+    go region.LineComment skips at asterisk backslash quote apostrophe greater = rw at refl
+    go region.Name skips at asterisk backslash quote apostrophe greater = absurd (not-true skips)
+    go region.Word skips at asterisk backslash quote apostrophe greater = absurd (not-true skips)
+    go region.White skips at asterisk backslash quote apostrophe greater = absurd (not-true skips)
+    go region.Prose skips at asterisk backslash quote apostrophe greater = absurd (not-true skips)
+    go region.BadConstant skips at asterisk backslash quote apostrophe greater = absurd (not-true skips)
 
-pub cell-one : (r : Region) (b next : Option ℕ) → is_text r ≡ true → holds_ordinary b ≡ true → unit_of r b next ≡ unit.One
-cell-one r None next text h = absurd (not-true h)
-cell-one r (Some b) next text h = byte-one r b next text h
+pub cell-one : (r : Region) (b next : Option ℕ) → skips_ordinary r ≡ true → holds_ordinary b ≡ true → unit_of r b next ≡ unit.One
+cell-one r None next skips h = absurd (not-true h)
+cell-one r (Some b) next skips h = byte-one r b next skips h
 
-pub region_end-ordinary : (r : Region) → is_text r ≡ true → (n : ℕ) (text : List Cell) → AreOrdinary n text → region_end r (drop n text) ≡ region_end r text
+pub region_end-ordinary : (r : Region) → skips_ordinary r ≡ true → (n : ℕ) (text : List Cell) → AreOrdinary n text → region_end r (drop n text) ≡ region_end r text
 region_end-ordinary r is zero text h = refl
 region_end-ordinary r is (suc n) [] h = refl
 region_end-ordinary r is (suc n) (c ∷ cs) h =

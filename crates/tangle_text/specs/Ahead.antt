@@ -1,13 +1,13 @@
 -- The text that is still ahead.
 use Rattle.std.specs.Prelude.{◌≡◌, ◌<◌, ℕ, ◌+◌, Bool, true, false, List, [], ◌∷◌, ◌++◌, length, drop, if◌then◌else◌}
-use Rattle.tangle_lines.specs.Reading.{Line}
+use Rattle.tangle_lines.specs.Reading.{SourceLine}
 use Rattle.tangle_text.specs.declared.ahead.Front.{Front}
 use Rattle.tangle_text.specs.Text.{Cell, line_text, text_from, byte_at}
 
--- what is ahead at a column of a line with this text; nothing behind the last line
-abbrev pub rest_of : List Line → List ℕ → ℕ → ℕ → Bool → List Cell
-rest_of lines text line column true = []
-rest_of lines text line column false = line_text line column (drop column text) ++ text_from (line + 1) (drop (line + 1) lines)
+-- what is ahead at a column of a line with these bytes; nothing after the last line
+abbrev pub rest_of : List SourceLine → List ℕ → ℕ → ℕ → Bool → List Cell
+rest_of lines bytes line column true = []
+rest_of lines bytes line column false = line_text line column (drop column bytes) ++ text_from (line + 1) (drop (line + 1) lines)
 
 -- what the first two cells hold
 pub record IsFront (text : List Cell) (front : Front) : Type 0 where

@@ -1,11 +1,8 @@
 -- Bytes and their classes. A cell of the text holds a byte, or none where a line ends.
 use Rattle.std.specs.Prelude.{ℕ, ◌+◌, Bool, true, false, ◌==◌, nat_le, ◌&&◌, ◌||◌, if◌then◌else◌, Option, Some, None}
-use Rattle.tangle_lines.specs.Bytes.{is_white}
+use Rattle.tangle_lines.specs.Bytes.{at_sign, is_white}
 
--- the bytes with a meaning of their own
-
-abbrev pub double_quote : ℕ
-double_quote = 34
+-- the bytes with a meaning of their own, besides those of the rules of reading
 
 abbrev pub number_sign : ℕ
 number_sign = 35
@@ -34,9 +31,6 @@ equals_sign = 61
 abbrev pub greater_sign : ℕ
 greater_sign = 62
 
-abbrev pub at_sign : ℕ
-at_sign = 64
-
 abbrev pub backslash : ℕ
 backslash = 92
 
@@ -53,7 +47,7 @@ abbrev pub is_word_byte : ℕ → Bool
 is_word_byte b =
     is_between 97 122 b || is_between 65 90 b || is_digit b || b == 95 || b == 36 || is_between 128 255 b
 
--- a capital letter counts as the small one
+-- this byte, or the small letter of a capital one
 abbrev pub lower : ℕ → ℕ
 lower b = if is_between 65 90 b then b + 32 else b
 
@@ -70,19 +64,19 @@ is_line_end None = true
 is_line_end (Some b) = false
 
 -- white space
-abbrev pub is_space : Option ℕ → Bool
-is_space None = false
-is_space (Some b) = is_white b
+abbrev pub holds_white : Option ℕ → Bool
+holds_white None = false
+holds_white (Some b) = is_white b
 
 -- white space or a line end
-abbrev pub is_blank : Option ℕ → Bool
-is_blank None = true
-is_blank (Some b) = is_white b
+abbrev pub is_white_or_line_end : Option ℕ → Bool
+is_white_or_line_end None = true
+is_white_or_line_end (Some b) = is_white b
 
 -- a word byte
-abbrev pub is_word : Option ℕ → Bool
-is_word None = false
-is_word (Some b) = is_word_byte b
+abbrev pub holds_word_byte : Option ℕ → Bool
+holds_word_byte None = false
+holds_word_byte (Some b) = is_word_byte b
 
 -- an octal digit
 abbrev pub is_octal : Option ℕ → Bool
@@ -92,12 +86,12 @@ is_octal (Some b) = is_between 48 55 b
 -- two cells, one after the other
 
 -- these two bytes
-abbrev pub are : ℕ → ℕ → Option ℕ → Option ℕ → Bool
-are first second b next = holds first b && holds second next
+abbrev pub are_bytes : ℕ → ℕ → Option ℕ → Option ℕ → Bool
+are_bytes first second b next = holds first b && holds second next
 
 -- @ before white space or a line end, and @*
 abbrev pub is_section_start : Option ℕ → Option ℕ → Bool
-is_section_start b next = holds at_sign b && (is_blank next || holds asterisk next)
+is_section_start b next = holds at_sign b && (is_white_or_line_end next || holds asterisk next)
 
 -- @< and @(
 abbrev pub is_name_start : Option ℕ → Option ℕ → Bool
@@ -105,4 +99,4 @@ is_name_start b next = holds at_sign b && (holds less_sign next || holds left_pa
 
 -- @>
 abbrev pub is_end_code : Option ℕ → Option ℕ → Bool
-is_end_code b next = are at_sign greater_sign b next
+is_end_code b next = are_bytes at_sign greater_sign b next

@@ -4,7 +4,8 @@ use Rattle.tangle_text.specs.declared.regions.Region.{Region}
 use Rattle.tangle_text.specs.declared.regions.Region.TheVariants as region
 use Rattle.tangle_text.specs.declared.regions.Unit.{Unit as Unit-of}
 use Rattle.tangle_text.specs.declared.regions.Unit.TheVariants as unit
-use Rattle.tangle_text.specs.Bytes.{at_sign, backslash, apostrophe, double_quote, asterisk, slash, greater_sign, holds, is_line_end, is_space, is_word, are, is_section_start, is_name_start, is_end_code}
+use Rattle.tangle_lines.specs.Bytes.{at_sign, double_quote}
+use Rattle.tangle_text.specs.Bytes.{backslash, apostrophe, asterisk, slash, greater_sign, holds, is_line_end, holds_white, holds_word_byte, are_bytes, is_section_start, is_name_start, is_end_code}
 use Rattle.tangle_text.specs.Text.{Cell, byte_at}
 
 -- a region ends here, or goes on by two cells, or by one
@@ -14,27 +15,27 @@ unit_by ends is_two = if ends then unit.Stop else if is_two then unit.Two else u
 -- a quoted text ends at its closing byte and at a line end; @@ belongs together, and a backslash takes the next cell with it, unless that is @
 abbrev pub quoted_unit : ℕ → Option ℕ → Option ℕ → Unit-of
 quoted_unit close b next =
-    unit_by (holds close b || is_line_end b) (are at_sign at_sign b next || holds backslash b && not (holds at_sign next))
+    unit_by (holds close b || is_line_end b) (are_bytes at_sign at_sign b next || holds backslash b && not (holds at_sign next))
 
 -- What a region has where these two cells are: its end; two cells that belong together; or one.
 abbrev pub unit_of : Region → Option ℕ → Option ℕ → Unit-of
 -- a comment ends at */; a control code in it is taken with its two bytes, but a section start ends it too
-unit_of region.Comment b next = unit_by (are asterisk slash b next || is_section_start b next) (holds at_sign b)
+unit_of region.BlockComment b next = unit_by (are_bytes asterisk slash b next || is_section_start b next) (holds at_sign b)
 -- the same for a comment that a line end ends
 unit_of region.LineComment b next = unit_by (is_line_end b || is_section_start b next) (holds at_sign b)
 -- a control text ends at any control code but @@
 unit_of region.ControlText b next = unit_by (holds at_sign b && not (holds at_sign next)) (holds at_sign b)
 -- a verbatim text ends at @> and at a line end; @@ belongs together
-unit_of region.Verbatim b next = unit_by (is_line_end b || is_end_code b next) (are at_sign at_sign b next)
+unit_of region.Verbatim b next = unit_by (is_line_end b || is_end_code b next) (are_bytes at_sign at_sign b next)
 -- a name ends at @>, at a section start, and where another name starts; other control codes belong together
 unit_of region.Name b next = unit_by (is_end_code b next || is_section_start b next || is_name_start b next) (holds at_sign b)
 unit_of region.DoubleQuote b next = quoted_unit double_quote b next
 unit_of region.Apostrophe b next = quoted_unit apostrophe b next
--- a file name behind #include < ends likewise, but a backslash in it is itself
-unit_of region.IncludeName b next = unit_by (holds greater_sign b || is_line_end b) (are at_sign at_sign b next)
+-- a file name after #include < ends likewise, but a backslash in it is itself
+unit_of region.HeaderName b next = unit_by (holds greater_sign b || is_line_end b) (are_bytes at_sign at_sign b next)
 -- as many word bytes as there are, as much white space as there is
-unit_of region.Word b next = unit_by (not (is_word b)) false
-unit_of region.White b next = unit_by (not (is_space b)) false
+unit_of region.Word b next = unit_by (not (holds_word_byte b)) false
+unit_of region.White b next = unit_by (not (holds_white b)) false
 -- text without an @, over lines
 unit_of region.Prose b next = unit_by (holds at_sign b) false
 -- a constant that is none goes on up to an apostrophe or the line end
@@ -49,7 +50,7 @@ abbrev pub unless_stop : {A : Type 0} → Unit-of → List A → List A
 unless_stop unit.Stop items = []
 unless_stop _ items = items
 
--- how many cells are counted here: none where a region ends, else this one and those behind it
+-- how many cells are counted here: none where a region ends, else this one and those after it
 abbrev pub count_by : Unit-of → ℕ → ℕ
 count_by unit.Stop n = 0
 count_by _ n = 1 + n
@@ -93,13 +94,13 @@ AreOrdinary zero text = Unit {0}
 AreOrdinary (suc n) [] = ⊥
 AreOrdinary (suc n) (c ∷ cs) = (holds_ordinary c.byte ≡ true) × AreOrdinary n cs
 
--- these regions
-abbrev pub is_text : Region → Bool
-is_text region.Comment = true
-is_text region.LineComment = true
-is_text region.ControlText = true
-is_text region.Verbatim = true
-is_text region.DoubleQuote = true
-is_text region.Apostrophe = true
-is_text region.IncludeName = true
-is_text _ = false
+-- the regions in which ordinary bytes have no meaning
+abbrev pub skips_ordinary : Region → Bool
+skips_ordinary region.BlockComment = true
+skips_ordinary region.LineComment = true
+skips_ordinary region.ControlText = true
+skips_ordinary region.Verbatim = true
+skips_ordinary region.DoubleQuote = true
+skips_ordinary region.Apostrophe = true
+skips_ordinary region.HeaderName = true
+skips_ordinary _ = false

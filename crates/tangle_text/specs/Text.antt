@@ -1,6 +1,6 @@
 -- The text that is scanned: the source lines, each followed by a line end.
 use Rattle.std.specs.Prelude.{ℕ, zero, suc, ◌+◌, List, [], ◌∷◌, ◌++◌, flat_map, Option, Some, None, option_to_list}
-use Rattle.tangle_lines.specs.Reading.{Line}
+use Rattle.tangle_lines.specs.Reading.{SourceLine}
 use Rattle.tangle_text.specs.declared.spans.Span.{Span}
 
 -- a byte of the text, or none at a line end, with the number of its source line and its column there, both from 0
@@ -15,7 +15,7 @@ line_text line column [] = record { line = line; column = column; byte = None } 
 line_text line column (b ∷ bs) = record { line = line; column = column; byte = Some b } ∷ line_text line (column + 1) bs
 
 -- the text of source lines, the first of which has this number
-abbrev pub text_from : ℕ → List Line → List Cell
+abbrev pub text_from : ℕ → List SourceLine → List Cell
 text_from line [] = []
 text_from line (l ∷ ls) = line_text line 0 l.bytes ++ text_from (line + 1) ls
 
@@ -23,21 +23,21 @@ text_from line (l ∷ ls) = line_text line 0 l.bytes ++ text_from (line + 1) ls
 abbrev pub bytes_of : List Cell → List ℕ
 bytes_of cells = flat_map (λ c. option_to_list c.byte) cells
 
--- what the cell at a distance from the front holds; behind the end of the text there are line ends
+-- what the cell at a distance from the front holds; after the end of the text there are line ends
 abbrev pub byte_at : ℕ → List Cell → Option ℕ
 byte_at k [] = None
 byte_at zero (c ∷ cs) = c.byte
 byte_at (suc k) (c ∷ cs) = byte_at k cs
 
 -- the line of the front of a text; at the end of the source this is its last line
-abbrev pub line_at : ℕ → List Cell → ℕ
-line_at last [] = last
-line_at last (c ∷ cs) = c.line
+abbrev pub front_line : ℕ → List Cell → ℕ
+front_line last [] = last
+front_line last (c ∷ cs) = c.line
 
 -- the column of the front
-abbrev pub column_at : List Cell → ℕ
-column_at [] = 0
-column_at (c ∷ cs) = c.column
+abbrev pub front_column : List Cell → ℕ
+front_column [] = 0
+front_column (c ∷ cs) = c.column
 
 -- so many bytes from the front on, which are on one line
 abbrev pub span_at : ℕ → List Cell → Span
@@ -46,4 +46,4 @@ span_at count (c ∷ cs) = record { line = c.line; start = c.column; end = c.col
 
 -- the first cell
 abbrev pub front_cell : ℕ → List Cell → Cell
-front_cell last text = record { line = line_at last text; column = column_at text; byte = byte_at 0 text }
+front_cell last text = record { line = front_line last text; column = front_column text; byte = byte_at 0 text }

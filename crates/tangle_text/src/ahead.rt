@@ -1,29 +1,31 @@
 //! The text that is still ahead.
 ghost use Rattle.std.specs.Prelude.{◌≡◌, ◌≤◌, ◌<◌, ◌+◌, ℕ, List, [], length, take, drop};
-ghost use Rattle.std.specs.Prelude.{get_or, Option, Some, None, slice_get, IsSome, IfSome, IfNone};
-ghost use Rattle.std.specs.Prelude.{true, false};
+ghost use Rattle.std.specs.Prelude.{get_or, slice_get, IsSome, IfSome, IfNone, true, false};
+ghost use Rattle.tangle_files.specs.Adding.{longest_line};
 ghost use Rattle.tangle_lines.specs.Bytes as lines;
 ghost use Rattle.tangle_text.specs.Ahead.{IsFront, run_length};
 ghost use Rattle.tangle_text.specs.Bytes as byte;
 ghost use Rattle.tangle_text.specs.NameBytes.{BeginsName};
 ghost use Rattle.tangle_text.specs.declared.regions.Region.TheVariants as region;
 ghost use Rattle.tangle_text.specs.Words.{word_more, is_include_word};
-ghost use Rattle.tangle_text.specs.Text.{text_from, byte_at, bytes_of, line_at, column_at};
+ghost use Rattle.tangle_text.specs.Text.{text_from, byte_at, bytes_of, front_line, front_column};
 ghost use Rattle.tangle_text.specs.Text.{span_at};
 ghost use Rattle.tangle_text.specs.Regions as regions;
 ghost use Rattle.tangle_text.specs.Regions.{count_before, more_by, region_end};
 
 use crate::bytes::{holds, is_white, is_word_byte};
-use crate::regions::{Region, Unit, is_text, unit_of};
+use crate::regions::{Region, Unit, skips_ordinary, unit_of};
 use crate::spans::Span;
 use memchr::memchr;
 use std::marker::Model;
 use tangle_lines::Source;
 
-/// What is at a position and behind it: bytes, or line ends.
+/// What is at a position and after it: bytes, or line ends.
 #[derive(Clone, Copy)]
 pub struct Front {
+    /// The byte that is here; none at a line end.
     pub byte: Option<u8>,
+    /// The byte after it; none at a line end.
     pub next: Option<u8>,
 }
 
@@ -32,7 +34,7 @@ pub struct Front {
 pub struct Reader<'s, 'a> {
     source: &'s Source<'a>,
     /// The bytes of the line.
-    text: &'a [u8],
+    bytes: &'a [u8],
     line: usize,
     column: usize,
     /// The last line was read.
@@ -41,74 +43,76 @@ pub struct Reader<'s, 'a> {
 
 impl<'s, 'a> Model for Reader<'s, 'a> {
     ghost use Rattle.std.specs.Prelude.{List, length, ◌≤◌, ◌<◌, ◌≡◌, false};
+    ghost use Rattle.tangle_files.specs.Adding.{longest_line};
+    ghost use Rattle.tangle_lines.specs.Reading.{source_line_limit};
     ghost use Rattle.tangle_text.specs.Text.{Cell};
     ghost use Rattle.tangle_text.specs.Ahead.{rest_of};
 
     ghost Value = { List Cell };
 
-    ghost view = { λ r. rest_of r.source.now.lines r.text.now r.line r.column r.is_done };
+    ghost view = { λ r. rest_of r.source.now.lines r.bytes.now r.line r.column r.is_done };
 
-    ghost invariant = { λ r. (r.column ≤ length r.text.now)
+    ghost invariant = { λ r. (r.column ≤ length r.bytes.now)
         × ((r.is_done ≡ false → r.line < length r.source.now.lines)
-        × ((r.line ≤ 2000000) × (length r.text.now ≤ 65535))) };
+        × ((r.line ≤ source_line_limit) × (length r.bytes.now ≤ longest_line))) };
 }
 
 /// The byte at a column of a line, or none at its end.
 #[inline(always)]
-fn byte_of(text: &[u8], column: usize) -> Option<u8>
-    ensures { result ≡ slice_get text.now column }
+fn byte_of(bytes: &[u8], column: usize) -> Option<u8>
+    ensures { result ≡ slice_get bytes.now column }
 {
-    text.get(column).copied()
+    bytes.get(column).copied()
 }
 
 /// The column of the next `@` of a line, or its length.
-fn at_sign_from(text: &[u8], column: usize) -> usize
-    requires { column ≤ length text.now }
+fn at_sign_from(bytes: &[u8], column: usize) -> usize
+    requires { column ≤ length bytes.now }
     ensures low { column ≤ result }
-    ensures high { result ≤ length text.now }
-    ensures before { (k : ℕ) → column + k < result → get_or text.now (column + k) 0 ≡ 64 → ⊥ }
+    ensures high { result ≤ length bytes.now }
+    ensures before { (k : ℕ) → column + k < result → get_or bytes.now (column + k) 0 ≡ 64 → ⊥ }
 {
-    match memchr(b'@', &text[column..]) {
+    match memchr(b'@', &bytes[column..]) {
         Some(count) => column + count,
-        None => text.len(),
+        None => bytes.len(),
     }
 }
 
-/// The column where the bytes that pass end, from this column on.
-// Four bytes are looked at in a turn, since most words have as many.
+/// The column where the run of bytes that pass the test ends.
+// Four bytes are tested in a turn, since most words have as many.
 macro_rules! run_end {
-    ($passes:ident, $text:ident, $from:ident) => {{
+    ($passes:ident, $bytes:ident, $from:ident) => {{
         let mut end = $from;
-        while $text.len() - end >= 4 {
-            if !$passes($text[end]) {
+        while $bytes.len() - end >= 4 {
+            if !$passes($bytes[end]) {
                 return end;
             }
-            if !$passes($text[end + 1]) {
+            if !$passes($bytes[end + 1]) {
                 return end + 1;
             }
-            if !$passes($text[end + 2]) {
+            if !$passes($bytes[end + 2]) {
                 return end + 2;
             }
-            if !$passes($text[end + 3]) {
+            if !$passes($bytes[end + 3]) {
                 return end + 3;
             }
             end += 4;
         }
-        while end < $text.len() && $passes($text[end]) {
+        while end < $bytes.len() && $passes($bytes[end]) {
             end += 1;
         }
         end
     }};
 }
 
-/// The column where the word bytes from this column on end.
+/// The column where the run of word bytes from this column on ends.
 #[inline(always)]
-fn word_end(text: &[u8], from: usize) -> usize
-    requires { from ≤ length text.now }
-    ensures end { result ≡ from + run_length byte.is_word_byte (drop from text.now) }
-    ensures inside { result ≤ length text.now }
+fn word_end(bytes: &[u8], from: usize) -> usize
+    requires { from ≤ length bytes.now }
+    ensures end { result ≡ from + run_length byte.is_word_byte (drop from bytes.now) }
+    ensures inside { result ≤ length bytes.now }
 {
-    run_end!(is_word_byte, text, from)
+    run_end!(is_word_byte, bytes, from)
 }
 
 /// Whether each byte has no meaning in comments, control texts, quoted and verbatim texts.
@@ -132,37 +136,37 @@ const ORDINARY_BYTES: [bool; 256] = [
     true, true, true, true, true,
 ];
 
-/// A byte without a meaning in comments, control texts, quoted and verbatim texts.
+/// Whether a byte has no meaning in comments, control texts, quoted and verbatim texts.
 fn is_ordinary(byte: u8) -> bool
     ensures { result ≡ regions.is_ordinary byte }
 {
     ORDINARY_BYTES[byte as usize]
 }
 
-/// The column where such bytes from this column on end.
-fn ordinary_end(text: &[u8], from: usize) -> usize
-    requires { from ≤ length text.now }
-    ensures end { result ≡ from + run_length regions.is_ordinary (drop from text.now) }
-    ensures inside { result ≤ length text.now }
+/// The column where the run of ordinary bytes from this column on ends.
+fn ordinary_end(bytes: &[u8], from: usize) -> usize
+    requires { from ≤ length bytes.now }
+    ensures end { result ≡ from + run_length regions.is_ordinary (drop from bytes.now) }
+    ensures inside { result ≤ length bytes.now }
 {
-    run_end!(is_ordinary, text, from)
+    run_end!(is_ordinary, bytes, from)
 }
 
-/// The column where the white space from this column on ends.
+/// The column where the run of white space from this column on ends.
 #[inline(always)]
-fn white_end(text: &[u8], from: usize) -> usize
-    requires { from ≤ length text.now }
-    ensures end { result ≡ from + run_length lines.is_white (drop from text.now) }
-    ensures inside { result ≤ length text.now }
+fn white_end(bytes: &[u8], from: usize) -> usize
+    requires { from ≤ length bytes.now }
+    ensures end { result ≡ from + run_length lines.is_white (drop from bytes.now) }
+    ensures inside { result ≤ length bytes.now }
 {
     let mut end = from;
-    while end < text.len() && is_white(text[end]) {
+    while end < bytes.len() && is_white(bytes[end]) {
         end += 1;
     }
     end
 }
 
-/// The first byte of a line, or none at its end; none either where there is no such line.
+/// The first byte of a line; none if it is empty or is not there.
 fn first_byte(source: &Source, line: usize) -> Option<u8>
     ensures { result ≡ byte_at 0 (text_from line (drop line source.now.lines)) }
 {
@@ -181,7 +185,7 @@ impl<'s, 'a> Reader<'s, 'a> {
         if source.count() == 0 {
             return Reader {
                 source,
-                text: b"",
+                bytes: b"",
                 line: 0,
                 column: 0,
                 is_done: true,
@@ -189,7 +193,7 @@ impl<'s, 'a> Reader<'s, 'a> {
         }
         Reader {
             source,
-            text: source.line(0),
+            bytes: source.line(0),
             line: 0,
             column: 0,
             is_done: false,
@@ -204,16 +208,16 @@ impl<'s, 'a> Reader<'s, 'a> {
         if self.is_done {
             return None;
         }
-        let byte = byte_of(self.text, self.column);
-        let next = if self.column < self.text.len() {
-            byte_of(self.text, self.column + 1)
+        let byte = byte_of(self.bytes, self.column);
+        let next = if self.column < self.bytes.len() {
+            byte_of(self.bytes, self.column + 1)
         } else {
             first_byte(self.source, self.line + 1)
         };
         Some(Front { byte, next })
     }
 
-    /// The byte that is here; none at a line end, and none behind the last line.
+    /// The byte that is here; none at a line end, and none after the last line.
     #[inline(always)]
     pub fn byte(&self) -> Option<u8>
         ensures { result ≡ byte_at 0 self.now }
@@ -221,10 +225,10 @@ impl<'s, 'a> Reader<'s, 'a> {
         if self.is_done {
             return None;
         }
-        byte_of(self.text, self.column)
+        byte_of(self.bytes, self.column)
     }
 
-    /// Nothing is ahead any more.
+    /// Whether the text is at its end.
     #[inline(always)]
     pub fn is_at_end(&self) -> bool
         ensures end { result ≡ true → self.now ≡ [] }
@@ -238,7 +242,7 @@ impl<'s, 'a> Reader<'s, 'a> {
     pub fn advance(&mut self)
         ensures { self.new ≡ drop 1 self.old }
     {
-        if self.column < self.text.len() {
+        if self.column < self.bytes.len() {
             self.column += 1;
             return;
         }
@@ -246,40 +250,40 @@ impl<'s, 'a> Reader<'s, 'a> {
         self.column = 0;
         if next < self.source.count() {
             self.line = next;
-            self.text = self.source.line(next);
+            self.bytes = self.source.line(next);
         } else {
             self.is_done = true;
         }
     }
 
-    /// The number of the line; behind the last line, the number passed in.
+    /// The number of the line; after the last line, the number passed in.
     #[inline(always)]
     pub fn line(&self, last: u32) -> u32
-        ensures { result ≡ line_at last self.now }
+        ensures { result ≡ front_line last self.now }
     {
         if self.is_done { last } else { self.line as u32 }
     }
 
-    /// The column.
+    /// The column, from 0; 0 at the end of the text.
     pub fn column(&self) -> usize
-        ensures column { result ≡ column_at self.now }
-        ensures short { result ≤ 65535 }
+        ensures column { result ≡ front_column self.now }
+        ensures short { result ≤ longest_line }
     {
         if self.is_done { 0 } else { self.column }
     }
 
-    /// The column behind the byte that is here.
-    pub fn column_behind(&self) -> usize
+    /// The column after the byte that is here.
+    pub fn column_after(&self) -> usize
         requires { IsSome (byte_at 0 self.now) }
-        ensures column { result ≡ column_at self.now + 1 }
-        ensures short { result ≤ 65535 }
+        ensures column { result ≡ front_column self.now + 1 }
+        ensures short { result ≤ longest_line }
     {
         self.column + 1
     }
 
     /// The span of the byte that is here.
     #[inline(always)]
-    pub fn sign_span(&self) -> Span
+    pub fn byte_span(&self) -> Span
         requires { IsSome (byte_at 0 self.now) }
         ensures { result ≡ span_at 1 self.now }
     {
@@ -314,24 +318,24 @@ impl<'s, 'a> Reader<'s, 'a> {
         }
     }
 
-    /// Goes on inside a region, where that is quick.
+    /// Passes over ordinary bytes, where they have no meaning in the region.
     fn skip_inside(&mut self, region: Region)
         ensures same { region_end region self.new ≡ region_end region self.old }
         ensures shorter { length self.new ≤ length self.old }
     {
-        if is_text(region) {
+        if skips_ordinary(region) {
             self.skip_ordinary();
         }
     }
 
-    /// The same text, to look further on.
+    /// A second reader at the same position.
     #[inline(always)]
     pub fn copy(&self) -> Self
         ensures { result ≡ self.now }
     {
         Reader {
             source: self.source,
-            text: self.text,
+            bytes: self.bytes,
             line: self.line,
             column: self.column,
             is_done: self.is_done,
@@ -364,11 +368,11 @@ impl<'s, 'a> Reader<'s, 'a> {
         requires { IsSome (byte_at 0 self.now) }
         ensures { result ≡ is_include_word (bytes_of (take (1 + word_more self.now) self.now)) }
     {
-        let end = word_end(self.text, self.column + 1);
-        &self.text[self.column..end] == b"include".as_slice()
+        let end = word_end(self.bytes, self.column + 1);
+        &self.bytes[self.column..end] == b"include".as_slice()
     }
 
-    /// Takes the word that begins here, and answers its span.
+    /// Takes the word that begins here, and returns its span.
     #[inline(always)]
     pub fn take_word(&mut self) -> Span
         requires { IsSome (byte_at 0 self.old) }
@@ -376,7 +380,7 @@ impl<'s, 'a> Reader<'s, 'a> {
         ensures ahead { self.new ≡ drop (word_more self.old) (drop 1 self.old) }
     {
         let start = self.column;
-        let end = word_end(self.text, start + 1);
+        let end = word_end(self.bytes, start + 1);
         self.column = end;
         Span {
             line: self.line as u32,
@@ -385,14 +389,14 @@ impl<'s, 'a> Reader<'s, 'a> {
         }
     }
 
-    /// Goes on behind the white space that begins here.
+    /// Goes on after the white space that begins here.
     #[inline(always)]
     pub fn skip_white(&mut self)
         requires { IsSome (byte_at 0 self.old) }
         ensures { self.new ≡ drop (count_before region.White 0 (drop 1 self.old))
             (drop 1 self.old) }
     {
-        self.column = white_end(self.text, self.column + 1);
+        self.column = white_end(self.bytes, self.column + 1);
     }
 
     /// Goes on in this line over bytes without a meaning in comments, control texts, quoted and
@@ -400,7 +404,7 @@ impl<'s, 'a> Reader<'s, 'a> {
     pub fn skip_ordinary(&mut self)
         ensures { (n : ℕ) × (self.new ≡ drop n self.old) × regions.AreOrdinary n self.old }
     {
-        self.column = ordinary_end(self.text, self.column);
+        self.column = ordinary_end(self.bytes, self.column);
     }
 
     /// Takes the bytes of this line up to the next `@`, or to its end, which are bytes of a name
@@ -412,17 +416,17 @@ impl<'s, 'a> Reader<'s, 'a> {
             return &[];
         }
         let start = self.column;
-        let end = at_sign_from(self.text, start);
+        let end = at_sign_from(self.bytes, start);
         self.column = end;
-        &self.text[start..end]
+        &self.bytes[start..end]
     }
 
     /// Goes on in this line to the next `@`, or to its end.
-    fn skip_in_line(&mut self)
+    fn skip_to_at_sign(&mut self)
         ensures same { region_end region.Prose self.new ≡ region_end region.Prose self.old }
         ensures shorter { length self.new ≤ length self.old }
     {
-        self.column = at_sign_from(self.text, self.column);
+        self.column = at_sign_from(self.bytes, self.column);
     }
 
     /// Goes on to the next `@`.
@@ -434,7 +438,7 @@ impl<'s, 'a> Reader<'s, 'a> {
                 return;
             }
             self.advance();
-            self.skip_in_line();
+            self.skip_to_at_sign();
         }
     }
 }

@@ -1,9 +1,9 @@
 //! Classes of bytes. A position of the text has a byte, or none at a line end.
-ghost use Rattle.std.specs.Prelude.{◌≡◌, Option, Some, None};
+ghost use Rattle.std.specs.Prelude.{◌≡◌};
 ghost use Rattle.tangle_lines.specs.Bytes as lines;
 ghost use Rattle.tangle_text.specs.Bytes as spec;
 
-/// This byte.
+/// Whether this byte is here.
 pub fn holds(expected: u8, byte: Option<u8>) -> bool
     ensures { result ≡ spec.holds expected byte }
 {
@@ -13,15 +13,15 @@ pub fn holds(expected: u8, byte: Option<u8>) -> bool
     }
 }
 
-/// A space, a tab, a carriage return, a vertical tab or a form feed.
+/// Whether a byte is a space, a tab, a carriage return, a vertical tab or a form feed.
 pub fn is_white(byte: u8) -> bool
     ensures { result ≡ lines.is_white byte }
 {
     byte == b' ' || byte == b'\t' || byte == b'\r' || byte == 11 || byte == 12
 }
 
-/// Whether each byte is a letter, a digit, `_`, `$` or past 127: words have more bytes than all
-/// else.
+/// Whether each byte is a letter, a digit, `_`, `$` or past 127. A table, since most bytes of C
+/// text are in words.
 const WORD_BYTES: [bool; 256] = [
     false, false, false, false, false, false, false, false, false, false, false, false, false,
     false, false, false, false, false, false, false, false, false, false, false, false, false,
@@ -42,14 +42,14 @@ const WORD_BYTES: [bool; 256] = [
     true, true, true, true, true, true, true, true, true, true, true, true, true, true, true,
 ];
 
-/// A letter, a digit, `_`, `$` or a byte past 127.
+/// Whether a byte is a letter, a digit, `_`, `$` or past 127.
 pub fn is_word_byte(byte: u8) -> bool
     ensures { result ≡ spec.is_word_byte byte }
 {
     WORD_BYTES[byte as usize]
 }
 
-/// A capital letter counts as the small one.
+/// This byte, or the small letter of a capital one.
 pub fn lower(byte: u8) -> u8
     ensures { result ≡ spec.lower byte }
 {
@@ -60,9 +60,9 @@ pub fn lower(byte: u8) -> u8
     }
 }
 
-/// White space.
-pub fn is_space(byte: Option<u8>) -> bool
-    ensures { result ≡ spec.is_space byte }
+/// Whether white space is here.
+pub fn holds_white(byte: Option<u8>) -> bool
+    ensures { result ≡ spec.holds_white byte }
 {
     match byte {
         Some(byte) => is_white(byte),
@@ -70,9 +70,9 @@ pub fn is_space(byte: Option<u8>) -> bool
     }
 }
 
-/// White space or a line end.
-pub fn is_blank(byte: Option<u8>) -> bool
-    ensures { result ≡ spec.is_blank byte }
+/// Whether white space or a line end is here.
+pub fn is_white_or_line_end(byte: Option<u8>) -> bool
+    ensures { result ≡ spec.is_white_or_line_end byte }
 {
     match byte {
         Some(byte) => is_white(byte),
@@ -80,9 +80,9 @@ pub fn is_blank(byte: Option<u8>) -> bool
     }
 }
 
-/// A word byte.
-pub fn is_word(byte: Option<u8>) -> bool
-    ensures { result ≡ spec.is_word byte }
+/// Whether a word byte is here.
+pub fn holds_word_byte(byte: Option<u8>) -> bool
+    ensures { result ≡ spec.holds_word_byte byte }
 {
     match byte {
         Some(byte) => is_word_byte(byte),
@@ -90,7 +90,7 @@ pub fn is_word(byte: Option<u8>) -> bool
     }
 }
 
-/// An octal digit.
+/// Whether an octal digit is here.
 pub fn is_octal(byte: Option<u8>) -> bool
     ensures { result ≡ spec.is_octal byte }
 {
@@ -100,21 +100,21 @@ pub fn is_octal(byte: Option<u8>) -> bool
     }
 }
 
-/// `@` before white space or a line end, and `@*`.
+/// Whether a section start is here: `@` before white space or a line end, or `@*`.
 pub fn is_section_start(byte: Option<u8>, next: Option<u8>) -> bool
     ensures { result ≡ spec.is_section_start byte next }
 {
-    holds(b'@', byte) && (is_blank(next) || holds(b'*', next))
+    holds(b'@', byte) && (is_white_or_line_end(next) || holds(b'*', next))
 }
 
-/// `@<` and `@(`.
+/// Whether `@<` or `@(` is here.
 pub fn is_name_start(byte: Option<u8>, next: Option<u8>) -> bool
     ensures { result ≡ spec.is_name_start byte next }
 {
     holds(b'@', byte) && (holds(b'<', next) || holds(b'(', next))
 }
 
-/// `@>`.
+/// Whether `@>` is here.
 pub fn is_end_code(byte: Option<u8>, next: Option<u8>) -> bool
     ensures { result ≡ spec.is_end_code byte next }
 {

@@ -1,31 +1,48 @@
-//! What is read up to the first position where it ends.
-ghost use Rattle.std.specs.Prelude.{◌≡◌, Option};
+//! Regions of the text, and the units that they have.
+ghost use Rattle.std.specs.Prelude.{◌≡◌};
 ghost use Rattle.tangle_text.specs.Regions as spec;
 
-use crate::bytes::{holds, is_end_code, is_name_start, is_section_start, is_space, is_word};
+use crate::bytes::{
+    holds, holds_white, holds_word_byte, is_end_code, is_name_start, is_section_start,
+};
 
-/// A stretch of the text that goes on up to the first position where it ends.
+/// What is read up to the first position where it ends.
 #[derive(Clone, Copy)]
 pub enum Region {
-    Comment,
+    /// Up to `*/` or a section start.
+    BlockComment,
+    /// Up to the line end or a section start.
     LineComment,
+    /// Up to a control code other than `@@`.
     ControlText,
+    /// Up to `@>` or the line end.
     Verbatim,
+    /// Up to `@>`, a section start, or where another name starts.
     Name,
+    /// Up to a double quote or the line end.
     DoubleQuote,
+    /// Up to an apostrophe or the line end.
     Apostrophe,
-    IncludeName,
+    /// The name of a header after `#include <`: up to `>` or the line end.
+    HeaderName,
+    /// As many word bytes as there are.
     Word,
+    /// As much white space as there is.
     White,
+    /// Up to an `@`, also over lines.
     Prose,
+    /// What is no ASCII constant: up to an apostrophe or the line end.
     BadConstant,
 }
 
 /// What a region has at a position: its end, one byte or line end, or two that belong together.
 #[derive(Clone, Copy)]
 pub enum Unit {
+    /// The region ends here.
     Stop,
+    /// One byte or line end.
     One,
+    /// Two that belong together.
     Two,
 }
 
@@ -41,16 +58,16 @@ fn unit_by(ends: bool, is_two: bool) -> Unit
     }
 }
 
-/// What a quoted text has that is closed by this byte.
+/// What a quoted text that ends with this byte has at a position.
 fn quoted_unit(close: u8, byte: Option<u8>, next: Option<u8>) -> Unit
     ensures { result ≡ spec.quoted_unit close byte next }
 {
-    let doubled = holds(b'@', next);
-    let is_two = holds(b'@', byte) && doubled || holds(b'\\', byte) && !doubled;
+    let next_is_at = holds(b'@', next);
+    let is_two = holds(b'@', byte) && next_is_at || holds(b'\\', byte) && !next_is_at;
     unit_by(holds(close, byte) || byte.is_none(), is_two)
 }
 
-/// What a region has where this byte or line end is before that one.
+/// What a region has at a position, by the bytes or line ends there and after it.
 #[inline(always)]
 pub fn unit_of(region: Region, byte: Option<u8>, next: Option<u8>) -> Unit
     ensures { result ≡ spec.unit_of region byte next }
@@ -60,33 +77,34 @@ pub fn unit_of(region: Region, byte: Option<u8>, next: Option<u8>) -> Unit
     let section = is_section_start(byte, next);
     let is_end = is_end_code(byte, next);
     match region {
-        Region::Comment => unit_by(holds(b'*', byte) && holds(b'/', next) || section, at),
+        Region::BlockComment => unit_by(holds(b'*', byte) && holds(b'/', next) || section, at),
         Region::LineComment => unit_by(byte.is_none() || section, at),
         Region::ControlText => unit_by(at && !holds(b'@', next), at),
         Region::Verbatim => unit_by(byte.is_none() || is_end, doubled),
         Region::Name => unit_by(is_end || section || is_name_start(byte, next), at),
         Region::DoubleQuote => quoted_unit(b'"', byte, next),
         Region::Apostrophe => quoted_unit(b'\'', byte, next),
-        Region::IncludeName => unit_by(holds(b'>', byte) || byte.is_none(), doubled),
-        Region::Word => unit_by(!is_word(byte), false),
-        Region::White => unit_by(!is_space(byte), false),
+        Region::HeaderName => unit_by(holds(b'>', byte) || byte.is_none(), doubled),
+        Region::Word => unit_by(!holds_word_byte(byte), false),
+        Region::White => unit_by(!holds_white(byte), false),
         Region::Prose => unit_by(at, false),
         Region::BadConstant => unit_by(holds(b'\'', byte) || byte.is_none(), false),
     }
 }
 
-/// A comment, a control text, a quoted or a verbatim text, where most bytes have no meaning.
-pub fn is_text(region: Region) -> bool
-    ensures { result ≡ spec.is_text region }
+/// Whether ordinary bytes have no meaning in a region: in comments, control texts, quoted and
+/// verbatim texts.
+pub fn skips_ordinary(region: Region) -> bool
+    ensures { result ≡ spec.skips_ordinary region }
 {
     matches!(
         region,
-        Region::Comment
+        Region::BlockComment
             | Region::LineComment
             | Region::ControlText
             | Region::Verbatim
             | Region::DoubleQuote
             | Region::Apostrophe
-            | Region::IncludeName
+            | Region::HeaderName
     )
 }

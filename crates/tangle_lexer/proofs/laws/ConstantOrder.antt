@@ -1,26 +1,23 @@
 -- An ASCII constant is on one line.
-use Rattle.std.proofs.Common.{◌≡◌, ℕ, zero, suc, ◌+◌, Bool, true, false, List, [], ◌∷◌, drop, Option, Some, None, refl, sym, arith, subst, if◌then◌else◌, cond, ◌==◌, not, ◌*◌}
+use Rattle.std.proofs.Common.{◌≡◌, ℕ, ◌+◌, Bool, true, false, List, [], ◌∷◌, drop, Option, Some, None, refl, sym, arith, subst, if◌then◌else◌, cond, ◌==◌, not, ◌*◌}
 use Rattle.std.specs.Prelude.{nat_le}
-use Rattle.tangle_lexer.specs.declared.modes.ScanState.{ScanState}
-use Rattle.tangle_text.specs.Bytes.{at_sign, backslash, apostrophe, holds, is_octal}
+use Rattle.tangle_lexer.specs.declared.modes.LexerState.{LexerState}
+use Rattle.tangle_lines.specs.Bytes.{at_sign}
+use Rattle.tangle_text.specs.Bytes.{backslash, apostrophe, holds, is_octal}
 use Rattle.tangle_text.specs.Text.{Cell, byte_at}
 use Rattle.tangle_lexer.specs.declared.constants.AsciiConstant.{AsciiConstant}
 use Rattle.tangle_lexer.specs.Constants.{escape_value, if_closed, digit_at, if_byte, octal_constant, escaped_constant, constant_by, constant_at, constant_lexeme, ascii_constant}
-use Rattle.tangle_lexer.proofs.laws.Points.{Point, IsByte, walked, HoldsBytes, IsTextAt}
+use Rattle.tangle_text.proofs.AheadLemmas.{byte_at-drop}
+use Rattle.tangle_lexer.proofs.laws.Points.{Point, IsByte, after_cells, HoldsBytes, IsTextAt}
 use Rattle.tangle_lexer.proofs.laws.TokenOrder.{AreInOrder}
 use Rattle.tangle_lexer.proofs.laws.RegionOrder.{holds-byte, two-bytes, more-bytes, bytes-precede}
 use Rattle.tangle_lexer.proofs.laws.WhiteOrder.{bad_constant-in_order}
-
-pub byte_at-drop : (n : ℕ) (text : List Cell) → byte_at n text ≡ byte_at 0 (drop n text)
-byte_at-drop zero text = refl
-byte_at-drop (suc n) [] = refl
-byte_at-drop (suc n) (c ∷ cs) = byte_at-drop n cs
 
 front-byte : (text : List Cell) → IsByte (byte_at 0 text) → HoldsBytes 1 text
 front-byte [] h = absurd h
 front-byte (c ∷ cs) h = (h, tt)
 
--- the cells of a constant and the apostrophe behind it are bytes
+-- the cells of a constant and the apostrophe after it are bytes
 abbrev HasBytes : List Cell → Option AsciiConstant → Type 0
 HasBytes text None = Unit {0}
 HasBytes text (Some k) = HoldsBytes (k.count + 1) text
@@ -93,12 +90,12 @@ constant-bytes (Some b) text e =
     (λ j. either-bytes text (b == apostrophe) None (if_closed (Some b) 1 text) (λ k. tt) (λ k. closed-bytes (Some b) 1 text (λ x l. front-byte text front))))
 
 module _ (width : ℕ → ℕ) (count : ℕ) where
-  pub ascii_constant-in_order : (s : ScanState) (at : Point) (c : Cell) (cs : List Cell) → IsTextAt width count at (c ∷ cs) → HoldsBytes 2 (c ∷ cs)
-      → AreInOrder width count true at (ascii_constant s (c ∷ cs)).tokens true (walked at (1 + (ascii_constant s (c ∷ cs)).more) (c ∷ cs))
+  pub ascii_constant-in_order : (s : LexerState) (at : Point) (c : Cell) (cs : List Cell) → IsTextAt width count at (c ∷ cs) → HoldsBytes 2 (c ∷ cs)
+      → AreInOrder width count true at (ascii_constant s (c ∷ cs)).tokens true (after_cells at (1 + (ascii_constant s (c ∷ cs)).more) (c ∷ cs))
   ascii_constant-in_order s at c cs is h = by (constant_at (drop 1 cs)) (constant-bytes (byte_at 0 (drop 1 cs)) (drop 1 cs) refl)
     where
       by : (k : Option AsciiConstant) → HasBytes (drop 1 cs) k
-          → AreInOrder width count true at (constant_lexeme k s (c ∷ cs)).tokens true (walked at (1 + (constant_lexeme k s (c ∷ cs)).more) (c ∷ cs))
+          → AreInOrder width count true at (constant_lexeme k s (c ∷ cs)).tokens true (after_cells at (1 + (constant_lexeme k s (c ∷ cs)).more) (c ∷ cs))
       by None bytes = bad_constant-in_order width count s at (c ∷ cs) is h
       by (Some k) bytes =
           let sum : 2 + (k.count + 1) ≡ 1 + (2 + k.count) = omega arith in

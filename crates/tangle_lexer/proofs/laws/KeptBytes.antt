@@ -1,5 +1,5 @@
 -- The bytes that are kept of the C parts are those of the spans of their tokens.
-use Rattle.std.proofs.Common.{◌≡◌, ℕ, zero, suc, ◌+◌, ◌-◌, Bool, true, false, not, ◌||◌, List, [], ◌∷◌, ◌++◌, take, drop, flat_map, Option, Some, None, refl, ap, sym, ◌∙◌, arith, append_assoc, append-nil, cond, ◌==◌, if◌then◌else◌}
+use Rattle.std.proofs.Common.{◌≡◌, ℕ, zero, suc, ◌+◌, ◌-◌, Bool, true, false, not, List, [], ◌∷◌, ◌++◌, take, drop, flat_map, Option, Some, None, refl, ap, sym, ◌∙◌, arith, append_assoc, append-nil, cond, ◌==◌, if◌then◌else◌}
 use Rattle.std.proofs.lemmas.Grind.{flat_map-append}
 use Rattle.std.specs.List.{list_any}
 use Rattle.tangle_faults.specs.declared.faults.FaultKind.{FaultKind}
@@ -8,51 +8,52 @@ use Rattle.tangle_lexer.specs.declared.tokens.Token.{Token}
 use Rattle.tangle_lexer.specs.declared.tokens.Token.TheVariants as token
 use Rattle.tangle_lexer.specs.declared.modes.Mode.{Mode}
 use Rattle.tangle_lexer.specs.declared.modes.Mode.TheVariants as mode
-use Rattle.tangle_lexer.specs.declared.modes.ScanState.{ScanState}
+use Rattle.tangle_lexer.specs.declared.modes.LexerState.{LexerState}
 use Rattle.tangle_lexer.specs.declared.modes.IncludeState.{IncludeState}
-use Rattle.tangle_lexer.specs.declared.token_kinds.ControlCode.{ControlCode}
-use Rattle.tangle_lexer.specs.declared.token_kinds.ControlCode.TheVariants as code
-use Rattle.tangle_lexer.specs.declared.token_kinds.TokenKind.{TokenKind}
-use Rattle.tangle_lexer.specs.declared.token_kinds.TokenKind.TheVariants as token_kind
+use Rattle.tangle_lexer.specs.declared.lexeme_kinds.ControlCode.{ControlCode}
+use Rattle.tangle_lexer.specs.declared.lexeme_kinds.ControlCode.TheVariants as code
+use Rattle.tangle_lexer.specs.declared.lexeme_kinds.LexemeKind.{LexemeKind}
+use Rattle.tangle_lexer.specs.declared.lexeme_kinds.LexemeKind.TheVariants as lexeme_kind
 use Rattle.tangle_text.specs.declared.regions.Region.{Region}
 use Rattle.tangle_text.specs.declared.regions.Region.TheVariants as region
 use Rattle.tangle_text.specs.declared.regions.Unit.{Unit as Unit-of}
 use Rattle.tangle_text.specs.declared.regions.Unit.TheVariants as unit
 use Rattle.tangle_lexer.specs.declared.constants.AsciiConstant.{AsciiConstant}
-use Rattle.tangle_text.specs.Bytes.{at_sign, double_quote, apostrophe, greater_sign, holds, is_line_end}
-use Rattle.tangle_text.specs.Text.{Cell, byte_at, column_at, line_at, span_at}
+use Rattle.tangle_lines.specs.Bytes.{at_sign, double_quote}
+use Rattle.tangle_text.specs.Bytes.{apostrophe, greater_sign, holds, is_line_end}
+use Rattle.tangle_text.specs.Text.{Cell, byte_at, front_column, front_line, span_at}
 use Rattle.tangle_text.specs.Regions.{count_before, from_units, unless_stop, unit_at, more_by}
 use Rattle.tangle_lexer.specs.Lexemes.{Lexeme, lexeme_of, fault_if, in_mode}
 use Rattle.tangle_lexer.specs.Comments.{unit_line_end, line_ends, ends_comment, starts_section, has_end_code}
 use Rattle.tangle_lexer.specs.Quoted.{quote_end}
 use Rattle.tangle_lexer.specs.Constants.{constant_at, constant_lexeme}
-use Rattle.tangle_lexer.specs.Names.{name_end, is_ended, name_faults, behind_name, has_single_equals, head_or_mention, head_count}
-use Rattle.tangle_lexer.specs.Steps.{code_at, byte_kind, kind_by, kind_of, prose, section_start, documentation_code, c_code, c_lexeme, macro_code, macro_lexeme, lexeme_in, lexeme, lexemes}
+use Rattle.tangle_lexer.specs.Names.{name_end, is_ended, name_faults, after_name, has_single_equals, definition_or_mention, definition_count}
+use Rattle.tangle_lexer.specs.Steps.{code_at, byte_kind, kind_by, kind_at, prose, section_start, documentation_code, c_code, c_lexeme, macro_code, macro_lexeme, lexeme_in, lexeme, lexemes}
 use Rattle.tangle_lexer.specs.Segments.{Segment, segment, span_points, byte_points, kept_points, code_segments, c_segments, segments_in, segments, text_segments, verbatim_segments}
-use Rattle.tangle_lexer.specs.Segments.Fate.{ControlBytes}
-use Rattle.tangle_lexer.proofs.lemmas.QuietTokens.{AreQuiet, is_loud, seen, quiet-append, fault_if-quiet, white-quiet, line_ends-quiet, verbatim_tokens-quiet, cut_tokens-quiet, quote_end-quiet, constant-quiet}
-use Rattle.tangle_lexer.proofs.laws.Points.{Point, behind, walked, HoldsBytes, IsTextAt, text-walked}
+use Rattle.tangle_lexer.specs.Segments.SegmentKind.{ControlBytes}
+use Rattle.tangle_lexer.proofs.lemmas.PlainTokens.{AreNoHeadsOrUses, is_head_or_use, seen, plain-append, fault_if-plain, white-plain, line_ends-plain, verbatim_tokens-plain, cut_tokens-plain, quote_end-plain, constant-plain}
+use Rattle.tangle_lexer.proofs.laws.Points.{Point, after_cell, after_cells, HoldsBytes, IsTextAt, text-after_cells}
 use Rattle.tangle_lexer.proofs.laws.RegionOrder.{more-bytes}
 use Rattle.tangle_lexer.proofs.laws.WhiteOrder.{word-bytes}
 use Rattle.tangle_lexer.proofs.laws.KindCells.{CodeCells, Cells, kind-cells}
 use Rattle.tangle_lexer.proofs.laws.SegmentPoints.{token_points, points-append, bytes-columns}
-use Rattle.tangle_lexer.proofs.laws.KeptText.{text_points, double_quoted-keeps, apostrophe-keeps, include_name-keeps, verbatim-keeps}
+use Rattle.tangle_lexer.proofs.laws.KeptText.{text_points, double_quoted-keeps, apostrophe-keeps, header_name-keeps, verbatim-keeps}
 
 -- what begins with no @
 
-abbrev pub NoSign : TokenKind → Option ℕ → Type 0
-NoSign (token_kind.Control code) b = Unit {0}
-NoSign _ b = holds at_sign b ≡ false
+abbrev pub NoAtSign : LexemeKind → Option ℕ → Type 0
+NoAtSign (lexeme_kind.Control code) b = Unit {0}
+NoAtSign _ b = holds at_sign b ≡ false
 
-no-sign : (kind : TokenKind) (b : Option ℕ) → holds at_sign b ≡ false → NoSign kind b
-no-sign (token_kind.Control code) b h = tt
+no-sign : (kind : LexemeKind) (b : Option ℕ) → holds at_sign b ≡ false → NoAtSign kind b
+no-sign (lexeme_kind.Control code) b h = tt
 no-sign _ b h = h
 
-kind-no-sign : (inc : IncludeState) (b next : Option ℕ) → NoSign (kind_by inc b next) b
+kind-no-sign : (inc : IncludeState) (b next : Option ℕ) → NoAtSign (kind_by inc b next) b
 kind-no-sign inc None next = refl
 kind-no-sign inc (Some b) next = by (b == at_sign) refl
   where
-    by : (t : Bool) → holds at_sign (Some b) ≡ t → NoSign (cond t (token_kind.Control (code_at next)) (byte_kind inc b next)) (Some b)
+    by : (t : Bool) → holds at_sign (Some b) ≡ t → NoAtSign (cond t (lexeme_kind.Control (code_at next)) (byte_kind inc b next)) (Some b)
     by true h = tt
     by false h = no-sign (byte_kind inc b next) (Some b) h
 
@@ -65,39 +66,32 @@ in_part _ = false
 -- where the bytes of the texts are that lie in C parts; the flag says whether the first token does
 abbrev pub part_points : Bool → List Token → List (ℕ × ℕ)
 part_points within [] = []
-part_points within (token.Section ∷ es) = part_points false es
-part_points within (token.MacroStart line ∷ es) = part_points false es
-part_points within (token.UnnamedPart line ∷ es) = part_points true es
-part_points within (token.NamedPart name line ∷ es) = part_points true es
-part_points within (token.Text kind s ∷ es) = (if within then span_points s else []) ++ part_points within es
-part_points within (_ ∷ es) = part_points within es
+part_points within (token.Section ∷ us) = part_points false us
+part_points within (token.MacroStart line ∷ us) = part_points false us
+part_points within (token.UnnamedPart line ∷ us) = part_points true us
+part_points within (token.NamedPart occurrence line ∷ us) = part_points true us
+part_points within (token.Span kind s ∷ us) = (if within then span_points s else []) ++ part_points within us
+part_points within (_ ∷ us) = part_points within us
 
-quiet-both : (e : Token) (es : List Token) (A : Type 0) → (is_loud e || list_any is_loud es) ≡ false → (is_loud e ≡ false → list_any is_loud es ≡ false → A) → A
-quiet-both e es A h f = by (is_loud e) h f
-  where
-    by : (b : Bool) → (b || list_any is_loud es) ≡ false → (b ≡ false → list_any is_loud es ≡ false → A) → A
-    by true h f = cc
-    by false h f = f refl h
+part_points-within : (ts us : List Token) → list_any is_head_or_use ts ≡ false → part_points true (ts ++ us) ≡ token_points ts ++ part_points true us
+part_points-within [] us h = refl
+part_points-within (token.Section ∷ ts) us h = cc
+part_points-within (token.MacroStart line ∷ ts) us h = cc
+part_points-within (token.UnnamedPart line ∷ ts) us h = cc
+part_points-within (token.NamedPart occurrence line ∷ ts) us h = cc
+part_points-within (token.UseOf occurrence line ∷ ts) us h = cc
+part_points-within (token.Span kind s ∷ ts) us h =
+    ap (λ ps. span_points s ++ ps) (part_points-within ts us h) ∙ sym (append_assoc (span_points s) (token_points ts) (part_points true us))
+part_points-within (_ ∷ ts) us h = part_points-within ts us h
 
-quiet-within : (ts es : List Token) → list_any is_loud ts ≡ false → part_points true (ts ++ es) ≡ token_points ts ++ part_points true es
-quiet-within [] es h = refl
-quiet-within (token.Section ∷ ts) es h = cc
-quiet-within (token.MacroStart line ∷ ts) es h = cc
-quiet-within (token.UnnamedPart line ∷ ts) es h = cc
-quiet-within (token.NamedPart name line ∷ ts) es h = cc
-quiet-within (token.UseOf name line ∷ ts) es h = cc
-quiet-within (token.Text kind s ∷ ts) es h =
-    ap (λ ps. span_points s ++ ps) (quiet-within ts es h) ∙ sym (append_assoc (span_points s) (token_points ts) (part_points true es))
-quiet-within (_ ∷ ts) es h = quiet-within ts es h
-
-quiet-outside : (ts es : List Token) → list_any is_loud ts ≡ false → part_points false (ts ++ es) ≡ part_points false es
-quiet-outside [] es h = refl
-quiet-outside (token.Section ∷ ts) es h = cc
-quiet-outside (token.MacroStart line ∷ ts) es h = cc
-quiet-outside (token.UnnamedPart line ∷ ts) es h = cc
-quiet-outside (token.NamedPart name line ∷ ts) es h = cc
-quiet-outside (token.UseOf name line ∷ ts) es h = cc
-quiet-outside (_ ∷ ts) es h = quiet-outside ts es h
+part_points-outside : (ts us : List Token) → list_any is_head_or_use ts ≡ false → part_points false (ts ++ us) ≡ part_points false us
+part_points-outside [] us h = refl
+part_points-outside (token.Section ∷ ts) us h = cc
+part_points-outside (token.MacroStart line ∷ ts) us h = cc
+part_points-outside (token.UnnamedPart line ∷ ts) us h = cc
+part_points-outside (token.NamedPart occurrence line ∷ ts) us h = cc
+part_points-outside (token.UseOf occurrence line ∷ ts) us h = cc
+part_points-outside (_ ∷ ts) us h = part_points-outside ts us h
 
 -- tokens without a text
 
@@ -105,9 +99,9 @@ fault-points : (b : Bool) (kind : FaultKind) (line : ℕ) → token_points (faul
 fault-points true kind line = refl
 fault-points false kind line = refl
 
-stop-points : (u : Unit-of) (es : List Token) → token_points es ≡ [] → token_points (unless_stop u es) ≡ []
-stop-points unit.Stop es h = refl
-stop-points _ es h = h
+stop-points : (u : Unit-of) (us : List Token) → token_points us ≡ [] → token_points (unless_stop u us) ≡ []
+stop-points unit.Stop us h = refl
+stop-points _ us h = h
 
 line_ends-points : (r : Region) (k : ℕ) (text : List Cell) → token_points (from_units unit_line_end r k text) ≡ []
 line_ends-points r zero [] = refl
@@ -128,44 +122,44 @@ white-points r text b kind line =
     ∙ ap (λ ps. ps ++ token_points (fault_if b kind line)) (line_ends-points r 0 text)
     ∙ fault-points b kind line
 
-constant-points : (k : Option AsciiConstant) (s : ScanState) (text : List Cell) → token_points (constant_lexeme k s text).tokens ≡ []
+constant-points : (k : Option AsciiConstant) (s : LexerState) (text : List Cell) → token_points (constant_lexeme k s text).tokens ≡ []
 constant-points None s text = refl
 constant-points (Some k) s text = refl
 
-constant-mode : (k : Option AsciiConstant) (s : ScanState) (text : List Cell) → (constant_lexeme k s text).after.mode ≡ s.mode
+constant-mode : (k : Option AsciiConstant) (s : LexerState) (text : List Cell) → (constant_lexeme k s text).after.mode ≡ s.mode
 constant-mode None s text = refl
 constant-mode (Some k) s text = refl
 
--- a lexeme whose tokens are no heads, and behind which the same is read
-record IsPlain (s : ScanState) (here : Lexeme) : Type 0 where
-  quiet : AreQuiet here.tokens
+-- a lexeme whose tokens are no heads, and after which the same is read
+record IsPlain (s : LexerState) (here : Lexeme) : Type 0 where
+  tokens : AreNoHeadsOrUses here.tokens
   mode : here.after.mode ≡ s.mode
 
-plain : (s : ScanState) (here : Lexeme) → AreQuiet here.tokens → here.after.mode ≡ s.mode → IsPlain s here
-plain s here q m = record { quiet = q; mode = m }
+plain : (s : LexerState) (here : Lexeme) → AreNoHeadsOrUses here.tokens → here.after.mode ≡ s.mode → IsPlain s here
+plain s here q m = record { tokens = q; mode = m }
 
-code-plain : (kind : ControlCode) (s : ScanState) (text : List Cell) → (kind ≡ code.SectionStart → ⊥) → (kind ≡ code.Name → ⊥) → IsPlain s (c_code kind s text)
+code-plain : (kind : ControlCode) (s : LexerState) (text : List Cell) → (kind ≡ code.SectionStart → ⊥) → (kind ≡ code.Name → ⊥) → IsPlain s (c_code kind s text)
 code-plain code.SectionStart s text h k = absurd (h refl)
 code-plain code.Name s text h k = absurd (k refl)
-code-plain code.ControlText s text h k = plain s _ (white-quiet _ _ (line_ends-quiet region.ControlText 0 (drop 2 text)) (fault_if-quiet _ fault.ControlText _)) refl
-code-plain code.Verbatim s text h k = plain s _ (verbatim_tokens-quiet (drop 2 text)) refl
-code-plain code.AsciiConstant s text h k = plain s _ (constant-quiet (constant_at (drop 2 text)) s text) (constant-mode (constant_at (drop 2 text)) s text)
+code-plain code.ControlText s text h k = plain s _ (white-plain _ _ (line_ends-plain region.ControlText 0 (drop 2 text)) (fault_if-plain _ fault.ControlText _)) refl
+code-plain code.Verbatim s text h k = plain s _ (verbatim_tokens-plain (drop 2 text)) refl
+code-plain code.AsciiConstant s text h k = plain s _ (constant-plain (constant_at (drop 2 text)) s text) (constant-mode (constant_at (drop 2 text)) s text)
 code-plain _ s text h k = plain s _ (seen _ refl) refl
 
-abbrev IsCode : TokenKind → Type 0
-IsCode (token_kind.Control code) = Unit {0}
+abbrev IsCode : LexemeKind → Type 0
+IsCode (lexeme_kind.Control code) = Unit {0}
 IsCode _ = ⊥
 
-kind-plain : (kind : TokenKind) (s : ScanState) (text : List Cell) → (IsCode kind → ⊥) → IsPlain s (c_lexeme kind s text)
-kind-plain (token_kind.Control code) s text h = absurd (h tt)
-kind-plain token_kind.BlockComment s text h = plain s _ (white-quiet _ _ (line_ends-quiet region.Comment 0 (drop 2 text)) (fault_if-quiet _ fault.CommentEnd _)) refl
-kind-plain token_kind.LineComment s text h = plain s _ (white-quiet [] _ (seen [] refl) (fault_if-quiet _ fault.CommentEnd _)) refl
-kind-plain token_kind.DoubleQuote s text h =
-    plain s _ (cut_tokens-quiet (quote_end region.DoubleQuote double_quote s.last) region.DoubleQuote 0 (column_at text) (drop 1 text) (quote_end-quiet region.DoubleQuote double_quote s.last)) refl
-kind-plain token_kind.Apostrophe s text h =
-    plain s _ (cut_tokens-quiet (quote_end region.Apostrophe apostrophe s.last) region.Apostrophe 0 (column_at text) (drop 1 text) (quote_end-quiet region.Apostrophe apostrophe s.last)) refl
-kind-plain token_kind.IncludeName s text h =
-    plain s _ (cut_tokens-quiet (quote_end region.IncludeName greater_sign s.last) region.IncludeName 0 (column_at text) (drop 1 text) (quote_end-quiet region.IncludeName greater_sign s.last)) refl
+kind-plain : (kind : LexemeKind) (s : LexerState) (text : List Cell) → (IsCode kind → ⊥) → IsPlain s (c_lexeme kind s text)
+kind-plain (lexeme_kind.Control code) s text h = absurd (h tt)
+kind-plain lexeme_kind.BlockComment s text h = plain s _ (white-plain _ _ (line_ends-plain region.BlockComment 0 (drop 2 text)) (fault_if-plain _ fault.CommentEnd _)) refl
+kind-plain lexeme_kind.LineComment s text h = plain s _ (white-plain [] _ (seen [] refl) (fault_if-plain _ fault.CommentEnd _)) refl
+kind-plain lexeme_kind.DoubleQuote s text h =
+    plain s _ (cut_tokens-plain (quote_end region.DoubleQuote double_quote s.last_line) region.DoubleQuote 0 (front_column text) (drop 1 text) (quote_end-plain region.DoubleQuote double_quote s.last_line)) refl
+kind-plain lexeme_kind.Apostrophe s text h =
+    plain s _ (cut_tokens-plain (quote_end region.Apostrophe apostrophe s.last_line) region.Apostrophe 0 (front_column text) (drop 1 text) (quote_end-plain region.Apostrophe apostrophe s.last_line)) refl
+kind-plain lexeme_kind.HeaderName s text h =
+    plain s _ (cut_tokens-plain (quote_end region.HeaderName greater_sign s.last_line) region.HeaderName 0 (front_column text) (drop 1 text) (quote_end-plain region.HeaderName greater_sign s.last_line)) refl
 kind-plain _ s text h = plain s _ (seen _ refl) refl
 
 module _ (width : ℕ → ℕ) (count : ℕ) where
@@ -178,149 +172,149 @@ module _ (width : ℕ → ℕ) (count : ℕ) where
 
   -- The bytes that are kept of a lexeme are those of its tokens: by the control code that it begins with, and by what begins there.
 
-  abbrev CodeKeeps : ControlCode → ScanState → List Cell → Type 0
+  abbrev CodeKeeps : ControlCode → LexerState → List Cell → Type 0
   CodeKeeps kind s text = token_points (c_code kind s text).tokens ≡ flat_map kept_points (code_segments kind (1 + (c_code kind s text).more) text)
 
   verbatim-kept : (text : List Cell) → flat_map kept_points (verbatim_segments text) ≡ text_points false (take (count_before region.Verbatim 0 (drop 2 text)) (drop 2 text))
   verbatim-kept text =
       let inside : ℕ = count_before region.Verbatim 0 (drop 2 text) in
-      let behind : List Cell = drop inside (drop 2 text) in
-      flat_map-append kept_points (text_segments false (take inside (drop 2 text))) (if has_end_code behind then segment ControlBytes (take 2 behind) ∷ [] else [])
-      ∙ ap (λ ps. text_points false (take inside (drop 2 text)) ++ ps) (by (has_end_code behind) (take 2 behind))
+      let rest : List Cell = drop inside (drop 2 text) in
+      flat_map-append kept_points (text_segments false (take inside (drop 2 text))) (if has_end_code rest then segment ControlBytes (take 2 rest) ∷ [] else [])
+      ∙ ap (λ ps. text_points false (take inside (drop 2 text)) ++ ps) (by (has_end_code rest) (take 2 rest))
       ∙ append-nil (text_points false (take inside (drop 2 text)))
     where
       by : (b : Bool) (cells : List Cell) → flat_map kept_points (if b then segment ControlBytes cells ∷ [] else []) ≡ []
       by true cells = refl
       by false cells = refl
 
-  code-keeps : (kind : ControlCode) (s : ScanState) (at : Point) (c : Cell) (cs : List Cell) → IsTextAt width count at (c ∷ cs)
+  code-keeps : (kind : ControlCode) (s : LexerState) (at : Point) (c : Cell) (cs : List Cell) → IsTextAt width count at (c ∷ cs)
       → CodeCells kind c.byte (byte_at 0 cs) → CodeKeeps kind s (c ∷ cs)
   code-keeps code.DoubleAt s at c cs is h = span-keeps at 1 c cs is (h.0, tt)
   code-keeps code.Name s at c cs is h =
       let text : List Cell = c ∷ cs in
-      let others : List Token = fault_if (has_single_equals (behind_name text)) fault.NameEquals (line_at s.last text) in
-      points-append (name_faults s.last text) others
-      ∙ ap (λ ps. ps ++ token_points others) (fault-points (not (is_ended text)) fault.NameEnd (line_at s.last (name_end text)))
-      ∙ fault-points (has_single_equals (behind_name text)) fault.NameEquals (line_at s.last text)
+      let others : List Token = fault_if (has_single_equals (after_name text)) fault.NameEquals (front_line s.last_line text) in
+      points-append (name_faults s.last_line text) others
+      ∙ ap (λ ps. ps ++ token_points others) (fault-points (not (is_ended text)) fault.NameEnd (front_line s.last_line (name_end text)))
+      ∙ fault-points (has_single_equals (after_name text)) fault.NameEquals (front_line s.last_line text)
   code-keeps code.ControlText s at c cs is h =
-      let behind : List Cell = drop (count_before region.ControlText 0 (drop 1 cs)) (drop 1 cs) in
-      white-points region.ControlText (drop 1 cs) (not (has_end_code behind)) fault.ControlText (line_at s.last behind)
+      let rest : List Cell = drop (count_before region.ControlText 0 (drop 1 cs)) (drop 1 cs) in
+      white-points region.ControlText (drop 1 cs) (not (has_end_code rest)) fault.ControlText (front_line s.last_line rest)
   code-keeps code.Verbatim s at c cs is h =
-      verbatim-keeps width count (walked at 2 (c ∷ cs)) (drop 1 cs) (text-walked width count at 2 (c ∷ cs) is) ∙ sym (verbatim-kept (c ∷ cs))
+      verbatim-keeps width count (after_cells at 2 (c ∷ cs)) (drop 1 cs) (text-after_cells width count at 2 (c ∷ cs) is) ∙ sym (verbatim-kept (c ∷ cs))
   code-keeps code.AsciiConstant s at c cs is h = constant-points (constant_at (drop 1 cs)) s (c ∷ cs)
   code-keeps _ s at c cs is h = refl
 
-  kind-keeps : (kind : TokenKind) (s : ScanState) (at : Point) (c : Cell) (cs : List Cell) → IsTextAt width count at (c ∷ cs)
-      → Cells kind c.byte (byte_at 0 cs) → NoSign kind c.byte
+  kind-keeps : (kind : LexemeKind) (s : LexerState) (at : Point) (c : Cell) (cs : List Cell) → IsTextAt width count at (c ∷ cs)
+      → Cells kind c.byte (byte_at 0 cs) → NoAtSign kind c.byte
       → token_points (c_lexeme kind s (c ∷ cs)).tokens ≡ flat_map kept_points (c_segments kind (1 + (c_lexeme kind s (c ∷ cs)).more) (c ∷ cs))
-  kind-keeps (token_kind.Control kind) s at c cs is h k = code-keeps kind s at c cs is h
-  kind-keeps token_kind.BlockComment s at c cs is h k =
-      let behind : List Cell = drop (count_before region.Comment 0 (drop 1 cs)) (drop 1 cs) in
-      white-points region.Comment (drop 1 cs) (not (ends_comment behind)) fault.CommentEnd (line_at s.last behind)
-  kind-keeps token_kind.LineComment s at c cs is h k =
-      let behind : List Cell = drop (count_before region.LineComment 0 (drop 1 cs)) (drop 1 cs) in
-      fault-points (starts_section behind) fault.CommentEnd (line_at s.last behind)
-  kind-keeps token_kind.DoubleQuote s at c cs is h k = double_quoted-keeps width count s at c cs is h k
-  kind-keeps token_kind.Apostrophe s at c cs is h k = apostrophe-keeps width count s at c cs is h k
-  kind-keeps token_kind.IncludeName s at c cs is h k = include_name-keeps width count s at c cs is h k
-  kind-keeps token_kind.LineEnd s at c cs is h k = refl
-  kind-keeps token_kind.White s at c cs is h k = refl
-  kind-keeps token_kind.Word s at c cs is h k =
+  kind-keeps (lexeme_kind.Control kind) s at c cs is h k = code-keeps kind s at c cs is h
+  kind-keeps lexeme_kind.BlockComment s at c cs is h k =
+      let rest : List Cell = drop (count_before region.BlockComment 0 (drop 1 cs)) (drop 1 cs) in
+      white-points region.BlockComment (drop 1 cs) (not (ends_comment rest)) fault.CommentEnd (front_line s.last_line rest)
+  kind-keeps lexeme_kind.LineComment s at c cs is h k =
+      let rest : List Cell = drop (count_before region.LineComment 0 (drop 1 cs)) (drop 1 cs) in
+      fault-points (starts_section rest) fault.CommentEnd (front_line s.last_line rest)
+  kind-keeps lexeme_kind.DoubleQuote s at c cs is h k = double_quoted-keeps width count s at c cs is h k
+  kind-keeps lexeme_kind.Apostrophe s at c cs is h k = apostrophe-keeps width count s at c cs is h k
+  kind-keeps lexeme_kind.HeaderName s at c cs is h k = header_name-keeps width count s at c cs is h k
+  kind-keeps lexeme_kind.LineEnd s at c cs is h k = refl
+  kind-keeps lexeme_kind.White s at c cs is h k = refl
+  kind-keeps lexeme_kind.Word s at c cs is h k =
       span-keeps at (1 + count_before region.Word 0 cs) c cs is (more-bytes 1 (count_before region.Word 0 cs) (c ∷ cs) (h, tt) (word-bytes cs))
-  kind-keeps token_kind.Other s at c cs is h k = span-keeps at 1 c cs is (h, tt)
+  kind-keeps lexeme_kind.Other s at c cs is h k = span-keeps at 1 c cs is (h, tt)
 
   -- So are those of the C part that it is in, if it is in one.
 
   abbrev Keeps : Mode → Lexeme → List Segment → Type 0
-  Keeps m here ss = (es : List Token) → part_points (in_part m) (here.tokens ++ es) ≡ flat_map kept_points ss ++ part_points (in_part here.after.mode) es
+  Keeps m here ss = (us : List Token) → part_points (in_part m) (here.tokens ++ us) ≡ flat_map kept_points ss ++ part_points (in_part here.after.mode) us
 
-  plain-within : (s : ScanState) (here : Lexeme) (ss : List Segment) → s.mode ≡ mode.CPart → IsPlain s here → token_points here.tokens ≡ flat_map kept_points ss → Keeps mode.CPart here ss
-  plain-within s here ss m p e es =
-      quiet-within here.tokens es p.quiet.none
-      ∙ rw e (ap (λ x. flat_map kept_points ss ++ part_points (in_part x) es) (sym (p.mode ∙ m)))
+  plain-within : (s : LexerState) (here : Lexeme) (ss : List Segment) → s.mode ≡ mode.CPart → IsPlain s here → token_points here.tokens ≡ flat_map kept_points ss → Keeps mode.CPart here ss
+  plain-within s here ss m p e us =
+      part_points-within here.tokens us p.tokens.none
+      ∙ rw e (ap (λ x. flat_map kept_points ss ++ part_points (in_part x) us) (sym (p.mode ∙ m)))
 
-  plain-outside : (s : ScanState) (here : Lexeme) → in_part s.mode ≡ false → IsPlain s here → (es : List Token) → part_points false (here.tokens ++ es) ≡ part_points (in_part here.after.mode) es
-  plain-outside s here m p es =
-      quiet-outside here.tokens es p.quiet.none ∙ ap (λ x. part_points x es) (sym (ap in_part p.mode ∙ m))
+  plain-outside : (s : LexerState) (here : Lexeme) → in_part s.mode ≡ false → IsPlain s here → (us : List Token) → part_points false (here.tokens ++ us) ≡ part_points (in_part here.after.mode) us
+  plain-outside s here m p us =
+      part_points-outside here.tokens us p.tokens.none ∙ ap (λ x. part_points x us) (sym (ap in_part p.mode ∙ m))
 
-  use-quiet : (s : ScanState) (text : List Cell) → AreQuiet (name_faults s.last text ++ fault_if (has_single_equals (behind_name text)) fault.NameEquals (line_at s.last text))
-  use-quiet s text = quiet-append _ _ (fault_if-quiet _ fault.NameEnd _) (fault_if-quiet (has_single_equals (behind_name text)) fault.NameEquals (line_at s.last text))
+  use-plain : (s : LexerState) (text : List Cell) → AreNoHeadsOrUses (name_faults s.last_line text ++ fault_if (has_single_equals (after_name text)) fault.NameEquals (front_line s.last_line text))
+  use-plain s text = plain-append _ _ (fault_if-plain _ fault.NameEnd _) (fault_if-plain (has_single_equals (after_name text)) fault.NameEquals (front_line s.last_line text))
 
-  code-within : (kind : ControlCode) (s : ScanState) (c : Cell) (cs : List Cell) → s.mode ≡ mode.CPart → CodeKeeps kind s (c ∷ cs)
+  code-within : (kind : ControlCode) (s : LexerState) (c : Cell) (cs : List Cell) → s.mode ≡ mode.CPart → CodeKeeps kind s (c ∷ cs)
       → Keeps mode.CPart (c_code kind s (c ∷ cs)) (code_segments kind (1 + (c_code kind s (c ∷ cs)).more) (c ∷ cs))
-  code-within code.SectionStart s c cs m e es = refl
-  code-within code.Name s c cs m e es =
-      quiet-within (name_faults s.last (c ∷ cs) ++ fault_if (has_single_equals (behind_name (c ∷ cs))) fault.NameEquals (line_at s.last (c ∷ cs))) es (use-quiet s (c ∷ cs)).none
+  code-within code.SectionStart s c cs m e us = refl
+  code-within code.Name s c cs m e us =
+      part_points-within (name_faults s.last_line (c ∷ cs) ++ fault_if (has_single_equals (after_name (c ∷ cs))) fault.NameEquals (front_line s.last_line (c ∷ cs))) us (use-plain s (c ∷ cs)).none
       ∙ rw (e, m) refl
-  code-within kind s c cs m e es = plain-within s (c_code kind s (c ∷ cs)) (code_segments kind (1 + (c_code kind s (c ∷ cs)).more) (c ∷ cs)) m (code-plain kind s (c ∷ cs) (λ k. cc) (λ k. cc)) e es
+  code-within kind s c cs m e us = plain-within s (c_code kind s (c ∷ cs)) (code_segments kind (1 + (c_code kind s (c ∷ cs)).more) (c ∷ cs)) m (code-plain kind s (c ∷ cs) (λ k. cc) (λ k. cc)) e us
 
-  kind-within : (kind : TokenKind) (s : ScanState) (c : Cell) (cs : List Cell) → s.mode ≡ mode.CPart
+  kind-within : (kind : LexemeKind) (s : LexerState) (c : Cell) (cs : List Cell) → s.mode ≡ mode.CPart
       → token_points (c_lexeme kind s (c ∷ cs)).tokens ≡ flat_map kept_points (c_segments kind (1 + (c_lexeme kind s (c ∷ cs)).more) (c ∷ cs))
       → Keeps mode.CPart (c_lexeme kind s (c ∷ cs)) (c_segments kind (1 + (c_lexeme kind s (c ∷ cs)).more) (c ∷ cs))
-  kind-within (token_kind.Control kind) s c cs m e = code-within kind s c cs m e
+  kind-within (lexeme_kind.Control kind) s c cs m e = code-within kind s c cs m e
   kind-within kind s c cs m e = plain-within s (c_lexeme kind s (c ∷ cs)) (c_segments kind (1 + (c_lexeme kind s (c ∷ cs)).more) (c ∷ cs)) m (kind-plain kind s (c ∷ cs) (λ k. k)) e
 
   -- outside of C parts nothing is kept, and a head begins one
 
   abbrev Leads : Lexeme → Type 0
-  Leads here = (es : List Token) → part_points false (here.tokens ++ es) ≡ part_points (in_part here.after.mode) es
+  Leads here = (us : List Token) → part_points false (here.tokens ++ us) ≡ part_points (in_part here.after.mode) us
 
-  name-leads : (s : ScanState) (text : List Cell) → in_part s.mode ≡ false → (o : Option ℕ) → Leads (head_or_mention o s text)
-  name-leads s text m None es = quiet-outside (name_faults s.last text) es (fault_if-quiet _ fault.NameEnd _).none ∙ ap (λ x. part_points x es) (sym m)
-  name-leads s text m (Some k) es = refl
+  name-leads : (s : LexerState) (text : List Cell) → in_part s.mode ≡ false → (o : Option ℕ) → Leads (definition_or_mention o s text)
+  name-leads s text m None us = part_points-outside (name_faults s.last_line text) us (fault_if-plain _ fault.NameEnd _).none ∙ ap (λ x. part_points x us) (sym m)
+  name-leads s text m (Some k) us = refl
 
-  documentation-leads : (kind : ControlCode) (s : ScanState) (text : List Cell) → in_part s.mode ≡ false → Leads (documentation_code kind s text)
-  documentation-leads code.SectionStart s text m es = refl
-  documentation-leads code.Macro s text m es = refl
-  documentation-leads code.UnnamedPart s text m es = refl
-  documentation-leads code.Name s text m es = name-leads s text m (head_count text) es
-  documentation-leads _ s text m es = rw m refl
+  documentation-leads : (kind : ControlCode) (s : LexerState) (text : List Cell) → in_part s.mode ≡ false → Leads (documentation_code kind s text)
+  documentation-leads code.SectionStart s text m us = refl
+  documentation-leads code.Macro s text m us = refl
+  documentation-leads code.UnnamedPart s text m us = refl
+  documentation-leads code.Name s text m us = name-leads s text m (definition_count text) us
+  documentation-leads _ s text m us = rw m refl
 
-  macro-code-leads : (kind : ControlCode) (s : ScanState) (text : List Cell) → in_part s.mode ≡ false → Leads (macro_code kind s text)
-  macro-code-leads code.SectionStart s text m es = refl
-  macro-code-leads code.Macro s text m es = refl
-  macro-code-leads code.UnnamedPart s text m es = refl
-  macro-code-leads code.Name s text m es = name-leads (in_mode mode.Documentation s) text refl (head_count text) es
-  macro-code-leads code.Format s text m es = refl
-  macro-code-leads code.AllMacros s text m es = rw m refl
-  macro-code-leads kind s text m es = plain-outside s (c_code kind s text) m (code-plain kind s text (λ k. cc) (λ k. cc)) es
+  macro-code-leads : (kind : ControlCode) (s : LexerState) (text : List Cell) → in_part s.mode ≡ false → Leads (macro_code kind s text)
+  macro-code-leads code.SectionStart s text m us = refl
+  macro-code-leads code.Macro s text m us = refl
+  macro-code-leads code.UnnamedPart s text m us = refl
+  macro-code-leads code.Name s text m us = name-leads (in_mode mode.Documentation s) text refl (definition_count text) us
+  macro-code-leads code.Format s text m us = refl
+  macro-code-leads code.AllMacros s text m us = rw m refl
+  macro-code-leads kind s text m us = plain-outside s (c_code kind s text) m (code-plain kind s text (λ k. cc) (λ k. cc)) us
 
-  macro-leads : (kind : TokenKind) (s : ScanState) (text : List Cell) → in_part s.mode ≡ false → Leads (macro_lexeme kind s text)
-  macro-leads (token_kind.Control kind) s text m = macro-code-leads kind s text m
+  macro-leads : (kind : LexemeKind) (s : LexerState) (text : List Cell) → in_part s.mode ≡ false → Leads (macro_lexeme kind s text)
+  macro-leads (lexeme_kind.Control kind) s text m = macro-code-leads kind s text m
   macro-leads kind s text m = plain-outside s (c_lexeme kind s text) m (kind-plain kind s text (λ k. k))
 
   if-leads : (b : Bool) (x y : Lexeme) → Leads x → Leads y → Leads (if b then x else y)
   if-leads true x y h k = h
   if-leads false x y h k = k
 
-  lexeme-keeps : (s : ScanState) (at : Point) (c : Cell) (cs : List Cell) → IsTextAt width count at (c ∷ cs)
+  lexeme-keeps : (s : LexerState) (at : Point) (c : Cell) (cs : List Cell) → IsTextAt width count at (c ∷ cs)
       → Keeps s.mode (lexeme s (c ∷ cs)) (segments_in s.mode s (1 + (lexeme s (c ∷ cs)).more) (c ∷ cs))
   unfolding lexeme
   lexeme-keeps s at c cs is = by s.mode refl
     where
       skip : (n : ℕ) → in_part s.mode ≡ false → Leads (lexeme_of [] n s)
-      skip n m es = rw m refl
+      skip n m us = rw m refl
 
       by : (m : Mode) → s.mode ≡ m → Keeps m (lexeme_in m s (c ∷ cs)) (segments_in m s (1 + (lexeme_in m s (c ∷ cs)).more) (c ∷ cs))
       by mode.Limbo e =
-          if-leads (starts_section (c ∷ cs)) (section_start s) _ (λ es. refl)
+          if-leads (starts_section (c ∷ cs)) (section_start s) _ (λ us. refl)
           (if-leads (holds at_sign c.byte) (lexeme_of [] 1 s) (prose s (c ∷ cs)) (skip 1 (ap in_part e)) (skip (count_before region.Prose 0 cs) (ap in_part e)))
       by mode.Documentation e =
           if-leads (holds at_sign c.byte) _ (prose s (c ∷ cs)) (documentation-leads (code_at (byte_at 0 cs)) s (c ∷ cs) (ap in_part e)) (skip (count_before region.Prose 0 cs) (ap in_part e))
       by mode.CPart e =
-          kind-within (kind_of s.include (c ∷ cs)) s c cs e
-          (kind-keeps (kind_of s.include (c ∷ cs)) s at c cs is (kind-cells s.include c.byte (byte_at 0 cs)) (kind-no-sign s.include c.byte (byte_at 0 cs)))
-      by mode.Macro e = macro-leads (kind_of s.include (c ∷ cs)) s (c ∷ cs) (ap in_part e)
+          kind-within (kind_at s.include (c ∷ cs)) s c cs e
+          (kind-keeps (kind_at s.include (c ∷ cs)) s at c cs is (kind-cells s.include c.byte (byte_at 0 cs)) (kind-no-sign s.include c.byte (byte_at 0 cs)))
+      by mode.Macro e = macro-leads (kind_at s.include (c ∷ cs)) s (c ∷ cs) (ap in_part e)
 
   -- all lexemes: the bytes of the texts in C parts are those that the segments keep
-  pub segments-keep : (k : ℕ) (s : ScanState) (text : List Cell) (at : Point) → IsTextAt width count at text
+  pub segments-keep : (k : ℕ) (s : LexerState) (text : List Cell) (at : Point) → IsTextAt width count at text
       → part_points (in_part s.mode) (flat_map (λ l. l.tokens) (lexemes k s text)) ≡ flat_map kept_points (segments k s text)
   segments-keep k s [] at is = refl
-  segments-keep (suc k) s (c ∷ cs) at is = segments-keep k s cs (behind c) is.1
+  segments-keep (suc k) s (c ∷ cs) at is = segments-keep k s cs (after_cell c) is.1
   segments-keep zero s (c ∷ cs) at is =
       let here : Lexeme = lexeme s (c ∷ cs) in
       let first : List Segment = segments_in s.mode s (1 + here.more) (c ∷ cs) in
       let others : List Segment = segments here.more here.after cs in
       lexeme-keeps s at c cs is (flat_map (λ l. l.tokens) (lexemes here.more here.after cs))
-      ∙ ap (λ ps. flat_map kept_points first ++ ps) (segments-keep here.more here.after cs (behind c) is.1)
+      ∙ ap (λ ps. flat_map kept_points first ++ ps) (segments-keep here.more here.after cs (after_cell c) is.1)
       ∙ sym (flat_map-append kept_points first others)

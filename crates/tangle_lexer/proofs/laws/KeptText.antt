@@ -4,46 +4,47 @@ use Rattle.std.proofs.Math.Seq.{take-add}
 use Rattle.std.proofs.lemmas.Bool.Decides.{eqb_tells}
 use Rattle.tangle_faults.specs.declared.faults.FaultKind.TheVariants as fault
 use Rattle.tangle_lexer.specs.declared.tokens.Token.{Token}
-use Rattle.tangle_lexer.specs.declared.tokens.TextKind.TheVariants as text_kind
+use Rattle.tangle_lexer.specs.declared.tokens.SpanKind.TheVariants as span_kind
 use Rattle.tangle_lexer.specs.declared.tokens.Token.TheVariants as token
-use Rattle.tangle_lexer.specs.declared.modes.ScanState.{ScanState}
+use Rattle.tangle_lexer.specs.declared.modes.LexerState.{LexerState}
 use Rattle.tangle_text.specs.declared.regions.Region.{Region}
 use Rattle.tangle_text.specs.declared.regions.Region.TheVariants as region
 use Rattle.tangle_text.specs.declared.regions.Unit.{Unit as Unit-of}
 use Rattle.tangle_text.specs.declared.regions.Unit.TheVariants as unit
-use Rattle.tangle_text.specs.Bytes.{at_sign, backslash, greater_sign, double_quote, apostrophe, holds, is_line_end}
+use Rattle.tangle_lines.specs.Bytes.{at_sign, double_quote}
+use Rattle.tangle_text.specs.Bytes.{backslash, greater_sign, apostrophe, holds, is_line_end}
 use Rattle.tangle_text.specs.Text.{Cell, byte_at, span_at}
 use Rattle.tangle_text.specs.Regions.{unit_by, quoted_unit, unit_of, unit_at, count_before}
 use Rattle.tangle_lexer.specs.Lexemes.{fault_if}
 use Rattle.tangle_lexer.specs.Quoted.{cut_range, unit_tokens, next_start, cut_tokens, quote_end, one_if, quoted_text, verbatim_end, empty_end, verbatim_tokens}
-use Rattle.tangle_lexer.specs.Segments.{points_by, kept_points, byte_points, text_fate, text_segments}
-use Rattle.tangle_lexer.specs.Segments.Fate.{Kept, SecondSign, LineEnd}
-use Rattle.tangle_lexer.proofs.laws.Points.{Point, point_at, IsByte, behind_by, IsCellAt, IsTextAt, behind-byte}
+use Rattle.tangle_lexer.specs.Segments.{points_by, kept_points, byte_points, cell_kind, text_segments}
+use Rattle.tangle_lexer.specs.Segments.SegmentKind.{Kept, SecondAtSign, LineEnd}
+use Rattle.tangle_lexer.proofs.laws.Points.{Point, point_at, IsByte, after_by, IsCellAt, IsTextAt, after-byte}
 use Rattle.tangle_lexer.proofs.laws.RegionOrder.{goes-byte, holds-byte}
 use Rattle.tangle_lexer.proofs.laws.QuotedOrder.{no-at_sign, quoted-takes, include-takes, verbatim-takes}
 use Rattle.tangle_lexer.proofs.laws.SegmentPoints.{columns_to, columns-next, columns-nothing, byte-point, token_points, cut-points}
 
 -- where the bytes are that are kept of such a text
 abbrev pub text_points : Bool → List Cell → List (ℕ × ℕ)
-text_points half cells = flat_map kept_points (text_segments half cells)
+text_points after_at_sign cells = flat_map kept_points (text_segments after_at_sign cells)
 
 -- a byte is kept, unless it is a second @
-kept-fate : (half : Bool) (c : Cell) → IsByte c.byte → (half && holds at_sign c.byte) ≡ false → text_fate half c ≡ Kept
-kept-fate half c h k = by c.byte h (half && holds at_sign c.byte) k
+kept-kind : (after_at_sign : Bool) (c : Cell) → IsByte c.byte → (after_at_sign && holds at_sign c.byte) ≡ false → cell_kind after_at_sign c ≡ Kept
+kept-kind after_at_sign c h k = by c.byte h (after_at_sign && holds at_sign c.byte) k
   where
-    by : (b : Option ℕ) → IsByte b → (x : Bool) → x ≡ false → cond (is_line_end b) LineEnd (cond x SecondSign Kept) ≡ Kept
+    by : (b : Option ℕ) → IsByte b → (x : Bool) → x ≡ false → cond (is_line_end b) LineEnd (cond x SecondAtSign Kept) ≡ Kept
     by None h x e = absurd h
     by (Some b) h true e = cc
     by (Some b) h false e = refl
 
-kept-byte : (half : Bool) (c : Cell) → IsByte c.byte → (half && holds at_sign c.byte) ≡ false → points_by (text_fate half c) (c ∷ []) ≡ (c.line, c.column) ∷ []
-kept-byte half c h k = ap (λ f. points_by f (c ∷ [])) (kept-fate half c h k) ∙ ap (λ ps. ps ++ []) (byte-point c h)
+kept-byte : (after_at_sign : Bool) (c : Cell) → IsByte c.byte → (after_at_sign && holds at_sign c.byte) ≡ false → points_by (cell_kind after_at_sign c) (c ∷ []) ≡ (c.line, c.column) ∷ []
+kept-byte after_at_sign c h k = ap (λ f. points_by f (c ∷ [])) (kept-kind after_at_sign c h k) ∙ ap (λ ps. ps ++ []) (byte-point c h)
 
 -- where no @ is, it doesn't matter what was before
-half-off : (half : Bool) (text : List Cell) → holds at_sign (byte_at 0 text) ≡ false → text_points half text ≡ text_points false text
-half-off false text h = refl
-half-off true [] h = refl
-half-off true (c ∷ cs) h = rw h refl
+after_at_sign-off : (after_at_sign : Bool) (text : List Cell) → holds at_sign (byte_at 0 text) ≡ false → text_points after_at_sign text ≡ text_points false text
+after_at_sign-off false text h = refl
+after_at_sign-off true [] h = refl
+after_at_sign-off true (c ∷ cs) h = rw h refl
 
 front-take : (n : ℕ) (text : List Cell) → holds at_sign (byte_at 0 text) ≡ false → holds at_sign (byte_at 0 (take n text)) ≡ false
 front-take zero text h = refl
@@ -51,19 +52,19 @@ front-take (suc n) [] h = refl
 front-take (suc n) (c ∷ cs) h = h
 
 -- a text before some cells that give the same whatever is before
-points-before : (half : Bool) (xs ys : List Cell) (ps : List (ℕ × ℕ)) → ((h : Bool) → text_points h ys ≡ ps) → text_points half (xs ++ ys) ≡ text_points half xs ++ ps
-points-before half [] ys ps h = h half
-points-before half (x ∷ xs) ys ps h =
-    ap (λ qs. points_by (text_fate half x) (x ∷ []) ++ qs) (points-before (holds at_sign x.byte && not half) xs ys ps h)
-    ∙ sym (append_assoc (points_by (text_fate half x) (x ∷ [])) (text_points (holds at_sign x.byte && not half) xs) ps)
+points-before : (after_at_sign : Bool) (xs ys : List Cell) (ps : List (ℕ × ℕ)) → ((h : Bool) → text_points h ys ≡ ps) → text_points after_at_sign (xs ++ ys) ≡ text_points after_at_sign xs ++ ps
+points-before after_at_sign [] ys ps h = h after_at_sign
+points-before after_at_sign (x ∷ xs) ys ps h =
+    ap (λ qs. points_by (cell_kind after_at_sign x) (x ∷ []) ++ qs) (points-before (holds at_sign x.byte && not after_at_sign) xs ys ps h)
+    ∙ sym (append_assoc (points_by (cell_kind after_at_sign x) (x ∷ [])) (text_points (holds at_sign x.byte && not after_at_sign) xs) ps)
 
 -- In these regions two cells belong together where both are @, or where the first is no @ and the second neither.
-abbrev PairsSigns : Region → Type 0
-PairsSigns r = (b n : Option ℕ) → unit_of r b n ≡ unit.Two → holds at_sign b ≡ holds at_sign n
+abbrev PairsAtSigns : Region → Type 0
+PairsAtSigns r = (b n : Option ℕ) → unit_of r b n ≡ unit.Two → holds at_sign b ≡ holds at_sign n
 
 -- an @ alone is before no other
-abbrev LeavesNoSign : Region → Type 0
-LeavesNoSign r = (b n : Option ℕ) → unit_of r b n ≡ unit.One → holds at_sign b ≡ true → holds at_sign n ≡ false
+abbrev LeavesNoAtSign : Region → Type 0
+LeavesNoAtSign r = (b n : Option ℕ) → unit_of r b n ≡ unit.One → holds at_sign b ≡ true → holds at_sign n ≡ false
 
 quoted-pairs : (close : ℕ) (b n : Option ℕ) → quoted_unit close b n ≡ unit.Two → holds at_sign b ≡ holds at_sign n
 quoted-pairs close b n e = by (holds close b || is_line_end b) (holds at_sign b) (holds at_sign n) (holds backslash b) (no-at_sign b) e
@@ -99,21 +100,21 @@ leaves-by false true true e h = cc
 leaves-by false true false e h = refl
 leaves-by false false q e h = cc
 
-include-pairs : PairsSigns region.IncludeName
+include-pairs : PairsAtSigns region.HeaderName
 include-pairs b n e = pairs-by _ (holds at_sign b) (holds at_sign n) e
 
-include-leaves : LeavesNoSign region.IncludeName
+include-leaves : LeavesNoAtSign region.HeaderName
 include-leaves b n e h = leaves-by _ (holds at_sign b) (holds at_sign n) e h
 
-verbatim-pairs : PairsSigns region.Verbatim
+verbatim-pairs : PairsAtSigns region.Verbatim
 verbatim-pairs b n e = pairs-by _ (holds at_sign b) (holds at_sign n) e
 
-verbatim-leaves : LeavesNoSign region.Verbatim
+verbatim-leaves : LeavesNoAtSign region.Verbatim
 verbatim-leaves b n e h = leaves-by _ (holds at_sign b) (holds at_sign n) e h
 
 module _ (width : ℕ → ℕ) (count : ℕ) where
   -- a text that is cut, in a region; `last` are the points that its end gives
-  module _ (r : Region) (stops : (n : Option ℕ) → unit_of r None n ≡ unit.Stop) (pairs : PairsSigns r) (leaves : LeavesNoSign r)
+  module _ (r : Region) (stops : (n : Option ℕ) → unit_of r None n ≡ unit.Stop) (pairs : PairsAtSigns r) (leaves : LeavesNoAtSign r)
       (takes : (b : Option ℕ) → unit_of r b None ≡ unit.Two → holds backslash b ≡ true)
       (ends : ℕ → List Cell → List Token) (last : List Cell → List (ℕ × ℕ))
       (stop : (at : Point) (start : ℕ) (text : List Cell) → start ≤ at.column → IsTextAt width count at text
@@ -125,10 +126,10 @@ module _ (width : ℕ → ℕ) (count : ℕ) where
     abbrev CutKeeps : Point → ℕ → List Cell → Type 0
     CutKeeps at start text = token_points (cut_tokens ends r 0 start text) ≡ columns_to at.line start at.column ++ kept_of (count_before r 0 text) text
 
-    -- one kept byte behind a range that was begun
-    behind-range : (line start column : ℕ) (ps : List (ℕ × ℕ)) → start ≤ column
+    -- one kept byte after a range that was begun
+    after-range : (line start column : ℕ) (ps : List (ℕ × ℕ)) → start ≤ column
         → columns_to line start (column + 1) ++ ps ≡ columns_to line start column ++ ((line, column) ∷ ps)
-    behind-range line start column ps h =
+    after-range line start column ps h =
         ap (λ qs. qs ++ ps) (columns-next line start column h) ∙ append_assoc (columns_to line start column) ((line, column) ∷ []) ps
 
     one-points : (c : Cell) (cs : List Cell) (n : ℕ) → IsByte c.byte → (holds at_sign c.byte ≡ true → holds at_sign (byte_at 0 cs) ≡ false)
@@ -141,19 +142,19 @@ module _ (width : ℕ → ℕ) (count : ℕ) where
       where
         by : (b : Bool) → (b ≡ true → holds at_sign (byte_at 0 cs) ≡ false) → text_points (b && true) (take n cs) ≡ text_points false (take n cs)
         by false h = refl
-        by true h = half-off true (take n cs) (front-take n cs (h refl))
+        by true h = after_at_sign-off true (take n cs) (front-take n cs (h refl))
 
     one-keeps : (at : Point) (start : ℕ) (c : Cell) (cs : List Cell) → start ≤ at.column → IsTextAt width count at (c ∷ cs) → unit_at r (c ∷ cs) ≡ unit.One
         → ((p : Point) (s : ℕ) → s ≤ p.column → IsTextAt width count p cs → CutKeeps p s cs) → CutKeeps at start (c ∷ cs)
     one-keeps at start c cs h is e next =
         let byte = goes-byte r stops c.byte (byte_at 0 cs) unit.One e (λ k. cc) in
-        let text = subst (λ p. IsTextAt width count p cs) (behind-byte c byte) is.1 in
+        let text = subst (λ p. IsTextAt width count p cs) (after-byte c byte) is.1 in
         let n : ℕ = count_before r 0 cs in
         let kept = next (point_at c.line (c.column + 1)) start (omega (arith, h, is.0.column)) text in
         let tokens : cut_tokens ends r 0 start (c ∷ cs) ≡ fault_if (holds at_sign c.byte) fault.StringAt c.line ++ cut_tokens ends r 0 start cs = rw e refl in
         let counts : count_before r 0 (c ∷ cs) ≡ 1 + n = rw e refl in
         rw (tokens, counts, one-points c cs n byte (leaves c.byte (byte_at 0 cs) e), ← is.0.line, ← is.0.column)
-        (by (holds at_sign c.byte) ∙ kept ∙ behind-range c.line start c.column (kept_of n cs) (omega (arith, h, is.0.column)))
+        (by (holds at_sign c.byte) ∙ kept ∙ after-range c.line start c.column (kept_of n cs) (omega (arith, h, is.0.column)))
       where
         by : (b : Bool) → token_points (fault_if b fault.StringAt c.line ++ cut_tokens ends r 0 start cs) ≡ token_points (cut_tokens ends r 0 start cs)
         by true = refl
@@ -161,7 +162,7 @@ module _ (width : ℕ → ℕ) (count : ℕ) where
 
     -- two cells that belong together, of which the first is a byte: the second is kept if it is a byte and the first is no @
     abbrev second_points : Bool → Cell → List (ℕ × ℕ)
-    second_points sign d = points_by (text_fate (sign && true) d) (d ∷ [])
+    second_points sign d = points_by (cell_kind (sign && true) d) (d ∷ [])
 
     two-points : (c d : Cell) (cs : List Cell) (n : ℕ) → IsByte c.byte → holds at_sign c.byte ≡ holds at_sign d.byte
         → kept_of (1 + (1 + n)) (c ∷ d ∷ cs) ≡ (c.line, c.column) ∷ second_points (holds at_sign c.byte) d ++ kept_of n cs
@@ -183,7 +184,7 @@ module _ (width : ℕ → ℕ) (count : ℕ) where
         → ((p : Point) (s : ℕ) → s ≤ p.column → IsTextAt width count p cs → CutKeeps p s cs) → CutKeeps at start (c ∷ d ∷ cs)
     two-keeps at start c d cs h is e next =
         let byte = goes-byte r stops c.byte d.byte unit.Two e (λ k. cc) in
-        let after : IsTextAt width count (point_at c.line (c.column + 1)) (d ∷ cs) = subst (λ p. IsTextAt width count p (d ∷ cs)) (behind-byte c byte) is.1 in
+        let after : IsTextAt width count (point_at c.line (c.column + 1)) (d ∷ cs) = subst (λ p. IsTextAt width count p (d ∷ cs)) (after-byte c byte) is.1 in
         let n : ℕ = count_before r 0 cs in
         let tokens : cut_tokens ends r 0 start (c ∷ d ∷ cs) ≡ unit_tokens r unit.Two start c d.byte ++ cut_tokens ends r 0 (next_start unit.Two start c d.byte) cs = rw e refl in
         let counts : count_before r 0 (c ∷ d ∷ cs) ≡ 1 + (1 + n) = rw e refl in
@@ -193,7 +194,7 @@ module _ (width : ℕ → ℕ) (count : ℕ) where
         low : start ≤ c.column
         low = omega (arith, h, is.0.column)
 
-        -- the second cell is a byte, and an @ where the first is; or it is a line end behind a backslash
+        -- the second cell is a byte, and an @ where the first is; or it is a line end after a backslash
         second : (b x : Option ℕ) → unit_of r b x ≡ unit.Two → (IsByte x × (holds at_sign b ≡ holds at_sign x)) ⊎ ((holds at_sign b ≡ false) × (holds backslash b ≡ true))
         second b (Some x) e = inl (tt, pairs b (Some x) e)
         second b None e = inr (no-at_sign b (takes b e), takes b e)
@@ -211,11 +212,11 @@ module _ (width : ℕ → ℕ) (count : ℕ) where
             let rest : List (ℕ × ℕ) = kept_of (count_before r 0 cs) cs in
             let there = kept-byte false d (rw e tt) refl in
             kept
-            ∙ behind-range d.line start d.column rest (omega (arith, low, cell.column))
-            ∙ rw (there, cell.line, cell.column) (behind-range c.line start c.column ((c.line, c.column + 1) ∷ rest) low)
+            ∙ after-range d.line start d.column rest (omega (arith, low, cell.column))
+            ∙ rw (there, cell.line, cell.column) (after-range c.line start c.column ((c.line, c.column + 1) ∷ rest) low)
 
         by : (x : Option ℕ) → d.byte ≡ x → (sign back : Bool) → (IsByte x × (sign ≡ holds at_sign x)) ⊎ ((sign ≡ false) × (back ≡ true))
-            → IsCellAt width count (point_at c.line (c.column + 1)) d → IsTextAt width count (behind_by x d) cs → Goal sign back x
+            → IsCellAt width count (point_at c.line (c.column + 1)) d → IsTextAt width count (after_by x d) cs → Goal sign back x
         by None e sign back (inl k) cell text = absurd k.0
         by None e true back (inr k) cell text = absurd (let f = k.0 in cc)
         by None e false false (inr k) cell text = absurd (let f = k.1 in cc)
@@ -226,7 +227,7 @@ module _ (width : ℕ → ℕ) (count : ℕ) where
             rw (append_assoc, none)
             (cut-points r c.line start (c.column + 1) (token.QuoteBreak ∷ cut_tokens ends r 0 0 cs)
             ∙ ap (λ ps. columns_to c.line start (c.column + 1) ++ ps) kept
-            ∙ behind-range c.line start c.column rest low)
+            ∙ after-range c.line start c.column rest low)
         by (Some b) e true back (inr k) cell text = absurd (let f = k.0 in cc)
         by (Some b) e true back (inl k) cell text =
             let kept = next (point_at d.line (d.column + 1)) (c.column + 2) (omega (arith, cell.column)) text in
@@ -238,7 +239,7 @@ module _ (width : ℕ → ℕ) (count : ℕ) where
             (cut-points r c.line start (c.column + 1) (cut_tokens ends r 0 (c.column + 2) cs)
             ∙ ap (λ ps. columns_to c.line start (c.column + 1) ++ ps)
             (kept ∙ ap (λ ps. ps ++ rest) (ap (columns_to d.line (c.column + 2)) column ∙ columns-nothing d.line (c.column + 2)))
-            ∙ behind-range c.line start c.column rest low)
+            ∙ after-range c.line start c.column rest low)
         by (Some b) e false false k cell text = simple b e cell text
         by (Some b) e false true k cell text = simple b e cell text
 
@@ -250,7 +251,7 @@ module _ (width : ℕ → ℕ) (count : ℕ) where
         by unit.Stop e next = rw e (stop at start (c ∷ []) h is)
         by unit.One e next = one-keeps at start c [] h is e next
         by unit.Two e next =
-            let goes = behind-byte c (goes-byte r stops c.byte None unit.Two e (λ k. cc)) in
+            let goes = after-byte c (goes-byte r stops c.byte None unit.Two e (λ k. cc)) in
             let end : IsTextAt width count (point_at c.line (c.column + 1)) [] = subst (λ p. IsTextAt width count p []) goes is.1 in
             absurd (omega (arith, end))
     cut-keeps at start (c ∷ d ∷ cs) h is = by (unit_at r (c ∷ d ∷ cs)) refl (λ p s k t. cut-keeps p s (d ∷ cs) k t) (λ p s k t. cut-keeps p s cs k t)
@@ -312,16 +313,16 @@ module _ (width : ℕ → ℕ) (count : ℕ) where
           ap (λ ps. ps ++ []) (kept-byte h c (byte refl) (none h (holds at_sign c.byte) (sign refl)))
           ∙ sym (ap (λ ps. ps ++ []) (byte-point c (byte refl)))
 
-  quoted-keeps : (r : Region) → ((n : Option ℕ) → unit_of r None n ≡ unit.Stop) → PairsSigns r → LeavesNoSign r
+  quoted-keeps : (r : Region) → ((n : Option ℕ) → unit_of r None n ≡ unit.Stop) → PairsAtSigns r → LeavesNoAtSign r
       → ((b : Option ℕ) → unit_of r b None ≡ unit.Two → holds backslash b ≡ true) → (close : ℕ) → ((b : Option ℕ) → holds close b ≡ true → holds at_sign b ≡ false)
-      → (s : ScanState) (at : Point) (c : Cell) (cs : List Cell) → IsTextAt width count at (c ∷ cs) → IsByte c.byte → holds at_sign c.byte ≡ false
+      → (s : LexerState) (at : Point) (c : Cell) (cs : List Cell) → IsTextAt width count at (c ∷ cs) → IsByte c.byte → holds at_sign c.byte ≡ false
       → token_points (quoted_text r close s (c ∷ cs)).tokens ≡ text_points false (take (1 + (quoted_text r close s (c ∷ cs)).more) (c ∷ cs))
   quoted-keeps r stops pairs leaves takes close other s at c cs is byte sign =
       let front : Point = point_at c.line (c.column + 1) in
-      let text = subst (λ p. IsTextAt width count p cs) (behind-byte c byte) is.1 in
+      let text = subst (λ p. IsTextAt width count p cs) (after-byte c byte) is.1 in
       let n : ℕ = count_before r 0 cs in
       let last : ℕ = one_if (holds close (byte_at 0 (drop n cs))) in
-      let kept = cut-keeps r stops pairs leaves takes (quote_end r close s.last) (close-points close) (quote-stop r close s.last) front c.column cs (omega arith) text in
+      let kept = cut-keeps r stops pairs leaves takes (quote_end r close s.last_line) (close-points close) (quote-stop r close s.last_line) front c.column cs (omega arith) text in
       let e : 1 + (n + last) ≡ suc (n + last) = omega arith in
       let one : columns_to c.line c.column (c.column + 1) ≡ (c.line, c.column) ∷ [] =
       columns-next c.line c.column c.column (omega arith) ∙ ap (λ ps. ps ++ (c.line, c.column) ∷ []) (columns-nothing c.line c.column) in
@@ -332,7 +333,7 @@ module _ (width : ℕ → ℕ) (count : ℕ) where
       ∙ ap (λ ps. ps ++ (text_points false (take n cs) ++ close-points close (drop n cs))) one
       ∙ ap (λ ps. (c.line, c.column) ∷ ps) (sym all)
       ∙ sym (ap (λ k. text_points false (take k (c ∷ cs))) e
-      ∙ ap (λ b. points_by (text_fate false c) (c ∷ []) ++ text_points (b && true) (take (n + last) cs)) sign
+      ∙ ap (λ b. points_by (cell_kind false c) (c ∷ []) ++ text_points (b && true) (take (n + last) cs)) sign
       ∙ ap (λ ps. ps ++ text_points false (take (n + last) cs)) (kept-byte false c byte refl))
 
   -- verbatim texts
@@ -349,7 +350,7 @@ module _ (width : ℕ → ℕ) (count : ℕ) where
       by true = refl
       by false = refl
 
-  empty-points : (text : List Cell) → token_points (token.Text text_kind.Verbatim (span_at 0 text) ∷ empty_end text) ≡ []
+  empty-points : (text : List Cell) → token_points (token.Span span_kind.Verbatim (span_at 0 text) ∷ empty_end text) ≡ []
   empty-points [] = refl
   empty-points (c ∷ cs) =
       let none : c.column + 0 - c.column ≡ 0 = omega arith in rw none (by (is_line_end c.byte))
@@ -384,17 +385,17 @@ module _ (width : ℕ → ℕ) (count : ℕ) where
         | inr unlike ↦ let none : false ≡ true = sym unlike.0 ∙ h in cc
       ]
 
-  pub double_quoted-keeps : (s : ScanState) (at : Point) (c : Cell) (cs : List Cell) → IsTextAt width count at (c ∷ cs) → IsByte c.byte → holds at_sign c.byte ≡ false
+  pub double_quoted-keeps : (s : LexerState) (at : Point) (c : Cell) (cs : List Cell) → IsTextAt width count at (c ∷ cs) → IsByte c.byte → holds at_sign c.byte ≡ false
       → token_points (quoted_text region.DoubleQuote double_quote s (c ∷ cs)).tokens ≡ text_points false (take (1 + (quoted_text region.DoubleQuote double_quote s (c ∷ cs)).more) (c ∷ cs))
   double_quoted-keeps =
       quoted-keeps region.DoubleQuote (λ n. refl) (quoted-pairs double_quote) (quoted-leaves double_quote) (quoted-takes double_quote) double_quote (close-sign double_quote refl)
 
-  pub apostrophe-keeps : (s : ScanState) (at : Point) (c : Cell) (cs : List Cell) → IsTextAt width count at (c ∷ cs) → IsByte c.byte → holds at_sign c.byte ≡ false
+  pub apostrophe-keeps : (s : LexerState) (at : Point) (c : Cell) (cs : List Cell) → IsTextAt width count at (c ∷ cs) → IsByte c.byte → holds at_sign c.byte ≡ false
       → token_points (quoted_text region.Apostrophe apostrophe s (c ∷ cs)).tokens ≡ text_points false (take (1 + (quoted_text region.Apostrophe apostrophe s (c ∷ cs)).more) (c ∷ cs))
   apostrophe-keeps =
       quoted-keeps region.Apostrophe (λ n. refl) (quoted-pairs apostrophe) (quoted-leaves apostrophe) (quoted-takes apostrophe) apostrophe (close-sign apostrophe refl)
 
-  pub include_name-keeps : (s : ScanState) (at : Point) (c : Cell) (cs : List Cell) → IsTextAt width count at (c ∷ cs) → IsByte c.byte → holds at_sign c.byte ≡ false
-      → token_points (quoted_text region.IncludeName greater_sign s (c ∷ cs)).tokens ≡ text_points false (take (1 + (quoted_text region.IncludeName greater_sign s (c ∷ cs)).more) (c ∷ cs))
-  include_name-keeps =
-      quoted-keeps region.IncludeName (λ n. refl) include-pairs include-leaves include-takes greater_sign (close-sign greater_sign refl)
+  pub header_name-keeps : (s : LexerState) (at : Point) (c : Cell) (cs : List Cell) → IsTextAt width count at (c ∷ cs) → IsByte c.byte → holds at_sign c.byte ≡ false
+      → token_points (quoted_text region.HeaderName greater_sign s (c ∷ cs)).tokens ≡ text_points false (take (1 + (quoted_text region.HeaderName greater_sign s (c ∷ cs)).more) (c ∷ cs))
+  header_name-keeps =
+      quoted-keeps region.HeaderName (λ n. refl) include-pairs include-leaves include-takes greater_sign (close-sign greater_sign refl)

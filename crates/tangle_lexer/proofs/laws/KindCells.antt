@@ -1,13 +1,13 @@
 -- What begins at a position says which of its first two cells are bytes.
 use Rattle.std.proofs.Common.{◌≡◌, ℕ, Bool, true, false, ◌&&◌, ◌||◌, Option, Some, None, refl, if◌then◌else◌, ◌==◌}
-use Rattle.tangle_lines.specs.Bytes.{is_white}
+use Rattle.tangle_lines.specs.Bytes.{at_sign, double_quote, is_white}
 use Rattle.tangle_lexer.specs.declared.modes.IncludeState.{IncludeState}
 use Rattle.tangle_lexer.specs.declared.modes.IncludeState.TheVariants as include
-use Rattle.tangle_lexer.specs.declared.token_kinds.ControlCode.{ControlCode}
-use Rattle.tangle_lexer.specs.declared.token_kinds.ControlCode.TheVariants as code
-use Rattle.tangle_lexer.specs.declared.token_kinds.TokenKind.{TokenKind}
-use Rattle.tangle_lexer.specs.declared.token_kinds.TokenKind.TheVariants as token_kind
-use Rattle.tangle_text.specs.Bytes.{at_sign, asterisk, slash, less_sign, left_parenthesis, equals_sign, double_quote, apostrophe, holds, is_word_byte, lower}
+use Rattle.tangle_lexer.specs.declared.lexeme_kinds.ControlCode.{ControlCode}
+use Rattle.tangle_lexer.specs.declared.lexeme_kinds.ControlCode.TheVariants as code
+use Rattle.tangle_lexer.specs.declared.lexeme_kinds.LexemeKind.{LexemeKind}
+use Rattle.tangle_lexer.specs.declared.lexeme_kinds.LexemeKind.TheVariants as lexeme_kind
+use Rattle.tangle_text.specs.Bytes.{asterisk, slash, less_sign, left_parenthesis, equals_sign, apostrophe, holds, is_word_byte, lower}
 use Rattle.tangle_lexer.specs.Steps.{code_of, code_at, less_kind, byte_kind, kind_by}
 use Rattle.tangle_lexer.proofs.laws.Points.{IsByte}
 use Rattle.tangle_lexer.proofs.laws.RegionOrder.{holds-byte, both}
@@ -22,14 +22,14 @@ CodeCells code.SectionStart b next = Unit {0}
 CodeCells _ b next = IsByte b × IsByte next
 
 -- which of the cells where this begins are bytes
-abbrev pub Cells : TokenKind → Option ℕ → Option ℕ → Type 0
-Cells (token_kind.Control code) b next = CodeCells code b next
-Cells token_kind.LineEnd b next = IsLineEnd b
-Cells token_kind.BlockComment b next = IsByte b × IsByte next
-Cells token_kind.LineComment b next = IsByte b × IsByte next
+abbrev pub Cells : LexemeKind → Option ℕ → Option ℕ → Type 0
+Cells (lexeme_kind.Control code) b next = CodeCells code b next
+Cells lexeme_kind.LineEnd b next = IsLineEnd b
+Cells lexeme_kind.BlockComment b next = IsByte b × IsByte next
+Cells lexeme_kind.LineComment b next = IsByte b × IsByte next
 Cells _ b next = IsByte b
 
-if-holds : {K : Type 0} (P : K → Type 0) (t : Bool) (x y : K) → (t ≡ true → P x) → P y → P (if t then x else y)
+pub if-holds : {K : Type 0} (P : K → Type 0) (t : Bool) (x y : K) → (t ≡ true → P x) → P y → P (if t then x else y)
 if-holds P true x y h k = h refl
 if-holds P false x y h k = k
 
@@ -54,20 +54,20 @@ code-cells b (Some n) = codes (lower n)
 
 less-cells : (inc : IncludeState) (b : ℕ) (next : Option ℕ) → Cells (less_kind inc) (Some b) next
 less-cells include.AtStart b next = tt
-less-cells include.AfterSign b next = tt
+less-cells include.AfterNumberSign b next = tt
 less-cells include.AfterInclude b next = tt
 less-cells include.Elsewhere b next = tt
 
 byte-cells : (inc : IncludeState) (b : ℕ) (next : Option ℕ) → Cells (byte_kind inc b next) (Some b) next
 byte-cells inc b next =
-    if-holds (λ k. Cells k (Some b) next) (b == slash && holds asterisk next) token_kind.BlockComment _ (λ e. (tt, holds-byte asterisk next (both (b == slash) (holds asterisk next) e).1))
-    (if-holds (λ k. Cells k (Some b) next) (b == slash && holds slash next) token_kind.LineComment _ (λ e. (tt, holds-byte slash next (both (b == slash) (holds slash next) e).1))
-    (if-holds (λ k. Cells k (Some b) next) (b == double_quote) token_kind.DoubleQuote _ (λ e. tt)
-    (if-holds (λ k. Cells k (Some b) next) (b == apostrophe) token_kind.Apostrophe _ (λ e. tt)
+    if-holds (λ k. Cells k (Some b) next) (b == slash && holds asterisk next) lexeme_kind.BlockComment _ (λ e. (tt, holds-byte asterisk next (both (b == slash) (holds asterisk next) e).1))
+    (if-holds (λ k. Cells k (Some b) next) (b == slash && holds slash next) lexeme_kind.LineComment _ (λ e. (tt, holds-byte slash next (both (b == slash) (holds slash next) e).1))
+    (if-holds (λ k. Cells k (Some b) next) (b == double_quote) lexeme_kind.DoubleQuote _ (λ e. tt)
+    (if-holds (λ k. Cells k (Some b) next) (b == apostrophe) lexeme_kind.Apostrophe _ (λ e. tt)
     (if-holds (λ k. Cells k (Some b) next) (b == less_sign) (less_kind inc) _ (λ e. less-cells inc b next)
-    (if-holds (λ k. Cells k (Some b) next) (is_white b) token_kind.White _ (λ e. tt)
-    (if-holds (λ k. Cells k (Some b) next) (is_word_byte b) token_kind.Word token_kind.Other (λ e. tt) tt))))))
+    (if-holds (λ k. Cells k (Some b) next) (is_white b) lexeme_kind.White _ (λ e. tt)
+    (if-holds (λ k. Cells k (Some b) next) (is_word_byte b) lexeme_kind.Word lexeme_kind.Other (λ e. tt) tt))))))
 
 pub kind-cells : (inc : IncludeState) (b next : Option ℕ) → Cells (kind_by inc b next) b next
 kind-cells inc None next = tt
-kind-cells inc (Some b) next = if-holds (λ k. Cells k (Some b) next) (b == at_sign) (token_kind.Control (code_at next)) (byte_kind inc b next) (λ e. code-cells b next) (byte-cells inc b next)
+kind-cells inc (Some b) next = if-holds (λ k. Cells k (Some b) next) (b == at_sign) (lexeme_kind.Control (code_at next)) (byte_kind inc b next) (λ e. code-cells b next) (byte-cells inc b next)

@@ -5,13 +5,14 @@ use Rattle.tangle_faults.specs.declared.faults.FaultKind.TheVariants as fault
 use Rattle.tangle_lexer.specs.declared.tokens.Token.{Token}
 use Rattle.tangle_lexer.specs.declared.modes.Mode.{Mode}
 use Rattle.tangle_lexer.specs.declared.modes.Mode.TheVariants as mode
-use Rattle.tangle_lexer.specs.declared.modes.ScanState.{ScanState}
-use Rattle.tangle_lexer.specs.declared.token_kinds.ControlCode.{ControlCode}
-use Rattle.tangle_lexer.specs.declared.token_kinds.ControlCode.TheVariants as code
-use Rattle.tangle_lexer.specs.declared.token_kinds.TokenKind.{TokenKind}
-use Rattle.tangle_lexer.specs.declared.token_kinds.TokenKind.TheVariants as token_kind
+use Rattle.tangle_lexer.specs.declared.modes.LexerState.{LexerState}
+use Rattle.tangle_lexer.specs.declared.lexeme_kinds.ControlCode.{ControlCode}
+use Rattle.tangle_lexer.specs.declared.lexeme_kinds.ControlCode.TheVariants as code
+use Rattle.tangle_lexer.specs.declared.lexeme_kinds.LexemeKind.{LexemeKind}
+use Rattle.tangle_lexer.specs.declared.lexeme_kinds.LexemeKind.TheVariants as lexeme_kind
 use Rattle.tangle_text.specs.declared.regions.Region.TheVariants as region
-use Rattle.tangle_text.specs.Bytes.{at_sign, double_quote, apostrophe, greater_sign, holds}
+use Rattle.tangle_lines.specs.Bytes.{at_sign, double_quote}
+use Rattle.tangle_text.specs.Bytes.{apostrophe, greater_sign, holds}
 use Rattle.tangle_text.specs.Text.{Cell, byte_at}
 use Rattle.tangle_text.specs.Regions.{count_before}
 use Rattle.tangle_lexer.specs.Lexemes.{Lexeme, lexeme_of, in_mode}
@@ -19,95 +20,91 @@ use Rattle.tangle_lexer.specs.Comments.{block_comment, line_comment, control_tex
 use Rattle.tangle_lexer.specs.Quoted.{quoted_text, verbatim_text}
 use Rattle.tangle_lexer.specs.declared.constants.AsciiConstant.{AsciiConstant}
 use Rattle.tangle_lexer.specs.Constants.{constant_at, constant_lexeme, ascii_constant}
-use Rattle.tangle_lexer.specs.Names.{use_of_name, head_count, head_or_mention, name_in_documentation}
-use Rattle.tangle_lexer.specs.Steps.{code_at, kind_of, word, white_space, misplaced_code, section_start, prose, limbo_lexeme, documentation_code, documentation_lexeme, c_code, c_lexeme, macro_code, macro_lexeme, lexeme_in, lexeme, lexemes}
-use Rattle.tangle_lexer.proofs.laws.Points.{Point, point_at, PrecedesOnLine, behind_by, behind, walked, HoldsBytes, IsTextAt, precedes-walked}
+use Rattle.tangle_lexer.specs.Names.{use_of_name, definition_count, definition_or_mention, name_in_documentation}
+use Rattle.tangle_lexer.specs.Simple.{is_c_text}
+use Rattle.tangle_lexer.specs.Steps.{code_at, kind_at, word, white_space, code_fault, section_start, prose, limbo_lexeme, documentation_code, documentation_lexeme, c_code, c_lexeme, macro_code, macro_lexeme, lexeme_in, lexeme, lexemes}
+use Rattle.tangle_lexer.proofs.lemmas.StepLemmas.{lexemes-drop}
+use Rattle.tangle_lexer.proofs.laws.Points.{Point, point_at, PrecedesOnLine, after_by, after_cell, after_cells, HoldsBytes, IsTextAt, precedes-after_cells}
 use Rattle.tangle_lexer.proofs.laws.TokenOrder.{AreInOrder, jumped, in_order-append}
-use Rattle.tangle_lexer.proofs.laws.RegionOrder.{two-bytes, walked-more, bytes-precede}
-use Rattle.tangle_lexer.proofs.laws.WhiteOrder.{white-in_order, block_comment-in_order, control_text-in_order, line_comment-in_order, misplaced_code-in_order, white_space-in_order, span-in_order, word-in_order}
-use Rattle.tangle_lexer.proofs.laws.QuotedOrder.{double_quoted-in_order, apostrophe-in_order, include_name-in_order, verbatim_text-in_order}
+use Rattle.tangle_lexer.proofs.laws.RegionOrder.{two-bytes, after_cells-more, bytes-precede}
+use Rattle.tangle_lexer.proofs.laws.WhiteOrder.{white-in_order, block_comment-in_order, control_text-in_order, line_comment-in_order, code_fault-in_order, white_space-in_order, span-in_order, word-in_order}
+use Rattle.tangle_lexer.proofs.laws.QuotedOrder.{double_quoted-in_order, apostrophe-in_order, header_name-in_order, verbatim_text-in_order}
 use Rattle.tangle_lexer.proofs.laws.ConstantOrder.{ascii_constant-in_order}
 use Rattle.tangle_lexer.proofs.laws.NameOrder.{LexemeIsInOrder, use_of_name-in_order, name-in_order, jumped-precedes}
 use Rattle.tangle_lexer.proofs.laws.KindCells.{IsLineEnd, CodeCells, Cells, code-cells, kind-cells}
 
--- C text and macros are read inside
-abbrev pub inside : Mode → Bool
-inside mode.CPart = true
-inside mode.Macro = true
-inside _ = false
-
-line-goes : (c : Cell) (b : Option ℕ) → IsLineEnd b → PrecedesOnLine (point_at (c.line + 1) 0) (behind_by b c)
+line-goes : (c : Cell) (b : Option ℕ) → IsLineEnd b → PrecedesOnLine (point_at (c.line + 1) 0) (after_by b c)
 line-goes c None h = (refl, omega arith)
 line-goes c (Some b) h = absurd h
 
 module _ (width : ℕ → ℕ) (count : ℕ) where
-  -- a lexeme's tokens lie between its front and what is behind it, and the last line stays known
-  pub record Law (s : ScanState) (at : Point) (text : List Cell) (here : Lexeme) : Type 0 where
-    pub last : here.after.last ≡ s.last
-    pub ordered : LexemeIsInOrder width count (inside s.mode) at text here (inside here.after.mode)
+  -- a lexeme's tokens lie between its front and what is after it, and the last line stays known
+  pub record Law (s : LexerState) (at : Point) (text : List Cell) (here : Lexeme) : Type 0 where
+    pub last : here.after.last_line ≡ s.last_line
+    pub ordered : LexemeIsInOrder width count (is_c_text s.mode) at text here (is_c_text here.after.mode)
 
-  -- inside, and so behind it
-  stays-inside : (s : ScanState) (at : Point) (text : List Cell) (here : Lexeme) → inside s.mode ≡ true → here.after.mode ≡ s.mode → here.after.last ≡ s.last
+  -- inside, and so after it
+  stays-inside : (s : LexerState) (at : Point) (text : List Cell) (here : Lexeme) → is_c_text s.mode ≡ true → here.after.mode ≡ s.mode → here.after.last_line ≡ s.last_line
       → LexemeIsInOrder width count true at text here true → Law s at text here
   stays-inside s at text here within m last ordered =
-      let flag : true ≡ inside here.after.mode = sym (ap inside m ∙ within) in
+      let flag : true ≡ is_c_text here.after.mode = sym (ap is_c_text m ∙ within) in
       record { last = last; ordered = rw (within, ← flag) ordered }
 
-  goes-inside : (s : ScanState) (at : Point) (text : List Cell) (here : Lexeme) → inside s.mode ≡ true → here.after.mode ≡ s.mode → here.after.last ≡ s.last
-      → AreInOrder width count true at here.tokens true (walked at (1 + here.more) text) → Law s at text here
+  goes-inside : (s : LexerState) (at : Point) (text : List Cell) (here : Lexeme) → is_c_text s.mode ≡ true → here.after.mode ≡ s.mode → here.after.last_line ≡ s.last_line
+      → AreInOrder width count true at here.tokens true (after_cells at (1 + here.more) text) → Law s at text here
   goes-inside s at text here within m last ordered = stays-inside s at text here within m last (inl ordered)
 
   -- to a section start, from anywhere
-  section-law : (s : ScanState) (at : Point) (text : List Cell) → IsTextAt width count at text → Law s at text (section_start s)
-  section-law s at text is = record { last = refl; ordered = inl (precedes-walked width count at 1 text is) }
+  section-law : (s : LexerState) (at : Point) (text : List Cell) → IsTextAt width count at text → Law s at text (section_start s)
+  section-law s at text is = record { last = refl; ordered = inl (precedes-after_cells width count at 1 text is) }
 
   -- cells that are passed over outside
-  skip-law : (s : ScanState) (at : Point) (text : List Cell) (n : ℕ) → inside s.mode ≡ false → IsTextAt width count at text → Law s at text (lexeme_of [] n s)
-  skip-law s at text n out is = record { last = refl; ordered = inl (rw out (precedes-walked width count at (1 + n) text is)) }
+  skip-law : (s : LexerState) (at : Point) (text : List Cell) (n : ℕ) → is_c_text s.mode ≡ false → IsTextAt width count at text → Law s at text (lexeme_of [] n s)
+  skip-law s at text n out is = record { last = refl; ordered = inl (rw out (precedes-after_cells width count at (1 + n) text is)) }
 
   -- a head of two bytes
   head-goes : (at : Point) (c : Cell) (cs : List Cell) → IsTextAt width count at (c ∷ cs) → HoldsBytes 2 (c ∷ cs)
-      → (at.line ≤ c.line) × PrecedesOnLine (jumped at c.line) (walked at 2 (c ∷ cs))
+      → (at.line ≤ c.line) × PrecedesOnLine (jumped at c.line) (after_cells at 2 (c ∷ cs))
   head-goes at c cs is h =
       let goes = bytes-precede width count at 2 (c ∷ cs) is h in
       let j = jumped-precedes at at (omega arith, λ e. omega arith) in
-      subst (λ l. (at.line ≤ l) × PrecedesOnLine (jumped at l) (walked at 2 (c ∷ cs))) (sym is.0.line) (omega arith, (goes.0, omega (arith, j.1, goes.1)))
+      subst (λ l. (at.line ≤ l) × PrecedesOnLine (jumped at l) (after_cells at 2 (c ∷ cs))) (sym is.0.line) (omega arith, (goes.0, omega (arith, j.1, goes.1)))
 
-  name-law : (from : Bool) (s : ScanState) (at : Point) (c : Cell) (cs : List Cell) → inside s.mode ≡ false → IsTextAt width count at (c ∷ cs)
-      → AreInOrder width count from at (name_in_documentation s (c ∷ cs)).tokens (inside (name_in_documentation s (c ∷ cs)).after.mode) (walked at (1 + (name_in_documentation s (c ∷ cs)).more) (c ∷ cs))
-  name-law from s at c cs out is = by (head_count (c ∷ cs)) (name-in_order width count from s at c cs is (inside s.mode) out)
+  name-law : (from : Bool) (s : LexerState) (at : Point) (c : Cell) (cs : List Cell) → is_c_text s.mode ≡ false → IsTextAt width count at (c ∷ cs)
+      → AreInOrder width count from at (name_in_documentation s (c ∷ cs)).tokens (is_c_text (name_in_documentation s (c ∷ cs)).after.mode) (after_cells at (1 + (name_in_documentation s (c ∷ cs)).more) (c ∷ cs))
+  name-law from s at c cs out is = by (definition_count (c ∷ cs)) (name-in_order width count from s at c cs is (is_c_text s.mode) out)
     where
-      by : (o : Option ℕ) → AreInOrder width count from at (head_or_mention o s (c ∷ cs)).tokens (is_some o || inside s.mode) (walked at (1 + (head_or_mention o s (c ∷ cs)).more) (c ∷ cs))
-          → AreInOrder width count from at (head_or_mention o s (c ∷ cs)).tokens (inside (head_or_mention o s (c ∷ cs)).after.mode) (walked at (1 + (head_or_mention o s (c ∷ cs)).more) (c ∷ cs))
+      by : (o : Option ℕ) → AreInOrder width count from at (definition_or_mention o s (c ∷ cs)).tokens (is_some o || is_c_text s.mode) (after_cells at (1 + (definition_or_mention o s (c ∷ cs)).more) (c ∷ cs))
+          → AreInOrder width count from at (definition_or_mention o s (c ∷ cs)).tokens (is_c_text (definition_or_mention o s (c ∷ cs)).after.mode) (after_cells at (1 + (definition_or_mention o s (c ∷ cs)).more) (c ∷ cs))
       by None ordered = ordered
       by (Some k) ordered = ordered
 
-  name-last : (s : ScanState) (text : List Cell) → (name_in_documentation s text).after.last ≡ s.last
-  name-last s text = by (head_count text)
+  name-last : (s : LexerState) (text : List Cell) → (name_in_documentation s text).after.last_line ≡ s.last_line
+  name-last s text = by (definition_count text)
     where
-      by : (o : Option ℕ) → (head_or_mention o s text).after.last ≡ s.last
+      by : (o : Option ℕ) → (definition_or_mention o s text).after.last_line ≡ s.last_line
       by None = refl
       by (Some k) = refl
 
-  constant-after : (s : ScanState) (text : List Cell) → ((ascii_constant s text).after.mode ≡ s.mode) × ((ascii_constant s text).after.last ≡ s.last)
+  constant-after : (s : LexerState) (text : List Cell) → ((ascii_constant s text).after.mode ≡ s.mode) × ((ascii_constant s text).after.last_line ≡ s.last_line)
   constant-after s text = by (constant_at (drop 2 text))
     where
-      by : (k : Option AsciiConstant) → ((constant_lexeme k s text).after.mode ≡ s.mode) × ((constant_lexeme k s text).after.last ≡ s.last)
+      by : (k : Option AsciiConstant) → ((constant_lexeme k s text).after.mode ≡ s.mode) × ((constant_lexeme k s text).after.last_line ≡ s.last_line)
       by None = (refl, refl)
       by (Some k) = (refl, refl)
 
   -- C text and macros
-  c_code-law : (kind : ControlCode) (s : ScanState) (at : Point) (c : Cell) (cs : List Cell) → inside s.mode ≡ true → s.last ≡ count - 1 → IsTextAt width count at (c ∷ cs)
+  c_code-law : (kind : ControlCode) (s : LexerState) (at : Point) (c : Cell) (cs : List Cell) → is_c_text s.mode ≡ true → s.last_line ≡ count - 1 → IsTextAt width count at (c ∷ cs)
       → CodeCells kind c.byte (byte_at 0 cs) → Law s at (c ∷ cs) (c_code kind s (c ∷ cs))
   c_code-law code.SectionStart s at c cs within last is h = section-law s at (c ∷ cs) is
   c_code-law code.DoubleAt s at c cs within last is h =
       goes-inside s at (c ∷ cs) (c_code code.DoubleAt s (c ∷ cs)) within refl refl (span-in_order width count at 1 2 c cs is (h.0, tt) (two-bytes (c ∷ cs) h.0 h.1) (omega arith))
   c_code-law code.Macro s at c cs within last is h =
-      goes-inside s at (c ∷ cs) (misplaced_code s (c ∷ cs)) within refl refl (misplaced_code-in_order width count s at (c ∷ cs) is (two-bytes (c ∷ cs) h.0 h.1))
+      goes-inside s at (c ∷ cs) (code_fault fault.CodeInC s (c ∷ cs)) within refl refl (code_fault-in_order width count fault.CodeInC s at (c ∷ cs) is (two-bytes (c ∷ cs) h.0 h.1))
   c_code-law code.Format s at c cs within last is h =
-      goes-inside s at (c ∷ cs) (misplaced_code s (c ∷ cs)) within refl refl (misplaced_code-in_order width count s at (c ∷ cs) is (two-bytes (c ∷ cs) h.0 h.1))
+      goes-inside s at (c ∷ cs) (code_fault fault.CodeInC s (c ∷ cs)) within refl refl (code_fault-in_order width count fault.CodeInC s at (c ∷ cs) is (two-bytes (c ∷ cs) h.0 h.1))
   c_code-law code.UnnamedPart s at c cs within last is h =
-      goes-inside s at (c ∷ cs) (misplaced_code s (c ∷ cs)) within refl refl (misplaced_code-in_order width count s at (c ∷ cs) is (two-bytes (c ∷ cs) h.0 h.1))
+      goes-inside s at (c ∷ cs) (code_fault fault.CodeInC s (c ∷ cs)) within refl refl (code_fault-in_order width count fault.CodeInC s at (c ∷ cs) is (two-bytes (c ∷ cs) h.0 h.1))
   c_code-law code.Name s at c cs within last is h =
       stays-inside s at (c ∷ cs) (use_of_name s (c ∷ cs)) within refl refl (use_of_name-in_order width count s at c cs last is)
   c_code-law code.ControlText s at c cs within last is h =
@@ -124,56 +121,56 @@ module _ (width : ℕ → ℕ) (count : ℕ) where
   c_code-law code.Other s at c cs within last is h =
       goes-inside s at (c ∷ cs) (c_code code.Other s (c ∷ cs)) within refl refl (bytes-precede width count at 2 (c ∷ cs) is (two-bytes (c ∷ cs) h.0 h.1))
 
-  c-law : (kind : TokenKind) (s : ScanState) (at : Point) (c : Cell) (cs : List Cell) → inside s.mode ≡ true → s.last ≡ count - 1 → IsTextAt width count at (c ∷ cs)
+  c-law : (kind : LexemeKind) (s : LexerState) (at : Point) (c : Cell) (cs : List Cell) → is_c_text s.mode ≡ true → s.last_line ≡ count - 1 → IsTextAt width count at (c ∷ cs)
       → Cells kind c.byte (byte_at 0 cs) → Law s at (c ∷ cs) (c_lexeme kind s (c ∷ cs))
-  c-law (token_kind.Control kind) s at c cs within last is h = c_code-law kind s at c cs within last is h
-  c-law token_kind.BlockComment s at c cs within last is h =
+  c-law (lexeme_kind.Control kind) s at c cs within last is h = c_code-law kind s at c cs within last is h
+  c-law lexeme_kind.BlockComment s at c cs within last is h =
       goes-inside s at (c ∷ cs) (block_comment s (c ∷ cs)) within refl refl (block_comment-in_order width count s at (c ∷ cs) is (two-bytes (c ∷ cs) h.0 h.1))
-  c-law token_kind.LineComment s at c cs within last is h =
+  c-law lexeme_kind.LineComment s at c cs within last is h =
       goes-inside s at (c ∷ cs) (line_comment s (c ∷ cs)) within refl refl (line_comment-in_order width count s at (c ∷ cs) is (two-bytes (c ∷ cs) h.0 h.1))
-  c-law token_kind.DoubleQuote s at c cs within last is h =
+  c-law lexeme_kind.DoubleQuote s at c cs within last is h =
       goes-inside s at (c ∷ cs) (quoted_text region.DoubleQuote double_quote s (c ∷ cs)) within refl refl (double_quoted-in_order width count s at c cs is h)
-  c-law token_kind.Apostrophe s at c cs within last is h =
+  c-law lexeme_kind.Apostrophe s at c cs within last is h =
       goes-inside s at (c ∷ cs) (quoted_text region.Apostrophe apostrophe s (c ∷ cs)) within refl refl (apostrophe-in_order width count s at c cs is h)
-  c-law token_kind.IncludeName s at c cs within last is h =
-      goes-inside s at (c ∷ cs) (quoted_text region.IncludeName greater_sign s (c ∷ cs)) within refl refl (include_name-in_order width count s at c cs is h)
-  c-law token_kind.LineEnd s at c cs within last is h =
-      goes-inside s at (c ∷ cs) (c_lexeme token_kind.LineEnd s (c ∷ cs)) within refl refl (is.0.line, line-goes c c.byte h)
-  c-law token_kind.White s at c cs within last is h =
+  c-law lexeme_kind.HeaderName s at c cs within last is h =
+      goes-inside s at (c ∷ cs) (quoted_text region.HeaderName greater_sign s (c ∷ cs)) within refl refl (header_name-in_order width count s at c cs is h)
+  c-law lexeme_kind.LineEnd s at c cs within last is h =
+      goes-inside s at (c ∷ cs) (c_lexeme lexeme_kind.LineEnd s (c ∷ cs)) within refl refl (is.0.line, line-goes c c.byte h)
+  c-law lexeme_kind.White s at c cs within last is h =
       goes-inside s at (c ∷ cs) (white_space s (c ∷ cs)) within refl refl (white_space-in_order width count s at (c ∷ cs) is (h, tt))
-  c-law token_kind.Word s at c cs within last is h =
+  c-law lexeme_kind.Word s at c cs within last is h =
       goes-inside s at (c ∷ cs) (word s (c ∷ cs)) within refl refl (word-in_order width count s at c cs is h)
-  c-law token_kind.Other s at c cs within last is h =
-      goes-inside s at (c ∷ cs) (c_lexeme token_kind.Other s (c ∷ cs)) within refl refl (span-in_order width count at 1 1 c cs is (h, tt) (h, tt) (omega arith))
+  c-law lexeme_kind.Other s at c cs within last is h =
+      goes-inside s at (c ∷ cs) (c_lexeme lexeme_kind.Other s (c ∷ cs)) within refl refl (span-in_order width count at 1 1 c cs is (h, tt) (h, tt) (omega arith))
 
   -- the heads and names of documentation, also where a macro ends
-  code-law : (kind : ControlCode) (s : ScanState) (at : Point) (c : Cell) (cs : List Cell) → inside s.mode ≡ false → IsTextAt width count at (c ∷ cs)
+  code-law : (kind : ControlCode) (s : LexerState) (at : Point) (c : Cell) (cs : List Cell) → is_c_text s.mode ≡ false → IsTextAt width count at (c ∷ cs)
       → CodeCells kind c.byte (byte_at 0 cs) → Law s at (c ∷ cs) (documentation_code kind s (c ∷ cs))
   code-law code.SectionStart s at c cs out is h = section-law s at (c ∷ cs) is
   code-law code.Macro s at c cs out is h = record { last = refl; ordered = inl (head-goes at c cs is (two-bytes (c ∷ cs) h.0 h.1)) }
   code-law code.UnnamedPart s at c cs out is h = record { last = refl; ordered = inl (head-goes at c cs is (two-bytes (c ∷ cs) h.0 h.1)) }
-  code-law code.Name s at c cs out is h = record { last = name-last s (c ∷ cs); ordered = inl (name-law (inside s.mode) s at c cs out is) }
+  code-law code.Name s at c cs out is h = record { last = name-last s (c ∷ cs); ordered = inl (name-law (is_c_text s.mode) s at c cs out is) }
   code-law _ s at c cs out is h = skip-law s at (c ∷ cs) 1 out is
 
-  macro_code-law : (kind : ControlCode) (s : ScanState) (at : Point) (c : Cell) (cs : List Cell) → inside s.mode ≡ true → s.last ≡ count - 1 → IsTextAt width count at (c ∷ cs)
+  macro_code-law : (kind : ControlCode) (s : LexerState) (at : Point) (c : Cell) (cs : List Cell) → is_c_text s.mode ≡ true → s.last_line ≡ count - 1 → IsTextAt width count at (c ∷ cs)
       → CodeCells kind c.byte (byte_at 0 cs) → Law s at (c ∷ cs) (macro_code kind s (c ∷ cs))
   macro_code-law code.Macro s at c cs within last is h = record { last = refl; ordered = inl (head-goes at c cs is (two-bytes (c ∷ cs) h.0 h.1)) }
   macro_code-law code.UnnamedPart s at c cs within last is h = record { last = refl; ordered = inl (head-goes at c cs is (two-bytes (c ∷ cs) h.0 h.1)) }
   macro_code-law code.Name s at c cs within last is h =
-      record { last = name-last (in_mode mode.Documentation s) (c ∷ cs); ordered = inl (name-law (inside s.mode) (in_mode mode.Documentation s) at c cs refl is) }
+      record { last = name-last (in_mode mode.Documentation s) (c ∷ cs); ordered = inl (name-law (is_c_text s.mode) (in_mode mode.Documentation s) at c cs refl is) }
   macro_code-law code.Format s at c cs within last is h =
-      record { last = refl; ordered = inl (precedes-walked width count at 2 (c ∷ cs) is) }
+      record { last = refl; ordered = inl (precedes-after_cells width count at 2 (c ∷ cs) is) }
   macro_code-law code.AllMacros s at c cs within last is h =
       goes-inside s at (c ∷ cs) (macro_code code.AllMacros s (c ∷ cs)) within refl refl
       (white-in_order width count at 2 (c ∷ cs) true fault.MisplacedH c.line is (two-bytes (c ∷ cs) h.0 h.1))
   macro_code-law kind s at c cs within last is h = c_code-law kind s at c cs within last is h
 
-  macro-law : (kind : TokenKind) (s : ScanState) (at : Point) (c : Cell) (cs : List Cell) → inside s.mode ≡ true → s.last ≡ count - 1 → IsTextAt width count at (c ∷ cs)
+  macro-law : (kind : LexemeKind) (s : LexerState) (at : Point) (c : Cell) (cs : List Cell) → is_c_text s.mode ≡ true → s.last_line ≡ count - 1 → IsTextAt width count at (c ∷ cs)
       → Cells kind c.byte (byte_at 0 cs) → Law s at (c ∷ cs) (macro_lexeme kind s (c ∷ cs))
-  macro-law (token_kind.Control kind) s at c cs within last is h = macro_code-law kind s at c cs within last is h
+  macro-law (lexeme_kind.Control kind) s at c cs within last is h = macro_code-law kind s at c cs within last is h
   macro-law kind s at c cs within last is h = c-law kind s at c cs within last is h
 
-  documentation-law : (s : ScanState) (at : Point) (c : Cell) (cs : List Cell) → inside s.mode ≡ false → IsTextAt width count at (c ∷ cs)
+  documentation-law : (s : LexerState) (at : Point) (c : Cell) (cs : List Cell) → is_c_text s.mode ≡ false → IsTextAt width count at (c ∷ cs)
       → Law s at (c ∷ cs) (documentation_lexeme s (c ∷ cs))
   documentation-law s at c cs out is = by (holds at_sign c.byte) (coded c.byte)
     where
@@ -186,7 +183,7 @@ module _ (width : ℕ → ℕ) (count : ℕ) where
       by true h = code-law (code_at (byte_at 0 cs)) s at c cs out is (h refl)
       by false h = skip-law s at (c ∷ cs) (count_before region.Prose 0 cs) out is
 
-  limbo-law : (s : ScanState) (at : Point) (c : Cell) (cs : List Cell) → inside s.mode ≡ false → IsTextAt width count at (c ∷ cs) → Law s at (c ∷ cs) (limbo_lexeme s (c ∷ cs))
+  limbo-law : (s : LexerState) (at : Point) (c : Cell) (cs : List Cell) → is_c_text s.mode ≡ false → IsTextAt width count at (c ∷ cs) → Law s at (c ∷ cs) (limbo_lexeme s (c ∷ cs))
   limbo-law s at c cs out is = by (starts_section (c ∷ cs)) (holds at_sign c.byte)
     where
       by : (start sign : Bool) → Law s at (c ∷ cs) (cond start (section_start s) (cond sign (lexeme_of [] 1 s) (prose s (c ∷ cs))))
@@ -194,55 +191,50 @@ module _ (width : ℕ → ℕ) (count : ℕ) where
       by false true = skip-law s at (c ∷ cs) 1 out is
       by false false = skip-law s at (c ∷ cs) (count_before region.Prose 0 cs) out is
 
-  lexeme-law : (s : ScanState) (at : Point) (c : Cell) (cs : List Cell) → s.last ≡ count - 1 → IsTextAt width count at (c ∷ cs) → Law s at (c ∷ cs) (lexeme s (c ∷ cs))
+  lexeme-law : (s : LexerState) (at : Point) (c : Cell) (cs : List Cell) → s.last_line ≡ count - 1 → IsTextAt width count at (c ∷ cs) → Law s at (c ∷ cs) (lexeme s (c ∷ cs))
   unfolding lexeme
   lexeme-law s at c cs last is = by s.mode refl
     where
       by : (m : Mode) → s.mode ≡ m → Law s at (c ∷ cs) (lexeme_in m s (c ∷ cs))
-      by mode.Limbo e = limbo-law s at c cs (ap inside e) is
-      by mode.Documentation e = documentation-law s at c cs (ap inside e) is
-      by mode.CPart e = c-law (kind_of s.include (c ∷ cs)) s at c cs (ap inside e) last is (kind-cells s.include c.byte (byte_at 0 cs))
-      by mode.Macro e = macro-law (kind_of s.include (c ∷ cs)) s at c cs (ap inside e) last is (kind-cells s.include c.byte (byte_at 0 cs))
+      by mode.Limbo e = limbo-law s at c cs (ap is_c_text e) is
+      by mode.Documentation e = documentation-law s at c cs (ap is_c_text e) is
+      by mode.CPart e = c-law (kind_at s.include (c ∷ cs)) s at c cs (ap is_c_text e) last is (kind-cells s.include c.byte (byte_at 0 cs))
+      by mode.Macro e = macro-law (kind_at s.include (c ∷ cs)) s at c cs (ap is_c_text e) last is (kind-cells s.include c.byte (byte_at 0 cs))
 
   -- all lexemes
 
-  lexemes-drop : (k : ℕ) (s : ScanState) (text : List Cell) → lexemes k s text ≡ lexemes 0 s (drop k text)
-  lexemes-drop zero s text = refl
-  lexemes-drop (suc k) s [] = refl
-  lexemes-drop (suc k) s (c ∷ cs) = lexemes-drop k s cs
-
   -- tokens lie from a position on, up to some other
-  pub record AreSomewhere (from : Bool) (at : Point) (es : List Token) : Type 0 where
+  pub record AreSomewhere (from : Bool) (at : Point) (ts : List Token) : Type 0 where
     pub stays : Bool
     pub to : Point
-    pub ordered : AreInOrder width count from at es stays to
+    pub ordered : AreInOrder width count from at ts stays to
 
   in_order-nothing : (b : Bool) (at : Point) → AreInOrder width count b at [] b at
   in_order-nothing true at = (refl, omega arith)
   in_order-nothing false at = (omega arith, λ e. omega arith)
 
-  pub lexemes-in_order : (k : ℕ) (s : ScanState) (text : List Cell) (at : Point) → s.last ≡ count - 1 → IsTextAt width count at text
-      → AreSomewhere (inside s.mode) (walked at k text) (flat_map (λ l. l.tokens) (lexemes k s text))
-  lexemes-in_order k s [] at last is = record { stays = inside s.mode; to = walked at k []; ordered = in_order-nothing (inside s.mode) (walked at k []) }
-  lexemes-in_order (suc k) s (c ∷ cs) at last is = lexemes-in_order k s cs (behind c) last is.1
+  pub lexemes-in_order : (k : ℕ) (s : LexerState) (text : List Cell) (at : Point) → s.last_line ≡ count - 1 → IsTextAt width count at text
+      → AreSomewhere (is_c_text s.mode) (after_cells at k text) (flat_map (λ l. l.tokens) (lexemes k s text))
+  lexemes-in_order k s [] at last is = record { stays = is_c_text s.mode; to = after_cells at k []; ordered = in_order-nothing (is_c_text s.mode) (after_cells at k []) }
+  lexemes-in_order (suc k) s (c ∷ cs) at last is = lexemes-in_order k s cs (after_cell c) last is.1
   lexemes-in_order zero s (c ∷ cs) at last is =
       let here : Lexeme = lexeme s (c ∷ cs) in
       let law = lexeme-law s at c cs last is in
-      let to = walked-more at c cs here.more in
-      let rest = lexemes-in_order here.more here.after cs (behind c) (law.last ∙ last) is.1 in
+      let to = after_cells-more at c cs here.more in
+      let rest = lexemes-in_order here.more here.after cs (after_cell c) (law.last ∙ last) is.1 in
       let others : List Token = flat_map (λ l. l.tokens) (lexemes here.more here.after cs) in
       elim (law.ordered) [
         | inl ordered ↦ record {
           stays = rest.stays;
           to = rest.to;
-          ordered = in_order-append width count (inside s.mode) at here.tokens (inside here.after.mode) (walked (behind c) here.more cs) others rest.stays rest.to
-              (subst (λ p. AreInOrder width count (inside s.mode) at here.tokens (inside here.after.mode) p) to ordered) rest.ordered;
+          ordered = in_order-append width count (is_c_text s.mode) at here.tokens (is_c_text here.after.mode) (after_cells (after_cell c) here.more cs) others rest.stays rest.to
+              (subst (λ p. AreInOrder width count (is_c_text s.mode) at here.tokens (is_c_text here.after.mode) p) to ordered) rest.ordered;
         }
         | inr ordered ↦
             let none : others ≡ [] = ap (flat_map (λ l. l.tokens)) (lexemes-drop here.more here.after cs ∙ ap (lexemes 0 here.after) ordered.0) in
             record {
               stays = false;
-              to = walked at (1 + here.more) (c ∷ cs);
+              to = after_cells at (1 + here.more) (c ∷ cs);
               ordered = rw (none, append-nil here.tokens) ordered.1;
             }
       ]

@@ -1,6 +1,6 @@
--- Positions of the text, and where it goes on behind cells.
+-- Points of the text, and where it goes on after cells.
 use Rattle.std.proofs.Common.{◌≡◌, ℕ, zero, suc, ◌+◌, ◌<◌, ◌≤◌, List, [], ◌∷◌, ◌++◌, length, get_or, drop, Option, Some, None, refl, ap, sym, ◌∙◌, arith, add-zero}
-use Rattle.tangle_lines.specs.Reading.{Line}
+use Rattle.tangle_lines.specs.Reading.{SourceLine}
 use Rattle.tangle_lines.specs.Reading.{no_line}
 use Rattle.tangle_text.specs.Text.{Cell, line_text, text_from}
 
@@ -12,11 +12,11 @@ pub record Point : Type 0 where
 abbrev pub point_at : ℕ → ℕ → Point
 point_at line column = record { line = line; column = column }
 
--- not behind it
+-- not after it
 abbrev pub Precedes : Point → Point → Type 0
 Precedes at to = (at.line ≤ to.line) × (at.line ≡ to.line → at.column ≤ to.column)
 
--- not behind it, and on the same line
+-- not after it, and on the same line
 abbrev pub PrecedesOnLine : Point → Point → Type 0
 PrecedesOnLine at to = (at.line ≡ to.line) × (at.column ≤ to.column)
 
@@ -24,19 +24,19 @@ abbrev pub IsByte : Option ℕ → Type 0
 IsByte None = ⊥
 IsByte (Some b) = Unit {0}
 
-abbrev pub behind_by : Option ℕ → Cell → Point
-behind_by None c = point_at (c.line + 1) 0
-behind_by (Some b) c = point_at c.line (c.column + 1)
+abbrev pub after_by : Option ℕ → Cell → Point
+after_by None c = point_at (c.line + 1) 0
+after_by (Some b) c = point_at c.line (c.column + 1)
 
--- where the text goes on behind a cell
-abbrev pub behind : Cell → Point
-behind c = behind_by c.byte c
+-- where the text goes on after a cell
+abbrev pub after_cell : Cell → Point
+after_cell c = after_by c.byte c
 
--- where it goes on behind so many cells
-abbrev pub walked : Point → ℕ → List Cell → Point
-walked at zero text = at
-walked at (suc k) [] = at
-walked at (suc k) (c ∷ cs) = walked (behind c) k cs
+-- where it goes on after so many cells
+abbrev pub after_cells : Point → ℕ → List Cell → Point
+after_cells at zero text = at
+after_cells at (suc k) [] = at
+after_cells at (suc k) (c ∷ cs) = after_cells (after_cell c) k cs
 
 -- the first cells are bytes
 abbrev pub HoldsBytes : ℕ → List Cell → Type 0
@@ -57,10 +57,10 @@ precedes-trans a b c h k = (omega (arith, h.0, k.0), λ e. let x : a.line ≡ b.
 pub precedes-refl : (a : Point) → Precedes a a
 precedes-refl a = (omega arith, λ e. omega arith)
 
-pub behind-byte : (c : Cell) → IsByte c.byte → behind c ≡ point_at c.line (c.column + 1)
-behind-byte c h = by c.byte h
+pub after-byte : (c : Cell) → IsByte c.byte → after_cell c ≡ point_at c.line (c.column + 1)
+after-byte c h = by c.byte h
   where
-    by : (b : Option ℕ) → IsByte b → behind_by b c ≡ point_at c.line (c.column + 1)
+    by : (b : Option ℕ) → IsByte b → after_by b c ≡ point_at c.line (c.column + 1)
     by None h = absurd h
     by (Some b) h = refl
 
@@ -68,40 +68,40 @@ module _ (width : ℕ → ℕ) (count : ℕ) where
   -- the cells follow one another from a position on, up to the end of the source
   abbrev pub IsTextAt : Point → List Cell → Type 0
   IsTextAt at [] = (at.column ≡ 0) × (at.line ≡ count)
-  IsTextAt at (c ∷ cs) = IsCellAt width count at c × IsTextAt (behind c) cs
+  IsTextAt at (c ∷ cs) = IsCellAt width count at c × IsTextAt (after_cell c) cs
 
   -- the text goes on where it was left
-  pub text-walked : (at : Point) (n : ℕ) (text : List Cell) → IsTextAt at text → IsTextAt (walked at n text) (drop n text)
-  text-walked at zero text is = is
-  text-walked at (suc n) [] is = is
-  text-walked at (suc n) (c ∷ cs) is = text-walked (behind c) n cs is.1
+  pub text-after_cells : (at : Point) (n : ℕ) (text : List Cell) → IsTextAt at text → IsTextAt (after_cells at n text) (drop n text)
+  text-after_cells at zero text is = is
+  text-after_cells at (suc n) [] is = is
+  text-after_cells at (suc n) (c ∷ cs) is = text-after_cells (after_cell c) n cs is.1
 
   -- where a text goes on is inside a line, or at the end
   pub text-within : (at : Point) (text : List Cell) → IsTextAt at text → at.column ≤ width at.line
   text-within at [] is = omega (arith, is)
   text-within at (c ∷ cs) is = is.0.inside
 
-  precedes-behind : (at : Point) (c : Cell) → IsCellAt width count at c → Precedes at (behind c)
-  precedes-behind at c is = by c.byte
+  precedes-after : (at : Point) (c : Cell) → IsCellAt width count at c → Precedes at (after_cell c)
+  precedes-after at c is = by c.byte
     where
-      by : (b : Option ℕ) → Precedes at (behind_by b c)
+      by : (b : Option ℕ) → Precedes at (after_by b c)
       by None = (omega (arith, is.line), λ e. absurd (omega (arith, is.line, e)))
       by (Some b) = (omega (arith, is.line), λ e. omega (arith, is.column))
 
-  pub precedes-walked : (at : Point) (n : ℕ) (text : List Cell) → IsTextAt at text → Precedes at (walked at n text)
-  precedes-walked at zero text is = precedes-refl at
-  precedes-walked at (suc n) [] is = precedes-refl at
-  precedes-walked at (suc n) (c ∷ cs) is =
-      precedes-trans at (behind c) (walked (behind c) n cs) (precedes-behind at c is.0) (precedes-walked (behind c) n cs is.1)
+  pub precedes-after_cells : (at : Point) (n : ℕ) (text : List Cell) → IsTextAt at text → Precedes at (after_cells at n text)
+  precedes-after_cells at zero text is = precedes-refl at
+  precedes-after_cells at (suc n) [] is = precedes-refl at
+  precedes-after_cells at (suc n) (c ∷ cs) is =
+      precedes-trans at (after_cell c) (after_cells (after_cell c) n cs) (precedes-after at c is.0) (precedes-after_cells (after_cell c) n cs is.1)
 
-  -- behind bytes it goes on on the same line
-  pub walked-bytes : (at : Point) (n : ℕ) (text : List Cell) → IsTextAt at text → HoldsBytes n text → walked at n text ≡ point_at at.line (at.column + n)
-  walked-bytes at zero text is h = λ i. point_at at.line (sym (add-zero at.column) i)
-  walked-bytes at (suc n) [] is h = absurd h
-  walked-bytes at (suc n) (c ∷ cs) is h =
-      let goes = behind-byte c h.0 in
+  -- after bytes it goes on on the same line
+  pub after_cells-bytes : (at : Point) (n : ℕ) (text : List Cell) → IsTextAt at text → HoldsBytes n text → after_cells at n text ≡ point_at at.line (at.column + n)
+  after_cells-bytes at zero text is h = λ i. point_at at.line (sym (add-zero at.column) i)
+  after_cells-bytes at (suc n) [] is h = absurd h
+  after_cells-bytes at (suc n) (c ∷ cs) is h =
+      let goes = after-byte c h.0 in
       let column : c.column + 1 + n ≡ at.column + suc n = omega (arith, is.0.column) in
-      walked-bytes (behind c) n cs is.1 h.1
+      after_cells-bytes (after_cell c) n cs is.1 h.1
       ∙ ap (λ (p : Point). point_at p.line (p.column + n)) goes
       ∙ (λ i. point_at (is.0.line i) (column i))
 
@@ -112,7 +112,7 @@ module _ (width : ℕ → ℕ) (count : ℕ) where
       (record { line = refl; column = refl; inside = omega (arith, h); real = real }, line-is line (column + 1) bs rest (omega (arith, h)) real is)
 
   -- the text of lines is text, from its first line on
-  pub text-is : (n : ℕ) (lines : List Line) → n + length lines ≡ count → ((k : ℕ) → k < length lines → length (get_or lines k no_line).bytes ≡ width (n + k))
+  pub text-is : (n : ℕ) (lines : List SourceLine) → n + length lines ≡ count → ((k : ℕ) → k < length lines → length (get_or lines k no_line).bytes ≡ width (n + k))
       → IsTextAt (point_at n 0) (text_from n lines)
   text-is n [] all h = (refl, omega (arith, all))
   text-is n (l ∷ ls) all h =

@@ -8,7 +8,7 @@ use Rattle.tangle_text.specs.declared.regions.Region.{Region}
 use Rattle.tangle_text.specs.Text.{Cell}
 use Rattle.tangle_lexer.specs.Quoted.{range_token, cut_range}
 use Rattle.tangle_lexer.specs.Segments.{columns_from, span_points, cell_point, byte_points}
-use Rattle.tangle_lexer.proofs.laws.Points.{Point, IsByte, behind, HoldsBytes, IsTextAt, behind-byte}
+use Rattle.tangle_lexer.proofs.laws.Points.{Point, IsByte, after_cell, HoldsBytes, IsTextAt, after-byte}
 
 -- the columns from one on, up to another
 abbrev pub columns_to : ℕ → ℕ → ℕ → List (ℕ × ℕ)
@@ -43,29 +43,25 @@ byte-point c h = by c.byte h
 
 abbrev pub token_points : List Token → List (ℕ × ℕ)
 token_points [] = []
-token_points (token.Text kind s ∷ es) = span_points s ++ token_points es
-token_points (_ ∷ es) = token_points es
+token_points (token.Span kind s ∷ ts) = span_points s ++ token_points ts
+token_points (_ ∷ ts) = token_points ts
 
-pub points-append : (es fs : List Token) → token_points (es ++ fs) ≡ token_points es ++ token_points fs
-points-append [] fs = refl
-points-append (token.Text kind s ∷ es) fs = ap (λ ps. span_points s ++ ps) (points-append es fs) ∙ sym (append_assoc (span_points s) (token_points es) (token_points fs))
-points-append (_ ∷ es) fs = points-append es fs
-
-range-points : (r : Region) (line start end : ℕ) (es : List Token)
-    → token_points (range_token r (record { line = line; start = start; end = end }) ∷ es) ≡ columns_to line start end ++ token_points es
-range-points r line start end es = refl
+pub points-append : (ts us : List Token) → token_points (ts ++ us) ≡ token_points ts ++ token_points us
+points-append [] us = refl
+points-append (token.Span kind s ∷ ts) us = ap (λ ps. span_points s ++ ps) (points-append ts us) ∙ sym (append_assoc (span_points s) (token_points ts) (token_points us))
+points-append (_ ∷ ts) us = points-append ts us
 
 -- a range that is cut has its columns, an empty one too
-pub cut-points : (r : Region) (line start end : ℕ) (es : List Token) → token_points (cut_range r line start end ++ es) ≡ columns_to line start end ++ token_points es
-cut-points r line start end es = by (nat_lt start end) refl
+pub cut-points : (r : Region) (line start end : ℕ) (ts : List Token) → token_points (cut_range r line start end ++ ts) ≡ columns_to line start end ++ token_points ts
+cut-points r line start end ts = by (nat_lt start end) refl
   where
     by : (b : Bool) → nat_lt start end ≡ b
-        → token_points (cond b (range_token r (record { line = line; start = start; end = end }) ∷ []) [] ++ es) ≡ columns_to line start end ++ token_points es
+        → token_points (cond b (range_token r (record { line = line; start = start; end = end }) ∷ []) [] ++ ts) ≡ columns_to line start end ++ token_points ts
     by true e = refl
     by false e =
         let less : end ≤ start = ltb-false start end e in
         let none : end - start ≡ 0 = omega (arith, less) in
-        sym (ap (λ n. columns_from line start n ++ token_points es) none)
+        sym (ap (λ n. columns_from line start n ++ token_points ts) none)
 
 module _ (width : ℕ → ℕ) (count : ℕ) where
   -- bytes of a line are in its columns
@@ -74,6 +70,6 @@ module _ (width : ℕ → ℕ) (count : ℕ) where
   bytes-columns at zero text is h = refl
   bytes-columns at (suc n) [] is h = absurd h
   bytes-columns at (suc n) (c ∷ cs) is h =
-      let goes = behind-byte c h.0 in
-      let rest = bytes-columns (behind c) n cs is.1 h.1 in
+      let goes = after-byte c h.0 in
+      let rest = bytes-columns (after_cell c) n cs is.1 h.1 in
       rw (byte-point c h.0, rest, goes, is.0.line, is.0.column) refl

@@ -1,4 +1,4 @@
--- The tokens of a text lie in it: each between what is before and behind it.
+-- The tokens of a text lie in it: each between what is before and after it.
 use Rattle.std.proofs.Common.{◌≡◌, ℕ, ◌+◌, ◌<◌, ◌≤◌, Bool, true, false, List, [], ◌∷◌, ◌++◌, inl, inr, refl, sym, ◌∙◌, arith, subst, if◌then◌else◌, ◌==◌}
 use Rattle.std.proofs.lemmas.Bool.Decides.{eqb_tells}
 use Rattle.tangle_text.specs.declared.spans.Span.{Span}
@@ -39,17 +39,17 @@ module _ (width : ℕ → ℕ) (count : ℕ) where
   -- alone go on to another line, and names, which may be over lines.
   abbrev pub AreInOrder : Bool → Point → List Token → Bool → Point → Type 0
   AreInOrder from at [] stays to = GoesOn from stays at to
-  AreInOrder from at (token.Section ∷ es) stays to = AreInOrder false at es stays to
-  AreInOrder from at (token.MacroStart line ∷ es) stays to = (at.line ≤ line) × AreInOrder true (jumped at line) es stays to
-  AreInOrder from at (token.UnnamedPart line ∷ es) stays to = (at.line ≤ line) × AreInOrder true (jumped at line) es stays to
-  AreInOrder from at (token.NamedPart name line ∷ es) stays to = (at.line ≤ line) × AreInOrder true (jumped at line) es stays to
-  AreInOrder from at (token.Text kind s ∷ es) stays to = Inside from (IsFrom width count at s × AreInOrder true (span_end s) es stays to)
-  AreInOrder from at (token.AsciiConstant value line ∷ es) stays to = Inside from ((line ≡ at.line) × ((at.line < count) × AreInOrder true at es stays to))
-  AreInOrder from at (token.LineEnd line ∷ es) stays to = Inside from ((line ≡ at.line) × AreInOrder true (point_at (line + 1) 0) es stays to)
-  AreInOrder from at (token.QuoteBreak ∷ es) stays to = Inside from (AreInOrder true (point_at (at.line + 1) 0) es stays to)
-  AreInOrder from at (token.UseOf name line ∷ es) stays to = Inside from ((at.line ≤ line) × AreInOrder true (jumped at line) es stays to)
-  AreInOrder from at (token.AllMacros line ∷ es) stays to = Inside from ((line ≡ at.line) × AreInOrder true at es stays to)
-  AreInOrder from at (_ ∷ es) stays to = AreInOrder from at es stays to
+  AreInOrder from at (token.Section ∷ ts) stays to = AreInOrder false at ts stays to
+  AreInOrder from at (token.MacroStart line ∷ ts) stays to = (at.line ≤ line) × AreInOrder true (jumped at line) ts stays to
+  AreInOrder from at (token.UnnamedPart line ∷ ts) stays to = (at.line ≤ line) × AreInOrder true (jumped at line) ts stays to
+  AreInOrder from at (token.NamedPart occurrence line ∷ ts) stays to = (at.line ≤ line) × AreInOrder true (jumped at line) ts stays to
+  AreInOrder from at (token.Span kind s ∷ ts) stays to = Inside from (IsFrom width count at s × AreInOrder true (span_end s) ts stays to)
+  AreInOrder from at (token.AsciiConstant value line ∷ ts) stays to = Inside from ((line ≡ at.line) × ((at.line < count) × AreInOrder true at ts stays to))
+  AreInOrder from at (token.LineEnd line ∷ ts) stays to = Inside from ((line ≡ at.line) × AreInOrder true (point_at (line + 1) 0) ts stays to)
+  AreInOrder from at (token.QuoteBreak ∷ ts) stays to = Inside from (AreInOrder true (point_at (at.line + 1) 0) ts stays to)
+  AreInOrder from at (token.UseOf occurrence line ∷ ts) stays to = Inside from ((at.line ≤ line) × AreInOrder true (jumped at line) ts stays to)
+  AreInOrder from at (token.AllMacros line ∷ ts) stays to = Inside from ((line ≡ at.line) × AreInOrder true at ts stays to)
+  AreInOrder from at (_ ∷ ts) stays to = AreInOrder from at ts stays to
 
   inside-after : (from to : Bool) (a at : Point) (A B : Type 0) → GoesOn from to a at → Inside to A → (PrecedesOnLine a at → A → B) → Inside from B
   inside-after true true a at A B near x f = f near x
@@ -94,50 +94,50 @@ module _ (width : ℕ → ℕ) (count : ℕ) where
     end = rw near.0 is.end;
   }
 
-  -- tokens behind a part of the text that has none
-  pub in_order-after : (from mid : Bool) (a at : Point) (es : List Token) (stays : Bool) (to : Point) → GoesOn from mid a at → AreInOrder mid at es stays to → AreInOrder from a es stays to
+  -- tokens after text that has none
+  pub in_order-after : (from mid : Bool) (a at : Point) (ts : List Token) (stays : Bool) (to : Point) → GoesOn from mid a at → AreInOrder mid at ts stays to → AreInOrder from a ts stays to
   in_order-after from mid a at [] stays to near ordered = goes-trans from mid stays a at to near ordered
-  in_order-after from mid a at (token.Section ∷ es) stays to near ordered = in_order-after false false a at es stays to (goes-precedes from mid a at near) ordered
-  in_order-after from mid a at (token.MacroStart line ∷ es) stays to near ordered =
+  in_order-after from mid a at (token.Section ∷ ts) stays to near ordered = in_order-after false false a at ts stays to (goes-precedes from mid a at near) ordered
+  in_order-after from mid a at (token.MacroStart line ∷ ts) stays to near ordered =
       let p = goes-precedes from mid a at near in
-      (omega (arith, p.0, ordered.0), in_order-after true true (jumped a line) (jumped at line) es stays to (jump-goes a at line p ordered.0) ordered.1)
-  in_order-after from mid a at (token.UnnamedPart line ∷ es) stays to near ordered =
+      (omega (arith, p.0, ordered.0), in_order-after true true (jumped a line) (jumped at line) ts stays to (jump-goes a at line p ordered.0) ordered.1)
+  in_order-after from mid a at (token.UnnamedPart line ∷ ts) stays to near ordered =
       let p = goes-precedes from mid a at near in
-      (omega (arith, p.0, ordered.0), in_order-after true true (jumped a line) (jumped at line) es stays to (jump-goes a at line p ordered.0) ordered.1)
-  in_order-after from mid a at (token.NamedPart name line ∷ es) stays to near ordered =
+      (omega (arith, p.0, ordered.0), in_order-after true true (jumped a line) (jumped at line) ts stays to (jump-goes a at line p ordered.0) ordered.1)
+  in_order-after from mid a at (token.NamedPart occurrence line ∷ ts) stays to near ordered =
       let p = goes-precedes from mid a at near in
-      (omega (arith, p.0, ordered.0), in_order-after true true (jumped a line) (jumped at line) es stays to (jump-goes a at line p ordered.0) ordered.1)
-  in_order-after from mid a at (token.Text kind s ∷ es) stays to near ordered = inside-after from mid a at _ _ near ordered (λ n l. (is-from a at s n l.0, l.1))
-  in_order-after from mid a at (token.AsciiConstant value line ∷ es) stays to near ordered =
-      inside-after from mid a at _ _ near ordered (λ n l. (l.0 ∙ sym n.0, (omega (arith, n.0, l.1.0), in_order-after true true a at es stays to n l.1.1)))
-  in_order-after from mid a at (token.LineEnd line ∷ es) stays to near ordered = inside-after from mid a at _ _ near ordered (λ n l. (l.0 ∙ sym n.0, l.1))
-  in_order-after from mid a at (token.QuoteBreak ∷ es) stays to near ordered =
-      inside-after from mid a at _ _ near ordered (λ n l. subst (λ x. AreInOrder true (point_at (x + 1) 0) es stays to) (sym n.0) l)
-  in_order-after from mid a at (token.UseOf name line ∷ es) stays to near ordered =
+      (omega (arith, p.0, ordered.0), in_order-after true true (jumped a line) (jumped at line) ts stays to (jump-goes a at line p ordered.0) ordered.1)
+  in_order-after from mid a at (token.Span kind s ∷ ts) stays to near ordered = inside-after from mid a at _ _ near ordered (λ n l. (is-from a at s n l.0, l.1))
+  in_order-after from mid a at (token.AsciiConstant value line ∷ ts) stays to near ordered =
+      inside-after from mid a at _ _ near ordered (λ n l. (l.0 ∙ sym n.0, (omega (arith, n.0, l.1.0), in_order-after true true a at ts stays to n l.1.1)))
+  in_order-after from mid a at (token.LineEnd line ∷ ts) stays to near ordered = inside-after from mid a at _ _ near ordered (λ n l. (l.0 ∙ sym n.0, l.1))
+  in_order-after from mid a at (token.QuoteBreak ∷ ts) stays to near ordered =
+      inside-after from mid a at _ _ near ordered (λ n l. subst (λ x. AreInOrder true (point_at (x + 1) 0) ts stays to) (sym n.0) l)
+  in_order-after from mid a at (token.UseOf occurrence line ∷ ts) stays to near ordered =
       inside-after from mid a at _ _ near ordered (λ n l. (
         omega (arith, n.0, l.0),
-        in_order-after true true (jumped a line) (jumped at line) es stays to (jump-goes a at line (goes-precedes true true a at n) l.0) l.1,
+        in_order-after true true (jumped a line) (jumped at line) ts stays to (jump-goes a at line (goes-precedes true true a at n) l.0) l.1,
       ))
-  in_order-after from mid a at (token.AllMacros line ∷ es) stays to near ordered =
-      inside-after from mid a at _ _ near ordered (λ n l. (l.0 ∙ sym n.0, in_order-after true true a at es stays to n l.1))
-  in_order-after from mid a at (_ ∷ es) stays to near ordered = in_order-after from mid a at es stays to near ordered
+  in_order-after from mid a at (token.AllMacros line ∷ ts) stays to near ordered =
+      inside-after from mid a at _ _ near ordered (λ n l. (l.0 ∙ sym n.0, in_order-after true true a at ts stays to n l.1))
+  in_order-after from mid a at (_ ∷ ts) stays to near ordered = in_order-after from mid a at ts stays to near ordered
 
   inside-map : (from : Bool) (A B : Type 0) → Inside from A → (A → B) → Inside from B
   inside-map true A B x f = f x
   inside-map false A B x f = absurd x
 
   -- tokens after tokens
-  pub in_order-append : (from : Bool) (at : Point) (es : List Token) (mid : Bool) (p : Point) (fs : List Token) (stays : Bool) (to : Point)
-      → AreInOrder from at es mid p → AreInOrder mid p fs stays to → AreInOrder from at (es ++ fs) stays to
-  in_order-append from at [] mid p fs stays to ordered rest = in_order-after from mid at p fs stays to ordered rest
-  in_order-append from at (token.Section ∷ es) mid p fs stays to ordered rest = in_order-append false at es mid p fs stays to ordered rest
-  in_order-append from at (token.MacroStart line ∷ es) mid p fs stays to ordered rest = (ordered.0, in_order-append true (jumped at line) es mid p fs stays to ordered.1 rest)
-  in_order-append from at (token.UnnamedPart line ∷ es) mid p fs stays to ordered rest = (ordered.0, in_order-append true (jumped at line) es mid p fs stays to ordered.1 rest)
-  in_order-append from at (token.NamedPart name line ∷ es) mid p fs stays to ordered rest = (ordered.0, in_order-append true (jumped at line) es mid p fs stays to ordered.1 rest)
-  in_order-append from at (token.Text kind s ∷ es) mid p fs stays to ordered rest = inside-map from _ _ ordered (λ l. (l.0, in_order-append true (span_end s) es mid p fs stays to l.1 rest))
-  in_order-append from at (token.AsciiConstant value line ∷ es) mid p fs stays to ordered rest = inside-map from _ _ ordered (λ l. (l.0, (l.1.0, in_order-append true at es mid p fs stays to l.1.1 rest)))
-  in_order-append from at (token.LineEnd line ∷ es) mid p fs stays to ordered rest = inside-map from _ _ ordered (λ l. (l.0, in_order-append true (point_at (line + 1) 0) es mid p fs stays to l.1 rest))
-  in_order-append from at (token.QuoteBreak ∷ es) mid p fs stays to ordered rest = inside-map from _ _ ordered (λ l. in_order-append true (point_at (at.line + 1) 0) es mid p fs stays to l rest)
-  in_order-append from at (token.UseOf name line ∷ es) mid p fs stays to ordered rest = inside-map from _ _ ordered (λ l. (l.0, in_order-append true (jumped at line) es mid p fs stays to l.1 rest))
-  in_order-append from at (token.AllMacros line ∷ es) mid p fs stays to ordered rest = inside-map from _ _ ordered (λ l. (l.0, in_order-append true at es mid p fs stays to l.1 rest))
-  in_order-append from at (_ ∷ es) mid p fs stays to ordered rest = in_order-append from at es mid p fs stays to ordered rest
+  pub in_order-append : (from : Bool) (at : Point) (ts : List Token) (mid : Bool) (p : Point) (us : List Token) (stays : Bool) (to : Point)
+      → AreInOrder from at ts mid p → AreInOrder mid p us stays to → AreInOrder from at (ts ++ us) stays to
+  in_order-append from at [] mid p us stays to ordered rest = in_order-after from mid at p us stays to ordered rest
+  in_order-append from at (token.Section ∷ ts) mid p us stays to ordered rest = in_order-append false at ts mid p us stays to ordered rest
+  in_order-append from at (token.MacroStart line ∷ ts) mid p us stays to ordered rest = (ordered.0, in_order-append true (jumped at line) ts mid p us stays to ordered.1 rest)
+  in_order-append from at (token.UnnamedPart line ∷ ts) mid p us stays to ordered rest = (ordered.0, in_order-append true (jumped at line) ts mid p us stays to ordered.1 rest)
+  in_order-append from at (token.NamedPart occurrence line ∷ ts) mid p us stays to ordered rest = (ordered.0, in_order-append true (jumped at line) ts mid p us stays to ordered.1 rest)
+  in_order-append from at (token.Span kind s ∷ ts) mid p us stays to ordered rest = inside-map from _ _ ordered (λ l. (l.0, in_order-append true (span_end s) ts mid p us stays to l.1 rest))
+  in_order-append from at (token.AsciiConstant value line ∷ ts) mid p us stays to ordered rest = inside-map from _ _ ordered (λ l. (l.0, (l.1.0, in_order-append true at ts mid p us stays to l.1.1 rest)))
+  in_order-append from at (token.LineEnd line ∷ ts) mid p us stays to ordered rest = inside-map from _ _ ordered (λ l. (l.0, in_order-append true (point_at (line + 1) 0) ts mid p us stays to l.1 rest))
+  in_order-append from at (token.QuoteBreak ∷ ts) mid p us stays to ordered rest = inside-map from _ _ ordered (λ l. in_order-append true (point_at (at.line + 1) 0) ts mid p us stays to l rest)
+  in_order-append from at (token.UseOf occurrence line ∷ ts) mid p us stays to ordered rest = inside-map from _ _ ordered (λ l. (l.0, in_order-append true (jumped at line) ts mid p us stays to l.1 rest))
+  in_order-append from at (token.AllMacros line ∷ ts) mid p us stays to ordered rest = inside-map from _ _ ordered (λ l. (l.0, in_order-append true at ts mid p us stays to l.1 rest))
+  in_order-append from at (_ ∷ ts) mid p us stays to ordered rest = in_order-append from at ts mid p us stays to ordered rest

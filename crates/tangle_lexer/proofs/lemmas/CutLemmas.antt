@@ -10,7 +10,7 @@ use Rattle.tangle_text.specs.Regions.{unit_at, more_by, region_end, count_before
 use Rattle.tangle_lexer.specs.Quoted.{cut_tokens, unit_tokens, next_start, ends_at_once, one_if}
 use Rattle.tangle_text.proofs.RegionLemmas.{region_end-is}
 
--- a unit that isn't the end gives its part
+-- a unit that isn't the end of a region adds what it gives
 pub cut-go : (ends : ℕ → List Cell → List Token) (r : Region) (start last : ℕ) (text : List Cell) (u : Unit-of) →
     0 < length text → unit_at r text ≡ u → (u ≡ unit.Stop → ⊥) →
     cut_tokens ends r 0 start text
@@ -55,7 +55,7 @@ at_once-end r text h = let none : count_before r 0 text ≡ 0 = zero-is (count_b
     zero-is : (n : ℕ) → nat_eq n 0 ≡ true → n ≡ 0
     zero-is n h = grind (arith, h)
 
--- behind a region and what may end it
+-- after a region and what may end it
 pub drop-end : (r : Region) (text : List Cell) (b : List Cell → Bool) →
     drop (one_if (b (region_end r text))) (region_end r text) ≡ drop (count_before r 0 text + one_if (b (drop (count_before r 0 text) text))) text
 drop-end r text b =

@@ -14,14 +14,14 @@ same_truth false true f g = g refl
 same_truth false false f g = refl
 
 -- a name ends with the dots where its last three bytes are these
-pub ends_with_dots : (text : List ℕ) (r : Bool) → IsTrue r ↔ ((3 ≤ length text) × OccursAt text dots (length text - 3)) → r ≡ bytes_eq (drop (length text - 3) text) dots
-ends_with_dots text r h =
-    let k = length text - 3 in
-    let all : take 3 (drop k text) ≡ drop k text = take_all 3 (drop k text) (omega (arith, length-drop k text)) in
-    same_truth r (bytes_eq (drop k text) dots)
-    (λ ends. ap (λ l. bytes_eq l dots) (sym all) ∙ (and_parts _ _ (occurs_at-true text dots k (h.0 ends).1)).1)
+pub ends_with_dots : (name : List ℕ) (r : Bool) → IsTrue r ↔ ((3 ≤ length name) × OccursAt name dots (length name - 3)) → r ≡ bytes_eq (drop (length name - 3) name) dots
+ends_with_dots name r h =
+    let k = length name - 3 in
+    let all : take 3 (drop k name) ≡ drop k name = take_all 3 (drop k name) (omega (arith, length-drop k name)) in
+    same_truth r (bytes_eq (drop k name) dots)
+    (λ ends. ap (λ l. bytes_eq l dots) (sym all) ∙ (and_parts _ _ (occurs_at-true name dots k (h.0 ends).1)).1)
     (λ equal.
-    let same : drop k text ≡ dots = (bytes_eq-Decides (drop k text) dots).0 equal in
-    let long : 3 ≤ length text = omega (arith, length-drop k text, ap length same) in
-    let fits : k + 3 ≤ length text = omega (arith, long) in
-    h.1 (long, OccursAt-true text dots k (and_from _ _ (le-leb _ _ fits) (ap (λ l. bytes_eq l dots) all ∙ equal))))
+    let same : drop k name ≡ dots = (bytes_eq-Decides (drop k name) dots).0 equal in
+    let long : 3 ≤ length name = omega (arith, length-drop k name, ap length same) in
+    let fits : k + 3 ≤ length name = omega (arith, long) in
+    h.1 (long, OccursAt-true name dots k (and_from _ _ (le-leb _ _ fits) (ap (λ l. bytes_eq l dots) all ∙ equal))))

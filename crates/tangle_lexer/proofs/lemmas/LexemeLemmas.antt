@@ -9,12 +9,12 @@ use Rattle.tangle_text.specs.declared.regions.Unit.TheVariants as unit
 use Rattle.tangle_lexer.specs.declared.modes.IncludeState.{IncludeState}
 use Rattle.tangle_lexer.specs.declared.modes.IncludeState.TheVariants as include
 use Rattle.tangle_lexer.specs.declared.tokens.Token.{Token}
-use Rattle.tangle_text.specs.Text.{Cell, byte_at, line_at, front_cell}
+use Rattle.tangle_text.specs.Text.{Cell, byte_at, front_line, front_cell}
 use Rattle.tangle_text.specs.Regions.{unit_at, more_by, from_units, region_end, count_before}
 use Rattle.tangle_lexer.specs.Lexemes.{include_over, fault_if}
 use Rattle.tangle_lexer.specs.Comments.{line_ends}
 
--- a unit that isn't the end of a region gives its part
+-- a unit that isn't the end of a region adds what it gives
 pub from_units-go : {A : Type 0} (f : Unit-of → Cell → Option ℕ → List A) (r : Region) (last : ℕ) (text : List Cell) (u : Unit-of) →
     0 < length text → unit_at r text ≡ u → (u ≡ unit.Stop → ⊥) →
     from_units f r 0 text ≡ f u (front_cell last text) (byte_at 1 text) ++ from_units f r 0 (drop (more_by u) (drop 1 text))
@@ -28,32 +28,32 @@ pub from_units-stop : {A : Type 0} (f : Unit-of → Cell → Option ℕ → List
 from_units-stop f r [] h = refl
 from_units-stop f r (c ∷ cs) h = rw h refl
 
--- behind a line end #include may begin
-include_over-start : (es : List Token) → include_over es include.AtStart ≡ include.AtStart
+-- after a line end #include may begin
+include_over-start : (ts : List Token) → include_over ts include.AtStart ≡ include.AtStart
 include_over-start [] = refl
-include_over-start (e ∷ es) = refl
+include_over-start (t ∷ ts) = refl
 
-pub include_over-append : (es fs : List Token) (inc : IncludeState) → include_over (es ++ fs) inc ≡ include_over fs (include_over es inc)
-include_over-append [] fs inc = refl
-include_over-append (e ∷ es) fs inc = sym (include_over-start fs)
+pub include_over-append : (ts us : List Token) (inc : IncludeState) → include_over (ts ++ us) inc ≡ include_over us (include_over ts inc)
+include_over-append [] us inc = refl
+include_over-append (t ∷ ts) us inc = sym (include_over-start us)
 
 -- the tokens of a comment or a control text that is closed
-pub comment-closed : (ends : List Cell → Bool) (r : Region) (kind : FaultKind) (last : ℕ) (text behind mid : List Cell) (old first new : List Token) →
-    first ≡ old ++ token.White ∷ [] → behind ≡ drop 1 (drop 1 text) → mid ≡ region_end r behind → new ≡ first ++ line_ends r behind → ends mid ≡ true →
+pub comment-closed : (ends : List Cell → Bool) (r : Region) (kind : FaultKind) (last : ℕ) (text after mid : List Cell) (old first new : List Token) →
+    first ≡ old ++ token.White ∷ [] → after ≡ drop 1 (drop 1 text) → mid ≡ region_end r after → new ≡ first ++ line_ends r after → ends mid ≡ true →
     new ≡ old ++ (token.White ∷ (line_ends r (drop 2 text)
-    ++ fault_if (not (ends (drop (count_before r 0 (drop 2 text)) (drop 2 text)))) kind (line_at last (drop (count_before r 0 (drop 2 text)) (drop 2 text)))))
-comment-closed ends r kind last text behind mid old first new h1 h2 h3 h4 closed =
+    ++ fault_if (not (ends (drop (count_before r 0 (drop 2 text)) (drop 2 text)))) kind (front_line last (drop (count_before r 0 (drop 2 text)) (drop 2 text)))))
+comment-closed ends r kind last text after mid old first new h1 h2 h3 h4 closed =
     let is = mid-is r text mid (h3 ∙ ap (region_end r) h2) in
     rw (h4, h1, h2, drop-two text, ← is, closed, append-nil, append_assoc) refl
 
 -- and of one that is not
-pub comment-open : (ends : List Cell → Bool) (r : Region) (kind : FaultKind) (last : ℕ) (text behind mid : List Cell) (old first second new : List Token) →
-    first ≡ old ++ token.White ∷ [] → behind ≡ drop 1 (drop 1 text) → mid ≡ region_end r behind → second ≡ first ++ line_ends r behind → ends mid ≡ false →
-    (line : ℕ) → line ≡ line_at last mid → new ≡ second ++ token.Fault kind line ∷ [] →
+pub comment-open : (ends : List Cell → Bool) (r : Region) (kind : FaultKind) (last : ℕ) (text after mid : List Cell) (old first second new : List Token) →
+    first ≡ old ++ token.White ∷ [] → after ≡ drop 1 (drop 1 text) → mid ≡ region_end r after → second ≡ first ++ line_ends r after → ends mid ≡ false →
+    (line : ℕ) → line ≡ front_line last mid → new ≡ second ++ token.Fault kind line ∷ [] →
     new ≡ old ++ (token.White ∷ (line_ends r (drop 2 text)
-    ++ fault_if (not (ends (drop (count_before r 0 (drop 2 text)) (drop 2 text)))) kind (line_at last (drop (count_before r 0 (drop 2 text)) (drop 2 text)))))
-comment-open ends r kind last text behind mid old first second new h1 h2 h3 h4 isnt line on h5 =
+    ++ fault_if (not (ends (drop (count_before r 0 (drop 2 text)) (drop 2 text)))) kind (front_line last (drop (count_before r 0 (drop 2 text)) (drop 2 text)))))
+comment-open ends r kind last text after mid old first second new h1 h2 h3 h4 isnt line on h5 =
     let is = mid-is r text mid (h3 ∙ ap (region_end r) h2) in
     rw (h5, on, h4, h1, h2, drop-two text, ← is, isnt)
-    (append_assoc (old ++ token.White ∷ []) (line_ends r (drop 2 text)) (token.Fault kind (line_at last mid) ∷ [])
-    ∙ append_assoc old (token.White ∷ []) (line_ends r (drop 2 text) ++ token.Fault kind (line_at last mid) ∷ []))
+    (append_assoc (old ++ token.White ∷ []) (line_ends r (drop 2 text)) (token.Fault kind (front_line last mid) ∷ [])
+    ∙ append_assoc old (token.White ∷ []) (line_ends r (drop 2 text) ++ token.Fault kind (front_line last mid) ∷ []))

@@ -1,16 +1,16 @@
--- Names: where they end, and what is behind them.
+-- Names: where they end, and what is after them.
 use Rattle.std.proofs.Common.{◌≡◌, ℕ, ◌+◌, Bool, true, false, not, List, drop, Option, Some, None, refl, ap, sym, ◌∙◌, arith, drop-drop, subst, if◌then◌else◌}
 use Rattle.tangle_lexer.specs.declared.names.Equals.{Equals}
 use Rattle.tangle_lexer.specs.declared.names.Equals.TheVariants as equals
-use Rattle.tangle_lexer.specs.Reads.{PassesHead}
+use Rattle.tangle_lexer.specs.Reads.{PassesEquals}
 use Rattle.tangle_text.specs.declared.regions.Region.TheVariants as region
 use Rattle.tangle_text.specs.Bytes.{holds, plus_sign}
-use Rattle.tangle_text.specs.Text.{Cell, byte_at, line_at}
+use Rattle.tangle_text.specs.Text.{Cell, byte_at, front_line}
 use Rattle.tangle_text.specs.Regions.{count_before, region_end}
 use Rattle.tangle_lexer.specs.Comments.{two_if, has_end_code}
-use Rattle.tangle_lexer.specs.Names.{name_end, is_ended, behind_name, name_count, count_before_equals, equals_by, equals_in, head_count, name_more, equals_count, count_through}
+use Rattle.tangle_lexer.specs.Names.{name_end, is_ended, after_name, name_count, count_before_equals, equals_by, equals_in, definition_count, name_more, equals_count, count_through}
 use Rattle.tangle_text.proofs.RegionLemmas.{region_end-is}
-use Rattle.tangle_lexer.proofs.lemmas.OpenedRegions.{behind-two, mid-is}
+use Rattle.tangle_lexer.proofs.lemmas.OpenedRegions.{after-two, mid-is}
 use Rattle.tangle_text.proofs.AheadLemmas.{byte_at-drop}
 
 pub byte_at-next : (n : ℕ) (text : List Cell) → byte_at (n + 1) text ≡ byte_at 1 (drop n text)
@@ -27,12 +27,12 @@ equals-further text =
 pub name_end-is : (text mid : List Cell) → mid ≡ region_end region.Name (drop 1 (drop 1 text)) → mid ≡ name_end text
 name_end-is text mid h = mid-is region.Name text mid h
 
-pub behind-is : (text mid rest : List Cell) → mid ≡ name_end text → rest ≡ drop (two_if (has_end_code mid)) mid → rest ≡ behind_name text
-behind-is text mid rest h go =
+pub after-is : (text mid rest : List Cell) → mid ≡ name_end text → rest ≡ drop (two_if (has_end_code mid)) mid → rest ≡ after_name text
+after-is text mid rest h go =
     go ∙ (ap (λ t. drop (two_if (has_end_code t)) t) h
-    ∙ (ap (drop (two_if (is_ended text))) (sym (behind-two (name_count text) text)) ∙ drop-drop (two_if (is_ended text)) (1 + name_count text) (drop 1 text)))
+    ∙ (ap (drop (two_if (is_ended text))) (sym (after-two (name_count text) text)) ∙ drop-drop (two_if (is_ended text)) (1 + name_count text) (drop 1 text)))
 
--- + and the white space behind it are passed over
+-- + and the white space after it are passed over
 pub plus-further : (text : List Cell) → holds plus_sign (byte_at 0 (region_end region.White text)) ≡ true →
     region_end region.White (drop 1 (region_end region.White text)) ≡ drop (count_before_equals text) text
 plus-further text h =
@@ -62,31 +62,31 @@ not-false false h = sym h
 none-some : {A : Type 0} (a : A) → Some a ≡ None → ⊥
 none-some a h = cc
 
--- the head of a definition behind a name
-pub head-read : (last line : ℕ) (text rest : List Cell) (e : Equals) → is_ended text ≡ true → equals_in (behind_name text) ≡ e →
-    PassesHead e (count_before_equals (behind_name text)) last (behind_name text) rest (Some line) →
-    (n : ℕ) × (head_count text ≡ Some n) × (rest ≡ drop (name_more text + n) (drop 1 text)) × (line ≡ line_at last (drop (name_more text + n) text))
-head-read last line text rest equals.Absent ended is takes = absurd (none-some line takes.1)
-head-read last line text rest equals.Single ended is takes =
-    let n = count_before_equals (behind_name text) in (
+-- the equals sign of a definition after a name
+pub definition-read : (last line : ℕ) (text rest : List Cell) (e : Equals) → is_ended text ≡ true → equals_in (after_name text) ≡ e →
+    PassesEquals e (count_before_equals (after_name text)) last (after_name text) rest (Some line) →
+    (n : ℕ) × (definition_count text ≡ Some n) × (rest ≡ drop (name_more text + n) (drop 1 text)) × (line ≡ front_line last (drop (name_more text + n) text))
+definition-read last line text rest equals.Absent ended is takes = absurd (none-some line takes.1)
+definition-read last line text rest equals.Single ended is takes =
+    let n = count_before_equals (after_name text) in (
       n + 1,
-      ap (λ b. if b then equals_count (behind_name text) else None) ended ∙ ap (λ e. count_through e n) is,
+      ap (λ b. if b then equals_count (after_name text) else None) ended ∙ ap (λ e. count_through e n) is,
       takes.0 ∙ drop-drop (n + 1) (name_more text) (drop 1 text),
-      some-eq (takes.1 ∙ ap (λ t. Some (line_at last t)) (drop-drop n (name_more text) (drop 1 text) ∙ (drop-drop (name_more text + n) 1 text ∙ ap (λ k. drop k text) (omega arith)))),
+      some-eq (takes.1 ∙ ap (λ t. Some (front_line last t)) (drop-drop n (name_more text) (drop 1 text) ∙ (drop-drop (name_more text + n) 1 text ∙ ap (λ k. drop k text) (omega arith)))),
     )
-head-read last line text rest equals.Double ended is takes =
-    let n = count_before_equals (behind_name text) in (
+definition-read last line text rest equals.Double ended is takes =
+    let n = count_before_equals (after_name text) in (
       n + 2,
-      ap (λ b. if b then equals_count (behind_name text) else None) ended ∙ ap (λ e. count_through e n) is,
+      ap (λ b. if b then equals_count (after_name text) else None) ended ∙ ap (λ e. count_through e n) is,
       takes.0 ∙ drop-drop (n + 2) (name_more text) (drop 1 text),
-      some-eq (takes.1 ∙ ap (λ t. Some (line_at last t)) (drop-drop (n + 1) (name_more text) (drop 1 text) ∙ (drop-drop (name_more text + (n + 1)) 1 text ∙ ap (λ k. drop k text) (omega arith)))),
+      some-eq (takes.1 ∙ ap (λ t. Some (front_line last t)) (drop-drop (n + 1) (name_more text) (drop 1 text) ∙ (drop-drop (name_more text + (n + 1)) 1 text ∙ ap (λ k. drop k text) (omega arith)))),
     )
 
--- the same behind a name that was read
-pub head-found : (last line : ℕ) (found : Option ℕ) (text behind rest : List Cell) → is_ended text ≡ true → behind ≡ behind_name text → found ≡ Some line →
-    PassesHead (equals_in behind) (count_before_equals behind) last behind rest found →
-    (n : ℕ) × (head_count text ≡ Some n) × (rest ≡ drop (name_more text + n) (drop 1 text)) × (line ≡ line_at last (drop (name_more text + n) text))
-head-found last line found text behind rest ended is some takes =
-    head-read last line text rest (equals_in (behind_name text)) ended refl
-    (subst (λ t. PassesHead (equals_in t) (count_before_equals t) last t rest (Some line)) is
-    (subst (λ f. PassesHead (equals_in behind) (count_before_equals behind) last behind rest f) some takes))
+-- the same after a name that was read
+pub definition-found : (last line : ℕ) (found : Option ℕ) (text after rest : List Cell) → is_ended text ≡ true → after ≡ after_name text → found ≡ Some line →
+    PassesEquals (equals_in after) (count_before_equals after) last after rest found →
+    (n : ℕ) × (definition_count text ≡ Some n) × (rest ≡ drop (name_more text + n) (drop 1 text)) × (line ≡ front_line last (drop (name_more text + n) text))
+definition-found last line found text after rest ended is some takes =
+    definition-read last line text rest (equals_in (after_name text)) ended refl
+    (subst (λ t. PassesEquals (equals_in t) (count_before_equals t) last t rest (Some line)) is
+    (subst (λ f. PassesEquals (equals_in after) (count_before_equals after) last after rest f) some takes))

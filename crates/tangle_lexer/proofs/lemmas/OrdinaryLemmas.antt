@@ -2,9 +2,10 @@
 use Rattle.std.proofs.Common.{◌≡◌, ℕ, zero, suc, true, false, List, [], ◌∷◌, Option, Some, None, drop, refl, sym, ◌∙◌}
 use Rattle.tangle_text.specs.declared.regions.Region.{Region}
 use Rattle.tangle_lexer.specs.declared.tokens.Token.{Token}
-use Rattle.tangle_text.specs.Bytes.{holds, at_sign}
+use Rattle.tangle_lines.specs.Bytes.{at_sign}
+use Rattle.tangle_text.specs.Bytes.{holds}
 use Rattle.tangle_text.specs.Text.{Cell, byte_at}
-use Rattle.tangle_text.specs.Regions.{holds_ordinary, AreOrdinary, is_text}
+use Rattle.tangle_text.specs.Regions.{holds_ordinary, AreOrdinary, skips_ordinary}
 use Rattle.tangle_lexer.specs.Lexemes.{line_end_by}
 use Rattle.tangle_lexer.specs.Comments.{line_ends}
 use Rattle.tangle_lexer.specs.Quoted.{cut_tokens}
@@ -18,13 +19,13 @@ no_at : (b : Option ℕ) → holds_ordinary b ≡ true → holds at_sign b ≡ f
 no_at None h = refl
 no_at (Some b) h = not-false _ (or-false _ _ (or-false _ _ (or-false _ _ (or-false _ _ (or-false _ _ h).0).0).0).0).0
 
-pub line_ends-ordinary : (r : Region) → is_text r ≡ true → (n : ℕ) (text : List Cell) → AreOrdinary n text → line_ends r (drop n text) ≡ line_ends r text
+pub line_ends-ordinary : (r : Region) → skips_ordinary r ≡ true → (n : ℕ) (text : List Cell) → AreOrdinary n text → line_ends r (drop n text) ≡ line_ends r text
 line_ends-ordinary r is zero text h = refl
 line_ends-ordinary r is (suc n) [] h = refl
 line_ends-ordinary r is (suc n) (c ∷ cs) h =
     line_ends-ordinary r is n cs h.1 ∙ sym (rw (cell-one r c.byte (byte_at 0 cs) is h.0, no_line_end c.byte c.line h.0) refl)
 
-pub cut-ordinary : (ends : ℕ → List Cell → List Token) (r : Region) → is_text r ≡ true → (n start : ℕ) (text : List Cell) → AreOrdinary n text →
+pub cut-ordinary : (ends : ℕ → List Cell → List Token) (r : Region) → skips_ordinary r ≡ true → (n start : ℕ) (text : List Cell) → AreOrdinary n text →
     cut_tokens ends r 0 start (drop n text) ≡ cut_tokens ends r 0 start text
 cut-ordinary ends r is zero start text h = refl
 cut-ordinary ends r is (suc n) start [] h = refl

@@ -1,15 +1,15 @@
 -- Words, white space, signs and line ends of C text.
 use Rattle.std.proofs.Common.{◌≡◌, ◌<◌, ℕ, ◌==◌, Bool, true, false, ◌||◌, if◌then◌else◌, List, [], ◌∷◌, ◌++◌, length, drop, arith, Option, Some, None, option_to_list, subst, refl, ap, sym, ◌∙◌}
 use Rattle.std.specs.Option.{IfSome}
-use Rattle.tangle_lines.specs.Bytes.{is_white}
+use Rattle.tangle_lines.specs.Bytes.{at_sign, double_quote, is_white}
 use Rattle.tangle_lexer.specs.declared.modes.IncludeState.{IncludeState}
-use Rattle.tangle_lexer.specs.declared.token_kinds.TokenKind.TheVariants as token_kind
-use Rattle.tangle_text.specs.Bytes.{at_sign, slash, double_quote, apostrophe, less_sign, is_word_byte}
+use Rattle.tangle_lexer.specs.declared.lexeme_kinds.LexemeKind.TheVariants as lexeme_kind
+use Rattle.tangle_text.specs.Bytes.{slash, apostrophe, less_sign, is_word_byte}
 use Rattle.tangle_lexer.specs.declared.modes.Mode.{Mode}
 use Rattle.tangle_lexer.specs.declared.modes.Mode.TheVariants as mode
-use Rattle.tangle_lexer.specs.declared.modes.ScanState.{ScanState}
-use Rattle.tangle_lexer.specs.declared.simple.Simple.{Simple}
-use Rattle.tangle_lexer.specs.declared.simple.Simple.TheVariants as simple
+use Rattle.tangle_lexer.specs.declared.modes.LexerState.{LexerState}
+use Rattle.tangle_lexer.specs.declared.simple.SimpleLexeme.{SimpleLexeme}
+use Rattle.tangle_lexer.specs.declared.simple.SimpleLexeme.TheVariants as simple
 use Rattle.tangle_text.specs.Text.{Cell, byte_at}
 use Rattle.tangle_lexer.specs.Lexemes.{with_include}
 use Rattle.tangle_lexer.specs.Steps.{kind_by, occurrences_from, lexeme, lexeme_in, c_lexeme, macro_lexeme}
@@ -20,11 +20,11 @@ use Rattle.tangle_lexer.specs.Heads.{HasNoHead}
 use Rattle.tangle_lexer.proofs.lemmas.StepLemmas.{occurrences_from-step}
 
 -- what opens nothing reads alike in C parts and in macros
-pub lexeme-simple : (s : ScanState) (text : List Cell) (p : Simple) → IsSimple text p → is_c_text s.mode ≡ true → lexeme s text ≡ c_lexeme (simple_kind p) s text
+pub lexeme-simple : (s : LexerState) (text : List Cell) (p : SimpleLexeme) → IsSimple text p → is_c_text s.mode ≡ true → lexeme s text ≡ c_lexeme (simple_kind p) s text
 unfolding lexeme
 lexeme-simple s text p here h = go s.mode h
   where
-    alike : (p : Simple) → macro_lexeme (simple_kind p) s text ≡ c_lexeme (simple_kind p) s text
+    alike : (p : SimpleLexeme) → macro_lexeme (simple_kind p) s text ≡ c_lexeme (simple_kind p) s text
     alike simple.Word = refl
     alike simple.White = refl
     alike simple.Sign = refl
@@ -36,31 +36,18 @@ lexeme-simple s text p here h = go s.mode h
     go : (m : Mode) → is_c_text m ≡ true → lexeme_in m s text ≡ c_lexeme (simple_kind p) s text
     go mode.Limbo h = absurd (not-true h)
     go mode.Documentation h = absurd (not-true h)
-    go mode.CPart h = ap (λ k. c_lexeme k s text) (here.token_kind s.include)
-    go mode.Macro h = ap (λ k. macro_lexeme k s text) (here.token_kind s.include) ∙ alike p
-
--- the mode stays, no head comes and no name
-pub simple-mode : (p : Simple) (s : ScanState) (text : List Cell) → (c_lexeme (simple_kind p) s text).after.mode ≡ s.mode
-simple-mode simple.Word s text = refl
-simple-mode simple.White s text = refl
-simple-mode simple.Sign s text = refl
-simple-mode simple.LineEnd s text = refl
-
-pub simple-names : (p : Simple) (s : ScanState) (text : List Cell) → (c_lexeme (simple_kind p) s text).after.occurrences ≡ s.occurrences
-simple-names simple.Word s text = refl
-simple-names simple.White s text = refl
-simple-names simple.Sign s text = refl
-simple-names simple.LineEnd s text = refl
+    go mode.CPart h = ap (λ k. c_lexeme k s text) (here.lexeme_kind s.include)
+    go mode.Macro h = ap (λ k. macro_lexeme k s text) (here.lexeme_kind s.include) ∙ alike p
 
 -- all stays but how much of #include was read
-pub simple-after : (p : Simple) (inc : IncludeState) (s : ScanState) (text : List Cell) →
+pub simple-after : (p : SimpleLexeme) (inc : IncludeState) (s : LexerState) (text : List Cell) →
     (c_lexeme (simple_kind p) (with_include inc s) text).after ≡ with_include (c_lexeme (simple_kind p) (with_include inc s) text).after.include s
 simple-after simple.Word inc s text = refl
 simple-after simple.White inc s text = refl
 simple-after simple.Sign inc s text = refl
 simple-after simple.LineEnd inc s text = refl
 
-pub simple-again : (old new : List Token) (inc : IncludeState) (s state after : ScanState) (text rest : List Cell) (p : Simple) → state ≡ with_include inc s →
+pub simple-again : (old new : List Token) (inc : IncludeState) (s state after : LexerState) (text rest : List Cell) (p : SimpleLexeme) → state ≡ with_include inc s →
     IsRead old new text rest after (c_lexeme (simple_kind p) state text) →
     IsRead old new text rest (with_include after.include s) (c_lexeme (simple_kind p) (with_include inc s) text)
 simple-again old new inc s state after text rest p is read =
@@ -71,27 +58,28 @@ simple-again old new inc s state after text rest p is read =
       state = ap (λ t. with_include t.include s) again.state ∙ sym (simple-after p inc s text);
     }
 
-pub simple-none : (p : Simple) (s : ScanState) (text : List Cell) → (c_lexeme (simple_kind p) s text).name ≡ None
+-- it is no name, and no head comes
+pub simple-none : (p : SimpleLexeme) (s : LexerState) (text : List Cell) → (c_lexeme (simple_kind p) s text).occurrence ≡ None
 simple-none simple.Word s text = refl
 simple-none simple.White s text = refl
 simple-none simple.Sign s text = refl
 simple-none simple.LineEnd s text = refl
 
-pub simple-no_head : (p : Simple) (s : ScanState) (text : List Cell) → HasNoHead (c_lexeme (simple_kind p) s text).tokens
+pub simple-no_head : (p : SimpleLexeme) (s : LexerState) (text : List Cell) → HasNoHead (c_lexeme (simple_kind p) s text).tokens
 simple-no_head simple.Word s text = refl
 simple-no_head simple.White s text = refl
 simple-no_head simple.Sign s text = refl
 simple-no_head simple.LineEnd s text = refl
 
-pub simple-read : (old new : List Token) (s after : ScanState) (text rest : List Cell) (p : Simple) → IsSimple text p → is_c_text s.mode ≡ true →
+pub simple-read : (old new : List Token) (s after : LexerState) (text rest : List Cell) (p : SimpleLexeme) → IsSimple text p → is_c_text s.mode ≡ true →
     IsRead old new text rest after (c_lexeme (simple_kind p) s text) → IsRead old new text rest after (lexeme s text)
 simple-read old new s after text rest p here h read = subst (λ l. IsRead old new text rest after l) (sym (lexeme-simple s text p here h)) read
 
-pub simple-occurrences_from : (old new : List Token) (s after : ScanState) (text rest : List Cell) (p : Simple) → IsSimple text p → is_c_text s.mode ≡ true →
+pub simple-occurrences_from : (old new : List Token) (s after : LexerState) (text rest : List Cell) (p : SimpleLexeme) → IsSimple text p → is_c_text s.mode ≡ true →
     IsRead old new text rest after (c_lexeme (simple_kind p) s text) → occurrences_from after rest ≡ occurrences_from s text
 simple-occurrences_from old new s after text rest p here h read =
     let is = lexeme-simple s text p here h in
-    let none : (lexeme s text).name ≡ None = ap (λ l. l.name) is ∙ simple-none p s text in
+    let none : (lexeme s text).occurrence ≡ None = ap (λ l. l.occurrence) is ∙ simple-none p s text in
     rw (read.ahead, read.state, ← is) (sym (occurrences_from-step s text here.inside ∙ ap (λ n. option_to_list n ++ occurrences_from (lexeme s text).after (drop (lexeme s text).more (drop 1 text))) none))
 
 -- what begins with a byte that opens nothing longer
@@ -105,7 +93,7 @@ some-inside [] b h = cc
 some-inside (c ∷ cs) b h = omega arith
 
 closed-kind : (inc : IncludeState) (b : ℕ) (next : Option ℕ) → is_opener b ≡ false →
-    kind_by inc (Some b) next ≡ (if is_white b then token_kind.White else if is_word_byte b then token_kind.Word else token_kind.Other)
+    kind_by inc (Some b) next ≡ (if is_white b then lexeme_kind.White else if is_word_byte b then lexeme_kind.Word else lexeme_kind.Other)
 closed-kind inc b next h =
     let less = or-parts _ (b == less_sign) h in
     let apostrophes = or-parts _ (b == apostrophe) less.0 in
@@ -116,10 +104,10 @@ closed-kind inc b next h =
 pub simple-is : (text : List Cell) (b : ℕ) → byte_at 0 text ≡ Some b → IfSome (simple_of b) (λ simple. IsSimple text simple)
 simple-is text b is = by (is_opener b) refl (is_white b) refl (is_word_byte b) refl
   where
-    kind : (s : Simple) → is_opener b ≡ false → (if is_white b then token_kind.White else if is_word_byte b then token_kind.Word else token_kind.Other) ≡ simple_kind s → IsSimple text s
+    kind : (s : SimpleLexeme) → is_opener b ≡ false → (if is_white b then lexeme_kind.White else if is_word_byte b then lexeme_kind.Word else lexeme_kind.Other) ≡ simple_kind s → IsSimple text s
     kind s closed k = record {
       inside = some-inside text b is;
-      token_kind = λ inc. ap (λ x. kind_by inc x (byte_at 1 text)) is ∙ (closed-kind inc b (byte_at 1 text) closed ∙ k);
+      lexeme_kind = λ inc. ap (λ x. kind_by inc x (byte_at 1 text)) is ∙ (closed-kind inc b (byte_at 1 text) closed ∙ k);
       byte = λ other. rw is refl;
     }
 

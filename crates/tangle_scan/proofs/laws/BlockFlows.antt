@@ -1,4 +1,4 @@
--- The texts of a C part follow one another by lines, from the line on which its head ends.
+-- The source items of a C part follow one another by lines, from the line on which its head ends.
 use Rattle.std.proofs.Common.{ℕ, ◌+◌, Bool, true, false, List, [], ◌∷◌, subst}
 use Rattle.tangle_lexer.specs.declared.tokens.Token.{Token}
 use Rattle.tangle_lexer.specs.declared.tokens.Token.TheVariants as token
@@ -11,7 +11,7 @@ use Rattle.tangle_scan.proofs.laws.LineTruthLemmas.{Flows}
 
 abbrev pub kind_flows : ℕ → BlockKind → Block → Type 0
 kind_flows count (OfMacro line) p = Unit {0}
-kind_flows count (OfPiece name line) p = Flows count line p.tokens
+kind_flows count (OfPiece occurrence line) p = Flows count line p.tokens
 
 -- the tokens of a C part do
 abbrev pub BlockFlows : ℕ → Block → Type 0
@@ -27,14 +27,14 @@ module _ (width : ℕ → ℕ) (count : ℕ) where
   in_order-flows at (token.Section ∷ es) stays to ordered = tt
   in_order-flows at (token.MacroStart line ∷ es) stays to ordered = tt
   in_order-flows at (token.UnnamedPart line ∷ es) stays to ordered = tt
-  in_order-flows at (token.NamedPart name line ∷ es) stays to ordered = tt
-  in_order-flows at (token.Text kind s ∷ es) stays to ordered =
+  in_order-flows at (token.NamedPart occurrence line ∷ es) stays to ordered = tt
+  in_order-flows at (token.Span kind s ∷ es) stays to ordered =
       (ordered.0.line, (ordered.0.real, subst (λ l. Flows count l (body es)) ordered.0.line (in_order-flows (span_end s) es stays to ordered.1)))
   in_order-flows at (token.AsciiConstant value line ∷ es) stays to ordered = (ordered.0, (ordered.1.0, in_order-flows at es stays to ordered.1.1))
   in_order-flows at (token.LineEnd line ∷ es) stays to ordered =
       (ordered.0, subst (λ l. Flows count (l + 1) (body es)) ordered.0 (in_order-flows (point_at (line + 1) 0) es stays to ordered.1))
   in_order-flows at (token.QuoteBreak ∷ es) stays to ordered = in_order-flows (point_at (at.line + 1) 0) es stays to ordered
-  in_order-flows at (token.UseOf name line ∷ es) stays to ordered = in_order-flows (jumped at line) es stays to ordered.1
+  in_order-flows at (token.UseOf occurrence line ∷ es) stays to ordered = in_order-flows (jumped at line) es stays to ordered.1
   in_order-flows at (token.AllMacros line ∷ es) stays to ordered = (ordered.0, in_order-flows at es stays to ordered.1)
   in_order-flows at (_ ∷ es) stays to ordered = in_order-flows at es stays to ordered
 
@@ -44,12 +44,12 @@ module _ (width : ℕ → ℕ) (count : ℕ) where
   blocks-flow n from at (token.MacroStart line ∷ es) stays to ordered = (tt, blocks-flow n true (jumped at line) es stays to ordered.1)
   blocks-flow n from at (token.UnnamedPart line ∷ es) stays to ordered =
       (in_order-flows (jumped at line) es stays to ordered.1, blocks-flow n true (jumped at line) es stays to ordered.1)
-  blocks-flow n from at (token.NamedPart name line ∷ es) stays to ordered =
+  blocks-flow n from at (token.NamedPart occurrence line ∷ es) stays to ordered =
       (in_order-flows (jumped at line) es stays to ordered.1, blocks-flow n true (jumped at line) es stays to ordered.1)
-  blocks-flow n from at (token.Text kind s ∷ es) stays to ordered = blocks-flow n true (span_end s) es stays to (from-inside width count from _ ordered).1
+  blocks-flow n from at (token.Span kind s ∷ es) stays to ordered = blocks-flow n true (span_end s) es stays to (from-inside width count from _ ordered).1
   blocks-flow n from at (token.AsciiConstant value line ∷ es) stays to ordered = blocks-flow n true at es stays to (from-inside width count from _ ordered).1.1
   blocks-flow n from at (token.LineEnd line ∷ es) stays to ordered = blocks-flow n true (point_at (line + 1) 0) es stays to (from-inside width count from _ ordered).1
   blocks-flow n from at (token.QuoteBreak ∷ es) stays to ordered = blocks-flow n true (point_at (at.line + 1) 0) es stays to (from-inside width count from _ ordered)
-  blocks-flow n from at (token.UseOf name line ∷ es) stays to ordered = blocks-flow n true (jumped at line) es stays to (from-inside width count from _ ordered).1
+  blocks-flow n from at (token.UseOf occurrence line ∷ es) stays to ordered = blocks-flow n true (jumped at line) es stays to (from-inside width count from _ ordered).1
   blocks-flow n from at (token.AllMacros line ∷ es) stays to ordered = blocks-flow n true at es stays to (from-inside width count from _ ordered).1
   blocks-flow n from at (_ ∷ es) stays to ordered = blocks-flow n from at es stays to ordered

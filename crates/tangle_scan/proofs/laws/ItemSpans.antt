@@ -3,23 +3,23 @@ use Rattle.std.proofs.Common.{◌≡◌, ℕ, ◌+◌, Bool, true, false, List, 
 use Rattle.tangle_faults.specs.declared.faults.Origin.{Origin}
 use Rattle.tangle_text.specs.declared.spans.Span.{Span}
 use Rattle.tangle_lexer.specs.declared.tokens.Token.{Token}
-use Rattle.tangle_lexer.specs.declared.tokens.TextKind.TheVariants as text_kind
+use Rattle.tangle_lexer.specs.declared.tokens.SpanKind.TheVariants as span_kind
 use Rattle.tangle_lexer.specs.declared.tokens.Token.TheVariants as token
 use Rattle.tangle_scan.specs.declared.items.Item.{Item}
 use Rattle.tangle_scan.specs.declared.items.Item.TheVariants as item
-use Rattle.tangle_lines.specs.Reading.{Line, origin_at}
-use Rattle.tangle_scan.specs.Rules.{without_faults, would_merge, with_spaces, may_follow_name, with_space_behind, with_name_space, has_join, left_of_run, without_joins, blanks, goes_on, line_item, count_behind, items_by_origin, unmarked_items, part_items, without_front_gaps, macro_items}
+use Rattle.tangle_lines.specs.Reading.{SourceLine, origin_at}
+use Rattle.tangle_scan.specs.Rules.{without_faults, would_merge, with_spaces, may_follow_name, with_space_after, with_name_space, has_join, left_of_run, without_joins, blanks, goes_on, line_item, counted_after_line_end, items_by_origin, unmarked_items, part_items, without_front_gaps, macro_items}
 use Rattle.tangle_scan.specs.SourceOrder.{item_spans}
 use Rattle.tangle_scan.proofs.lemmas.Gaps.{AreGaps, gaps-append}
 
 abbrev pub token_spans : List Token → List Span
 token_spans [] = []
-token_spans (token.Text kind s ∷ es) = s ∷ token_spans es
+token_spans (token.Span kind s ∷ es) = s ∷ token_spans es
 token_spans (_ ∷ es) = token_spans es
 
 pub spans-append : (es fs : List Token) → token_spans (es ++ fs) ≡ token_spans es ++ token_spans fs
 spans-append [] fs = refl
-spans-append (token.Text kind s ∷ es) fs = ap (λ ss. s ∷ ss) (spans-append es fs)
+spans-append (token.Span kind s ∷ es) fs = ap (λ ss. s ∷ ss) (spans-append es fs)
 spans-append (_ ∷ es) fs = spans-append es fs
 
 -- the spans of a token before others
@@ -43,9 +43,9 @@ with_spaces-spans (e ∷ f ∷ es) =
     spans-first e ((if would_merge e f then token.White ∷ [] else []) ++ with_spaces (f ∷ es)) (f ∷ es)
     (white-spans (would_merge e f) (with_spaces (f ∷ es)) ∙ with_spaces-spans (f ∷ es))
 
-with_space_behind-spans : (texts : List (List ℕ)) (e : Token) (es : List Token) → token_spans (with_space_behind texts e es) ≡ token_spans (e ∷ es)
-with_space_behind-spans texts e [] = refl
-with_space_behind-spans texts e (f ∷ es) = spans-first e ((if may_follow_name texts f then [] else token.White ∷ []) ++ f ∷ es) (f ∷ es) (by (may_follow_name texts f))
+with_space_after-spans : (texts : List (List ℕ)) (e : Token) (es : List Token) → token_spans (with_space_after texts e es) ≡ token_spans (e ∷ es)
+with_space_after-spans texts e [] = refl
+with_space_after-spans texts e (f ∷ es) = spans-first e ((if may_follow_name texts f then [] else token.White ∷ []) ++ f ∷ es) (f ∷ es) (by (may_follow_name texts f))
   where
     by : (b : Bool) → token_spans (cond b [] (token.White ∷ []) ++ f ∷ es) ≡ token_spans (f ∷ es)
     by true = refl
@@ -56,7 +56,7 @@ with_name_space-spans texts [] = refl
 with_name_space-spans texts (token.White ∷ es) = with_name_space-spans texts es
 with_name_space-spans texts (token.LineEnd line ∷ es) = with_name_space-spans texts es
 with_name_space-spans texts (token.Join ∷ es) = with_name_space-spans texts es
-with_name_space-spans texts (e ∷ es) = with_space_behind-spans texts e es
+with_name_space-spans texts (e ∷ es) = with_space_after-spans texts e es
 
 gap-spans : (run : List Token) → AreGaps run → token_spans run ≡ []
 gap-spans [] g = refl
@@ -89,32 +89,32 @@ blanks-spans before white (token.LineEnd line ∷ es) = blanks-spans false false
 blanks-spans before white (e ∷ es) =
     white-spans (before && white) (e ∷ blanks true false es) ∙ spans-first e (blanks true false es) es (blanks-spans true false es)
 
-line_item-spans : (lines : List Line) (count : Origin) (line : ℕ) (ss : List Span) (items : List Item) → item_spans items ≡ ss → item_spans (line_item lines count line ∷ items) ≡ ss
-line_item-spans lines count line ss items h = by (goes_on lines count line)
+line_item-spans : (lines : List SourceLine) (counted : Origin) (line : ℕ) (ss : List Span) (items : List Item) → item_spans items ≡ ss → item_spans (line_item lines counted line ∷ items) ≡ ss
+line_item-spans lines counted line ss items h = by (goes_on lines counted line)
   where
     by : (b : Bool) → item_spans (cond b item.LineEnd (item.LineMark (origin_at lines (line + 1))) ∷ items) ≡ ss
     by true = h
     by false = h
 
-items_by_origin-spans : (lines : List Line) (count : Origin) (es : List Token) → item_spans (items_by_origin lines count es) ≡ token_spans es
-items_by_origin-spans lines count [] = refl
-items_by_origin-spans lines count (token.LineEnd line ∷ es) =
-    line_item-spans lines count line _ _ (items_by_origin-spans lines (count_behind lines count line) es)
-items_by_origin-spans lines count (token.UseOf name line ∷ es) = items_by_origin-spans lines _ es
-items_by_origin-spans lines count (token.AllMacros line ∷ es) = items_by_origin-spans lines _ es
-items_by_origin-spans lines count (token.QuoteBreak ∷ es) = items_by_origin-spans lines _ es
-items_by_origin-spans lines count (token.Text text_kind.Word s ∷ es) = ap (λ ss. s ∷ ss) (items_by_origin-spans lines count es)
-items_by_origin-spans lines count (token.Text text_kind.Sign s ∷ es) = ap (λ ss. s ∷ ss) (items_by_origin-spans lines count es)
-items_by_origin-spans lines count (token.Text text_kind.Quoted s ∷ es) = ap (λ ss. s ∷ ss) (items_by_origin-spans lines count es)
-items_by_origin-spans lines count (token.Text text_kind.Verbatim s ∷ es) = ap (λ ss. s ∷ ss) (items_by_origin-spans lines count es)
-items_by_origin-spans lines count (_ ∷ es) = items_by_origin-spans lines count es
+items_by_origin-spans : (lines : List SourceLine) (counted : Origin) (es : List Token) → item_spans (items_by_origin lines counted es) ≡ token_spans es
+items_by_origin-spans lines counted [] = refl
+items_by_origin-spans lines counted (token.LineEnd line ∷ es) =
+    line_item-spans lines counted line _ _ (items_by_origin-spans lines (counted_after_line_end lines counted line) es)
+items_by_origin-spans lines counted (token.UseOf occurrence line ∷ es) = items_by_origin-spans lines _ es
+items_by_origin-spans lines counted (token.AllMacros line ∷ es) = items_by_origin-spans lines _ es
+items_by_origin-spans lines counted (token.QuoteBreak ∷ es) = items_by_origin-spans lines _ es
+items_by_origin-spans lines counted (token.Span span_kind.Word s ∷ es) = ap (λ ss. s ∷ ss) (items_by_origin-spans lines counted es)
+items_by_origin-spans lines counted (token.Span span_kind.Sign s ∷ es) = ap (λ ss. s ∷ ss) (items_by_origin-spans lines counted es)
+items_by_origin-spans lines counted (token.Span span_kind.Quoted s ∷ es) = ap (λ ss. s ∷ ss) (items_by_origin-spans lines counted es)
+items_by_origin-spans lines counted (token.Span span_kind.Verbatim s ∷ es) = ap (λ ss. s ∷ ss) (items_by_origin-spans lines counted es)
+items_by_origin-spans lines counted (_ ∷ es) = items_by_origin-spans lines counted es
 
 unmarked_items-spans : (es : List Token) → item_spans (unmarked_items es) ≡ token_spans es
 unmarked_items-spans [] = refl
-unmarked_items-spans (token.Text text_kind.Word s ∷ es) = ap (λ ss. s ∷ ss) (unmarked_items-spans es)
-unmarked_items-spans (token.Text text_kind.Sign s ∷ es) = ap (λ ss. s ∷ ss) (unmarked_items-spans es)
-unmarked_items-spans (token.Text text_kind.Quoted s ∷ es) = ap (λ ss. s ∷ ss) (unmarked_items-spans es)
-unmarked_items-spans (token.Text text_kind.Verbatim s ∷ es) = ap (λ ss. s ∷ ss) (unmarked_items-spans es)
+unmarked_items-spans (token.Span span_kind.Word s ∷ es) = ap (λ ss. s ∷ ss) (unmarked_items-spans es)
+unmarked_items-spans (token.Span span_kind.Sign s ∷ es) = ap (λ ss. s ∷ ss) (unmarked_items-spans es)
+unmarked_items-spans (token.Span span_kind.Quoted s ∷ es) = ap (λ ss. s ∷ ss) (unmarked_items-spans es)
+unmarked_items-spans (token.Span span_kind.Verbatim s ∷ es) = ap (λ ss. s ∷ ss) (unmarked_items-spans es)
 unmarked_items-spans (_ ∷ es) = unmarked_items-spans es
 
 without_front-spans : (es : List Token) → token_spans (without_front_gaps es) ≡ token_spans es
@@ -124,7 +124,7 @@ without_front-spans (token.LineEnd line ∷ es) = without_front-spans es
 without_front-spans (_ ∷ es) = refl
 
 -- the items of a C part have the spans of its tokens
-pub part-spans : (lines : List Line) (line : ℕ) (es : List Token) → item_spans (part_items lines line es) ≡ token_spans es
+pub part-spans : (lines : List SourceLine) (line : ℕ) (es : List Token) → item_spans (part_items lines line es) ≡ token_spans es
 part-spans lines line es =
     let with_white_space : List Token = with_spaces (without_faults es) in
     items_by_origin-spans lines (origin_at lines line) (blanks false false (without_joins [] with_white_space))

@@ -5,23 +5,23 @@ use Rattle.std.specs.List.{AllZip}
 use Rattle.std.proofs.lemmas.Bool.Decides.{eqb_tells, leb_tells}
 use Rattle.tangle_faults.specs.declared.faults.Origin.{Origin}
 use Rattle.tangle_lexer.specs.declared.tokens.Token.{Token}
-use Rattle.tangle_lexer.specs.declared.tokens.TextKind.TheVariants as text_kind
+use Rattle.tangle_lexer.specs.declared.tokens.SpanKind.TheVariants as span_kind
 use Rattle.tangle_lexer.specs.declared.tokens.Token.TheVariants as token
 use Rattle.tangle_scan.specs.declared.items.Item.{Item}
 use Rattle.tangle_scan.specs.declared.items.Item.TheVariants as item
-use Rattle.tangle_lines.specs.Reading.{Line, origin_at}
-use Rattle.tangle_scan.specs.Rules.{next_line, count_behind, goes_on, same_origin, items_by_origin, text_item, blanks, without_joins, left_of_run, has_join, is_gap, with_spaces, would_merge, without_faults, part_items}
-use Rattle.tangle_scan.specs.LineTruth.{CountedItem, counted_items, Location, locations, is_on, IsOwn, IsAtItsLine, part_locations}
+use Rattle.tangle_lines.specs.Reading.{SourceLine, origin_at}
+use Rattle.tangle_scan.specs.Rules.{next_line, counted_after_line_end, goes_on, same_origin, items_by_origin, span_item, blanks, without_joins, left_of_run, has_join, is_gap, with_spaces, would_merge, without_faults, part_items}
+use Rattle.tangle_scan.specs.LineTruth.{CountedItem, counted_items, Location, locations, stretch_after_run, IsOwn, IsAtItsLine, part_locations}
 use Rattle.tangle_scan.proofs.lemmas.Gaps.{AreGaps, gaps-append}
 
--- The texts among the tokens are on the lines that are reached, from a line on; all are lines of the source.
+-- The source items of the tokens are on the lines that are reached, from a line on; all are lines of the source.
 abbrev pub Flows : ℕ → ℕ → List Token → Type 0
 Flows count line [] = Unit {0}
 Flows count line (token.LineEnd at ∷ es) = (at ≡ line) × Flows count (line + 1) es
 Flows count line (token.QuoteBreak ∷ es) = Flows count (line + 1) es
-Flows count line (token.UseOf name at ∷ es) = Flows count at es
+Flows count line (token.UseOf occurrence at ∷ es) = Flows count at es
 Flows count line (token.AllMacros at ∷ es) = (at ≡ line) × Flows count line es
-Flows count line (token.Text kind s ∷ es) = (s.line ≡ line) × ((line < count) × Flows count line es)
+Flows count line (token.Span kind s ∷ es) = (s.line ≡ line) × ((line < count) × Flows count line es)
 Flows count line (token.AsciiConstant b at ∷ es) = (at ≡ line) × ((line < count) × Flows count line es)
 Flows count line (_ ∷ es) = Flows count line es
 
@@ -31,9 +31,9 @@ flows-first : (count : ℕ) (e : Token) (es fs : List Token) → ((line : ℕ) �
     → (line : ℕ) → Flows count line (e ∷ es) → Flows count line (e ∷ fs)
 flows-first count (token.LineEnd at) es fs h line f = (f.0, h (line + 1) f.1)
 flows-first count token.QuoteBreak es fs h line f = h (line + 1) f
-flows-first count (token.UseOf name at) es fs h line f = h at f
+flows-first count (token.UseOf occurrence at) es fs h line f = h at f
 flows-first count (token.AllMacros at) es fs h line f = (f.0, h line f.1)
-flows-first count (token.Text kind s) es fs h line f = (f.0, (f.1.0, h line f.1.1))
+flows-first count (token.Span kind s) es fs h line f = (f.0, (f.1.0, h line f.1.1))
 flows-first count (token.AsciiConstant b at) es fs h line f = (f.0, (f.1.0, h line f.1.1))
 flows-first count _ es fs h line f = h line f
 
@@ -58,11 +58,11 @@ same-first token.Join es fs h s j b = h s true b
 same-first token.White es fs h s j b = h s j b
 same-first (token.LineEnd line) es fs h s j b = h s j true
 same-first token.QuoteBreak es fs h s j b = h true false false
-same-first (token.UseOf name line) es fs h s j b = h false false false
+same-first (token.UseOf occurrence line) es fs h s j b = h false false false
 same-first (token.AllMacros line) es fs h s j b = h false false false
-same-first (token.Text kind span) es fs h s j b = ap (λ ts. record { item = text_item kind span; line = span.line; in_stretch = is_on s j b } ∷ ts) (h (is_on s j b) false false)
-same-first (token.AsciiConstant v line) es fs h s j b = ap (λ ts. record { item = item.Code v; line = line; in_stretch = is_on s j b } ∷ ts) (h (is_on s j b) false false)
-same-first _ es fs h s j b = h (is_on s j b) false false
+same-first (token.Span kind span) es fs h s j b = ap (λ ts. record { item = span_item kind span; line = span.line; in_stretch = stretch_after_run s j b } ∷ ts) (h (stretch_after_run s j b) false false)
+same-first (token.AsciiConstant v line) es fs h s j b = ap (λ ts. record { item = item.Code v; line = line; in_stretch = stretch_after_run s j b } ∷ ts) (h (stretch_after_run s j b) false false)
+same-first _ es fs h s j b = h (stretch_after_run s j b) false false
 
 white-same : (w : Bool) (es : List Token) (s j b : Bool) → locations s j b ((if w then token.White ∷ [] else []) ++ es) ≡ locations s j b es
 white-same true es s j b = refl
@@ -76,20 +76,20 @@ with_spaces-same (e ∷ f ∷ es) s j b =
     (λ s j b. white-same (would_merge e f) (with_spaces (f ∷ es)) s j b ∙ with_spaces-same (f ∷ es) s j b) s j b
 
 -- whether a run has a line end
-abbrev has_break : List Token → Bool
-has_break [] = false
-has_break (token.LineEnd line ∷ es) = true
-has_break (e ∷ es) = has_break es
+abbrev has_line_end : List Token → Bool
+has_line_end [] = false
+has_line_end (token.LineEnd line ∷ es) = true
+has_line_end (e ∷ es) = has_line_end es
 
-no_break-append : (run : List Token) (e : Token) → has_break (e ∷ []) ≡ false → has_break (run ++ e ∷ []) ≡ has_break run
-no_break-append [] e h = h
-no_break-append (token.LineEnd line ∷ run) e h = refl
-no_break-append (_ ∷ run) e h = no_break-append run e h
+no_line_end-append : (run : List Token) (e : Token) → has_line_end (e ∷ []) ≡ false → has_line_end (run ++ e ∷ []) ≡ has_line_end run
+no_line_end-append [] e h = h
+no_line_end-append (token.LineEnd line ∷ run) e h = refl
+no_line_end-append (_ ∷ run) e h = no_line_end-append run e h
 
-break-append : (run : List Token) (at : ℕ) → has_break (run ++ token.LineEnd at ∷ []) ≡ true
-break-append [] at = refl
-break-append (token.LineEnd line ∷ run) at = refl
-break-append (_ ∷ run) at = break-append run at
+line_end-append : (run : List Token) (at : ℕ) → has_line_end (run ++ token.LineEnd at ∷ []) ≡ true
+line_end-append [] at = refl
+line_end-append (token.LineEnd line ∷ run) at = refl
+line_end-append (_ ∷ run) at = line_end-append run at
 
 no_join-append : (run : List Token) (e : Token) → has_join (e ∷ []) ≡ false → has_join (run ++ e ∷ []) ≡ has_join run
 no_join-append [] e h = h
@@ -101,28 +101,28 @@ join-append [] = refl
 join-append (token.Join ∷ run) = refl
 join-append (_ ∷ run) = join-append run
 
--- the line behind a run
-abbrev line_behind : ℕ → List Token → ℕ
-line_behind line [] = line
-line_behind line (token.LineEnd at ∷ es) = line_behind (line + 1) es
-line_behind line (_ ∷ es) = line_behind line es
+-- the line after a run
+abbrev line_after_tokens : ℕ → List Token → ℕ
+line_after_tokens line [] = line
+line_after_tokens line (token.LineEnd at ∷ es) = line_after_tokens (line + 1) es
+line_after_tokens line (_ ∷ es) = line_after_tokens line es
 
-line_behind-same : (line : ℕ) (run : List Token) → AreGaps run → has_break run ≡ false → line_behind line run ≡ line
-line_behind-same line [] g h = refl
-line_behind-same line (token.Join ∷ run) g h = line_behind-same line run g h
-line_behind-same line (token.White ∷ run) g h = line_behind-same line run g h
-line_behind-same line (token.LineEnd at ∷ run) g h = cc
-line_behind-same line (_ ∷ run) g h = absurd g
+line_after_tokens-same : (line : ℕ) (run : List Token) → AreGaps run → has_line_end run ≡ false → line_after_tokens line run ≡ line
+line_after_tokens-same line [] g h = refl
+line_after_tokens-same line (token.Join ∷ run) g h = line_after_tokens-same line run g h
+line_after_tokens-same line (token.White ∷ run) g h = line_after_tokens-same line run g h
+line_after_tokens-same line (token.LineEnd at ∷ run) g h = cc
+line_after_tokens-same line (_ ∷ run) g h = absurd g
 
-flows-behind : (count line : ℕ) (run es : List Token) → AreGaps run → Flows count line (run ++ es) → Flows count (line_behind line run) es
-flows-behind count line [] es g f = f
-flows-behind count line (token.Join ∷ run) es g f = flows-behind count line run es g f
-flows-behind count line (token.White ∷ run) es g f = flows-behind count line run es g f
-flows-behind count line (token.LineEnd at ∷ run) es g f = flows-behind count (line + 1) run es g f.1
-flows-behind count line (_ ∷ run) es g f = absurd g
+flows-after : (count line : ℕ) (run es : List Token) → AreGaps run → Flows count line (run ++ es) → Flows count (line_after_tokens line run) es
+flows-after count line [] es g f = f
+flows-after count line (token.Join ∷ run) es g f = flows-after count line run es g f
+flows-after count line (token.White ∷ run) es g f = flows-after count line run es g f
+flows-after count line (token.LineEnd at ∷ run) es g f = flows-after count (line + 1) run es g f.1
+flows-after count line (_ ∷ run) es g f = absurd g
 
 -- a token that is no gap closes the run before it
-locations-closed : (e : Token) (es : List Token) (s j b : Bool) → is_gap e ≡ false → locations s j b (e ∷ es) ≡ locations (is_on s j b) false false (e ∷ es)
+locations-closed : (e : Token) (es : List Token) (s j b : Bool) → is_gap e ≡ false → locations s j b (e ∷ es) ≡ locations (stretch_after_run s j b) false false (e ∷ es)
 locations-closed token.Join es s j b h = cc
 locations-closed token.White es s j b h = cc
 locations-closed (token.LineEnd line) es s j b h = cc
@@ -139,140 +139,140 @@ same_origin-either p q =
       | inr f ↦ rw f.0 refl
     ]
 
--- behind a line end the count is the origin of the next line, if there is one
-count_behind-next : (lines : List Line) (count : Origin) (line : ℕ) → line + 1 < length lines → origin_at lines (line + 1) ≡ count_behind lines count line
-count_behind-next lines count line h =
+-- after a line end the counted origin is that of the next line, if there is one
+counted_after_line_end-next : (lines : List SourceLine) (counted : Origin) (line : ℕ) → line + 1 < length lines → origin_at lines (line + 1) ≡ counted_after_line_end lines counted line
+counted_after_line_end-next lines counted line h =
     elim (leb_tells (length lines) (line + 1)) [
       | inl over ↦ absurd (omega (arith, over.1))
-      | inr under ↦ rw under.0 (sym (same_origin-either (origin_at lines (line + 1)) (next_line count)))
+      | inr under ↦ rw under.0 (sym (same_origin-either (origin_at lines (line + 1)) (next_line counted)))
     ]
 
-module _ (lines : List Line) where
+module _ (lines : List SourceLine) where
   -- the origins of what rules 4 and 5 make of tokens
   abbrev seen : Origin → List Token → List CountedItem
-  seen count es = counted_items (Some count) (items_by_origin lines count es)
+  seen counted es = counted_items (Some counted) (items_by_origin lines counted es)
 
-  seen-break : (count : Origin) (line : ℕ) (es : List Token) → seen count (token.LineEnd line ∷ es) ≡ seen (count_behind lines count line) es
-  seen-break count line es = by (goes_on lines count line)
+  seen-line_end : (counted : Origin) (line : ℕ) (es : List Token) → seen counted (token.LineEnd line ∷ es) ≡ seen (counted_after_line_end lines counted line) es
+  seen-line_end counted line es = by (goes_on lines counted line)
     where
       by : (b : Bool)
-          → counted_items (Some count) (cond b item.LineEnd (item.LineMark (origin_at lines (line + 1))) ∷ items_by_origin lines (cond b (next_line count) (origin_at lines (line + 1))) es)
-          ≡ seen (cond b (next_line count) (origin_at lines (line + 1))) es
+          → counted_items (Some counted) (cond b item.LineEnd (item.LineMark (origin_at lines (line + 1))) ∷ items_by_origin lines (cond b (next_line counted) (origin_at lines (line + 1))) es)
+          ≡ seen (cond b (next_line counted) (origin_at lines (line + 1))) es
       by true = refl
       by false = refl
 
-  seen-first : (e : Token) (es fs : List Token) → ((count : Origin) → seen count es ≡ seen count fs) → (count : Origin) → seen count (e ∷ es) ≡ seen count (e ∷ fs)
-  seen-first (token.LineEnd line) es fs h count = seen-break count line es ∙ h (count_behind lines count line) ∙ sym (seen-break count line fs)
-  seen-first (token.UseOf name line) es fs h count = h (origin_at lines line)
-  seen-first (token.AllMacros line) es fs h count = h (origin_at lines line)
-  seen-first token.QuoteBreak es fs h count = h (next_line count)
-  seen-first (token.Text text_kind.Word s) es fs h count = ap (λ ps. record { item = item.Word s; origin = Some count } ∷ ps) (h count)
-  seen-first (token.Text text_kind.Sign s) es fs h count = ap (λ ps. record { item = item.Sign s; origin = Some count } ∷ ps) (h count)
-  seen-first (token.Text text_kind.Quoted s) es fs h count = ap (λ ps. record { item = item.Quoted s; origin = Some count } ∷ ps) (h count)
-  seen-first (token.Text text_kind.Verbatim s) es fs h count = ap (λ ps. record { item = item.Verbatim s; origin = Some count } ∷ ps) (h count)
-  seen-first (token.AsciiConstant b line) es fs h count = ap (λ ps. record { item = item.Code b; origin = Some count } ∷ ps) (h count)
-  seen-first _ es fs h count = h count
+  seen-first : (e : Token) (es fs : List Token) → ((counted : Origin) → seen counted es ≡ seen counted fs) → (counted : Origin) → seen counted (e ∷ es) ≡ seen counted (e ∷ fs)
+  seen-first (token.LineEnd line) es fs h counted = seen-line_end counted line es ∙ h (counted_after_line_end lines counted line) ∙ sym (seen-line_end counted line fs)
+  seen-first (token.UseOf occurrence line) es fs h counted = h (origin_at lines line)
+  seen-first (token.AllMacros line) es fs h counted = h (origin_at lines line)
+  seen-first token.QuoteBreak es fs h counted = h (next_line counted)
+  seen-first (token.Span span_kind.Word s) es fs h counted = ap (λ ps. record { item = item.Word s; origin = Some counted } ∷ ps) (h counted)
+  seen-first (token.Span span_kind.Sign s) es fs h counted = ap (λ ps. record { item = item.Sign s; origin = Some counted } ∷ ps) (h counted)
+  seen-first (token.Span span_kind.Quoted s) es fs h counted = ap (λ ps. record { item = item.Quoted s; origin = Some counted } ∷ ps) (h counted)
+  seen-first (token.Span span_kind.Verbatim s) es fs h counted = ap (λ ps. record { item = item.Verbatim s; origin = Some counted } ∷ ps) (h counted)
+  seen-first (token.AsciiConstant b line) es fs h counted = ap (λ ps. record { item = item.Code b; origin = Some counted } ∷ ps) (h counted)
+  seen-first _ es fs h counted = h counted
 
-  -- rule 3 moves no text
-  blanks-seen : (before white : Bool) (es : List Token) (count : Origin) → seen count (blanks before white es) ≡ seen count es
-  blanks-seen before white [] count = refl
-  blanks-seen before white (token.White ∷ es) count = blanks-seen before true es count
-  blanks-seen before white (token.LineEnd line ∷ es) count =
-      seen-break count line (blanks false false es) ∙ blanks-seen false false es (count_behind lines count line) ∙ sym (seen-break count line es)
-  blanks-seen before white (e ∷ es) count = blank (before && white) ∙ seen-first e (blanks true false es) es (blanks-seen true false es) count
+  -- rule 3 moves no source item
+  blanks-seen : (before white : Bool) (es : List Token) (counted : Origin) → seen counted (blanks before white es) ≡ seen counted es
+  blanks-seen before white [] counted = refl
+  blanks-seen before white (token.White ∷ es) counted = blanks-seen before true es counted
+  blanks-seen before white (token.LineEnd line ∷ es) counted =
+      seen-line_end counted line (blanks false false es) ∙ blanks-seen false false es (counted_after_line_end lines counted line) ∙ sym (seen-line_end counted line es)
+  blanks-seen before white (e ∷ es) counted = blank (before && white) ∙ seen-first e (blanks true false es) es (blanks-seen true false es) counted
     where
-      blank : (b : Bool) → seen count ((if b then token.White ∷ [] else []) ++ e ∷ blanks true false es) ≡ seen count (e ∷ blanks true false es)
+      blank : (b : Bool) → seen counted ((if b then token.White ∷ [] else []) ++ e ∷ blanks true false es) ≡ seen counted (e ∷ blanks true false es)
       blank true = refl
       blank false = refl
 
-  -- outside a stretch the count is the origin of the line that is reached
+  -- outside a stretch the counted origin is that of the line that is reached
   abbrev IsCounted : Origin → Bool → ℕ → Type 0
-  IsCounted count stretch line = stretch ≡ false → line < length lines → count ≡ origin_at lines line
+  IsCounted counted stretch line = stretch ≡ false → line < length lines → counted ≡ origin_at lines line
 
-  -- the texts among tokens are where they should, after rules 4 and 5
-  abbrev True : Origin → List Token → List Location → Type 0
-  True count es ts = AllZip (IsOwn lines) (seen count es) ts
+  -- the source items of tokens are where they should be, after rules 4 and 5
+  abbrev AreAtTheirLines : Origin → List Token → List Location → Type 0
+  AreAtTheirLines counted es ts = AllZip (IsOwn lines) (seen counted es) ts
 
-  own : (count : Origin) (stretch : Bool) (line at : ℕ) (i : Item) → at ≡ line → IsCounted count stretch line → line < length lines
-      → IsOwn lines (record { item = i; origin = Some count }) (record { item = i; line = at; in_stretch = stretch })
-  own count stretch line at i e here inside = record { item = refl; line = omega (arith, e, inside); origin = λ out. ap Some (here out inside ∙ ap (origin_at lines) (sym e)) }
+  own : (counted : Origin) (stretch : Bool) (line at : ℕ) (i : Item) → at ≡ line → IsCounted counted stretch line → line < length lines
+      → IsOwn lines (record { item = i; origin = Some counted }) (record { item = i; line = at; in_stretch = stretch })
+  own counted stretch line at i e here inside = record { item = refl; line = omega (arith, e, inside); origin = λ out. ap Some (here out inside ∙ ap (origin_at lines) (sym e)) }
 
   -- one token that is no gap, and what follows it
-  true-first : (e : Token) (es fs : List Token) (count : Origin) (stretch : Bool) (line : ℕ) → is_gap e ≡ false → IsCounted count stretch line → Flows (length lines) line (e ∷ es)
-      → ((c : Origin) (s : Bool) (l : ℕ) → IsCounted c s l → Flows (length lines) l es → True c fs (locations s false false es))
-      → True count (e ∷ fs) (locations stretch false false (e ∷ es))
-  true-first token.Join es fs count stretch line gap here flows next = cc
-  true-first token.White es fs count stretch line gap here flows next = cc
-  true-first (token.LineEnd at) es fs count stretch line gap here flows next = cc
-  true-first token.QuoteBreak es fs count stretch line gap here flows next = next (next_line count) true (line + 1) (λ e. absurd cc) flows
-  true-first (token.UseOf name at) es fs count stretch line gap here flows next = next (origin_at lines at) false at (λ e i. refl) flows
-  true-first (token.AllMacros at) es fs count stretch line gap here flows next = next (origin_at lines at) false line (λ e i. ap (origin_at lines) flows.0) flows.1
-  true-first (token.Text text_kind.Word s) es fs count stretch line gap here flows next =
-      (own count stretch line s.line (item.Word s) flows.0 here flows.1.0, next count stretch line here flows.1.1)
-  true-first (token.Text text_kind.Sign s) es fs count stretch line gap here flows next =
-      (own count stretch line s.line (item.Sign s) flows.0 here flows.1.0, next count stretch line here flows.1.1)
-  true-first (token.Text text_kind.Quoted s) es fs count stretch line gap here flows next =
-      (own count stretch line s.line (item.Quoted s) flows.0 here flows.1.0, next count stretch line here flows.1.1)
-  true-first (token.Text text_kind.Verbatim s) es fs count stretch line gap here flows next =
-      (own count stretch line s.line (item.Verbatim s) flows.0 here flows.1.0, next count stretch line here flows.1.1)
-  true-first (token.AsciiConstant b at) es fs count stretch line gap here flows next =
-      (own count stretch line at (item.Code b) flows.0 here flows.1.0, next count stretch line here flows.1.1)
-  true-first _ es fs count stretch line gap here flows next = next count stretch line here flows
+  true-first : (e : Token) (es fs : List Token) (counted : Origin) (stretch : Bool) (line : ℕ) → is_gap e ≡ false → IsCounted counted stretch line → Flows (length lines) line (e ∷ es)
+      → ((c : Origin) (s : Bool) (l : ℕ) → IsCounted c s l → Flows (length lines) l es → AreAtTheirLines c fs (locations s false false es))
+      → AreAtTheirLines counted (e ∷ fs) (locations stretch false false (e ∷ es))
+  true-first token.Join es fs counted stretch line gap here flows next = cc
+  true-first token.White es fs counted stretch line gap here flows next = cc
+  true-first (token.LineEnd at) es fs counted stretch line gap here flows next = cc
+  true-first token.QuoteBreak es fs counted stretch line gap here flows next = next (next_line counted) true (line + 1) (λ e. absurd cc) flows
+  true-first (token.UseOf occurrence at) es fs counted stretch line gap here flows next = next (origin_at lines at) false at (λ e i. refl) flows
+  true-first (token.AllMacros at) es fs counted stretch line gap here flows next = next (origin_at lines at) false line (λ e i. ap (origin_at lines) flows.0) flows.1
+  true-first (token.Span span_kind.Word s) es fs counted stretch line gap here flows next =
+      (own counted stretch line s.line (item.Word s) flows.0 here flows.1.0, next counted stretch line here flows.1.1)
+  true-first (token.Span span_kind.Sign s) es fs counted stretch line gap here flows next =
+      (own counted stretch line s.line (item.Sign s) flows.0 here flows.1.0, next counted stretch line here flows.1.1)
+  true-first (token.Span span_kind.Quoted s) es fs counted stretch line gap here flows next =
+      (own counted stretch line s.line (item.Quoted s) flows.0 here flows.1.0, next counted stretch line here flows.1.1)
+  true-first (token.Span span_kind.Verbatim s) es fs counted stretch line gap here flows next =
+      (own counted stretch line s.line (item.Verbatim s) flows.0 here flows.1.0, next counted stretch line here flows.1.1)
+  true-first (token.AsciiConstant b at) es fs counted stretch line gap here flows next =
+      (own counted stretch line at (item.Code b) flows.0 here flows.1.0, next counted stretch line here flows.1.1)
+  true-first _ es fs counted stretch line gap here flows next = next counted stretch line here flows
 
   -- a run that stays
-  kept-true : (run es fs : List Token) (ts : Bool → List Location) (count : Origin) (stretch : Bool) (line : ℕ) → AreGaps run → IsCounted count stretch line → Flows (length lines) line (run ++ es)
-      → ((c : Origin) (s : Bool) (l : ℕ) → IsCounted c s l → Flows (length lines) l es → True c fs (ts s))
-      → True count (run ++ fs) (ts (is_on stretch false (has_break run)))
-  kept-true [] es fs ts count stretch line gaps here flows next = next count stretch line here flows
-  kept-true (token.Join ∷ run) es fs ts count stretch line gaps here flows next = kept-true run es fs ts count stretch line gaps here flows next
-  kept-true (token.White ∷ run) es fs ts count stretch line gaps here flows next = kept-true run es fs ts count stretch line gaps here flows next
-  kept-true (token.LineEnd at ∷ run) es fs ts count stretch line gaps here flows next =
-      let behind : IsCounted (count_behind lines count at) false (line + 1) =
-      λ out inside. sym (ap (λ l. origin_at lines (l + 1)) (sym flows.0) ∙ count_behind-next lines count at (omega (arith, flows.0, inside))) in
-      let rest : True (count_behind lines count at) (run ++ fs) (ts (is_on false false (has_break run))) =
-      kept-true run es fs ts (count_behind lines count at) false (line + 1) gaps behind flows.1 next in
-      rw (seen-break count at (run ++ fs)) (subst (λ b. True (count_behind lines count at) (run ++ fs) (ts b)) (off (has_break run)) rest)
+  kept-true : (run es fs : List Token) (ts : Bool → List Location) (counted : Origin) (stretch : Bool) (line : ℕ) → AreGaps run → IsCounted counted stretch line → Flows (length lines) line (run ++ es)
+      → ((c : Origin) (s : Bool) (l : ℕ) → IsCounted c s l → Flows (length lines) l es → AreAtTheirLines c fs (ts s))
+      → AreAtTheirLines counted (run ++ fs) (ts (stretch_after_run stretch false (has_line_end run)))
+  kept-true [] es fs ts counted stretch line gaps here flows next = next counted stretch line here flows
+  kept-true (token.Join ∷ run) es fs ts counted stretch line gaps here flows next = kept-true run es fs ts counted stretch line gaps here flows next
+  kept-true (token.White ∷ run) es fs ts counted stretch line gaps here flows next = kept-true run es fs ts counted stretch line gaps here flows next
+  kept-true (token.LineEnd at ∷ run) es fs ts counted stretch line gaps here flows next =
+      let after : IsCounted (counted_after_line_end lines counted at) false (line + 1) =
+      λ out inside. sym (ap (λ l. origin_at lines (l + 1)) (sym flows.0) ∙ counted_after_line_end-next lines counted at (omega (arith, flows.0, inside))) in
+      let rest : AreAtTheirLines (counted_after_line_end lines counted at) (run ++ fs) (ts (stretch_after_run false false (has_line_end run))) =
+      kept-true run es fs ts (counted_after_line_end lines counted at) false (line + 1) gaps after flows.1 next in
+      rw (seen-line_end counted at (run ++ fs)) (subst (λ b. AreAtTheirLines (counted_after_line_end lines counted at) (run ++ fs) (ts b)) (off (has_line_end run)) rest)
     where
-      off : (b : Bool) → is_on false false b ≡ false
+      off : (b : Bool) → stretch_after_run false false b ≡ false
       off true = refl
       off false = refl
-  kept-true (_ ∷ run) es fs ts count stretch line gaps here flows next = absurd gaps
+  kept-true (_ ∷ run) es fs ts counted stretch line gaps here flows next = absurd gaps
 
   -- a run of joins, white space and line ends, before what follows it
-  run-true : (run es fs : List Token) (ts : Bool → List Location) (count : Origin) (stretch : Bool) (line : ℕ) → AreGaps run → IsCounted count stretch line → Flows (length lines) line (run ++ es)
-      → ((c : Origin) (s : Bool) (l : ℕ) → IsCounted c s l → Flows (length lines) l es → True c fs (ts s))
-      → True count (left_of_run run ++ fs) (ts (is_on stretch (has_join run) (has_break run)))
-  run-true run es fs ts count stretch line gaps here flows next = by (has_join run)
+  run-true : (run es fs : List Token) (ts : Bool → List Location) (counted : Origin) (stretch : Bool) (line : ℕ) → AreGaps run → IsCounted counted stretch line → Flows (length lines) line (run ++ es)
+      → ((c : Origin) (s : Bool) (l : ℕ) → IsCounted c s l → Flows (length lines) l es → AreAtTheirLines c fs (ts s))
+      → AreAtTheirLines counted (left_of_run run ++ fs) (ts (stretch_after_run stretch (has_join run) (has_line_end run)))
+  run-true run es fs ts counted stretch line gaps here flows next = by (has_join run)
     where
-      removed : (b : Bool) → has_break run ≡ b → IsCounted count (is_on stretch true b) (line_behind line run)
+      removed : (b : Bool) → has_line_end run ≡ b → IsCounted counted (stretch_after_run stretch true b) (line_after_tokens line run)
       removed true e = λ out. absurd cc
-      removed false e = subst (IsCounted count stretch) (sym (line_behind-same line run gaps e)) here
+      removed false e = subst (IsCounted counted stretch) (sym (line_after_tokens-same line run gaps e)) here
 
-      by : (j : Bool) → True count (cond j [] run ++ fs) (ts (is_on stretch j (has_break run)))
-      by true = next count (is_on stretch true (has_break run)) (line_behind line run) (removed (has_break run) refl) (flows-behind (length lines) line run es gaps flows)
-      by false = kept-true run es fs ts count stretch line gaps here flows next
+      by : (j : Bool) → AreAtTheirLines counted (cond j [] run ++ fs) (ts (stretch_after_run stretch j (has_line_end run)))
+      by true = next counted (stretch_after_run stretch true (has_line_end run)) (line_after_tokens line run) (removed (has_line_end run) refl) (flows-after (length lines) line run es gaps flows)
+      by false = kept-true run es fs ts counted stretch line gaps here flows next
 
   -- rule 2, and all that follow it
-  without_joins-true : (run es : List Token) (count : Origin) (stretch : Bool) (line : ℕ) → AreGaps run → IsCounted count stretch line → Flows (length lines) line (run ++ es)
-      → True count (without_joins run es) (locations stretch (has_join run) (has_break run) es)
-  without_joins-true run [] count stretch line gaps here flows =
-      subst (λ es. True count es []) (append-nil (left_of_run run))
-      (run-true run [] [] (λ s. []) count stretch line gaps here flows (λ c s l h f. tt))
-  without_joins-true run (token.Join ∷ es) count stretch line gaps here flows =
-      subst (λ j. True count (without_joins (run ++ token.Join ∷ []) es) (locations stretch j (has_break run) es)) (join-append run)
-      (subst (λ b. True count (without_joins (run ++ token.Join ∷ []) es) (locations stretch (has_join (run ++ token.Join ∷ [])) b es)) (no_break-append run token.Join refl)
-      (without_joins-true (run ++ token.Join ∷ []) es count stretch line (gaps-append run token.Join gaps tt) here (rw append_assoc flows)))
-  without_joins-true run (token.White ∷ es) count stretch line gaps here flows =
-      subst (λ j. True count (without_joins (run ++ token.White ∷ []) es) (locations stretch j (has_break run) es)) (no_join-append run token.White refl)
-      (subst (λ b. True count (without_joins (run ++ token.White ∷ []) es) (locations stretch (has_join (run ++ token.White ∷ [])) b es)) (no_break-append run token.White refl)
-      (without_joins-true (run ++ token.White ∷ []) es count stretch line (gaps-append run token.White gaps tt) here (rw append_assoc flows)))
-  without_joins-true run (token.LineEnd at ∷ es) count stretch line gaps here flows =
-      subst (λ j. True count (without_joins (run ++ token.LineEnd at ∷ []) es) (locations stretch j true es)) (no_join-append run (token.LineEnd at) refl)
-      (subst (λ b. True count (without_joins (run ++ token.LineEnd at ∷ []) es) (locations stretch (has_join (run ++ token.LineEnd at ∷ [])) b es)) (break-append run at)
-      (without_joins-true (run ++ token.LineEnd at ∷ []) es count stretch line (gaps-append run (token.LineEnd at) gaps tt) here (rw append_assoc flows)))
-  without_joins-true run (e ∷ es) count stretch line gaps here flows =
-      subst (True count (left_of_run run ++ e ∷ without_joins [] es)) (sym (locations-closed e es stretch (has_join run) (has_break run) refl))
-      (run-true run (e ∷ es) (e ∷ without_joins [] es) (λ s. locations s false false (e ∷ es)) count stretch line gaps here flows
+  without_joins-true : (run es : List Token) (counted : Origin) (stretch : Bool) (line : ℕ) → AreGaps run → IsCounted counted stretch line → Flows (length lines) line (run ++ es)
+      → AreAtTheirLines counted (without_joins run es) (locations stretch (has_join run) (has_line_end run) es)
+  without_joins-true run [] counted stretch line gaps here flows =
+      subst (λ es. AreAtTheirLines counted es []) (append-nil (left_of_run run))
+      (run-true run [] [] (λ s. []) counted stretch line gaps here flows (λ c s l h f. tt))
+  without_joins-true run (token.Join ∷ es) counted stretch line gaps here flows =
+      subst (λ j. AreAtTheirLines counted (without_joins (run ++ token.Join ∷ []) es) (locations stretch j (has_line_end run) es)) (join-append run)
+      (subst (λ b. AreAtTheirLines counted (without_joins (run ++ token.Join ∷ []) es) (locations stretch (has_join (run ++ token.Join ∷ [])) b es)) (no_line_end-append run token.Join refl)
+      (without_joins-true (run ++ token.Join ∷ []) es counted stretch line (gaps-append run token.Join gaps tt) here (rw append_assoc flows)))
+  without_joins-true run (token.White ∷ es) counted stretch line gaps here flows =
+      subst (λ j. AreAtTheirLines counted (without_joins (run ++ token.White ∷ []) es) (locations stretch j (has_line_end run) es)) (no_join-append run token.White refl)
+      (subst (λ b. AreAtTheirLines counted (without_joins (run ++ token.White ∷ []) es) (locations stretch (has_join (run ++ token.White ∷ [])) b es)) (no_line_end-append run token.White refl)
+      (without_joins-true (run ++ token.White ∷ []) es counted stretch line (gaps-append run token.White gaps tt) here (rw append_assoc flows)))
+  without_joins-true run (token.LineEnd at ∷ es) counted stretch line gaps here flows =
+      subst (λ j. AreAtTheirLines counted (without_joins (run ++ token.LineEnd at ∷ []) es) (locations stretch j true es)) (no_join-append run (token.LineEnd at) refl)
+      (subst (λ b. AreAtTheirLines counted (without_joins (run ++ token.LineEnd at ∷ []) es) (locations stretch (has_join (run ++ token.LineEnd at ∷ [])) b es)) (line_end-append run at)
+      (without_joins-true (run ++ token.LineEnd at ∷ []) es counted stretch line (gaps-append run (token.LineEnd at) gaps tt) here (rw append_assoc flows)))
+  without_joins-true run (e ∷ es) counted stretch line gaps here flows =
+      subst (AreAtTheirLines counted (left_of_run run ++ e ∷ without_joins [] es)) (sym (locations-closed e es stretch (has_join run) (has_line_end run) refl))
+      (run-true run (e ∷ es) (e ∷ without_joins [] es) (λ s. locations s false false (e ∷ es)) counted stretch line gaps here flows
       (λ c s l h f. true-first e es (without_joins [] es) c s l refl h f (λ d t k g i. without_joins-true [] es d t k tt g i)))
 
   -- the items of a part whose tokens follow one another from its opening mark on

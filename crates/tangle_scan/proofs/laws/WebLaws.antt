@@ -1,17 +1,17 @@
--- The laws of a web: its spans are in range and in order, and its texts are at their lines.
+-- The laws of a web: its spans are in range and in order, and its source items are at their lines.
 use Rattle.std.proofs.Common.{◌≡◌, ◌≤◌, ℕ, Bool, true, false, List, [], ◌∷◌, ◌++◌, length, get_or, flat_map, cond, inl, inr, ◌⊎◌, refl, ap, sym, ◌∙◌, arith, subst, append-nil, zero-add}
 use Rattle.std.specs.List.{All, AllZip}
 use Rattle.std.proofs.lemmas.List.Elements.{All-nil, All-cons}
 use Rattle.std.proofs.lemmas.Grind.{flat_map-append}
 use Rattle.std.proofs.lemmas.List.{get_or-map, length-map}
-use Rattle.tangle_lines.specs.Reading.{Line, SourceRead}
+use Rattle.tangle_lines.specs.Reading.{SourceLine, SourceRead}
 use Rattle.tangle_lines.specs.Reading.{no_line}
 use Rattle.tangle_text.specs.declared.spans.Span.{Span}
 use Rattle.tangle_scan.specs.declared.items.Item.{Item}
 use Rattle.tangle_scan.specs.declared.items.Item.TheVariants as item
 use Rattle.tangle_scan.specs.Rules.{part_items, macro_items, is_macro}
 use Rattle.tangle_text.specs.Text.{text_from}
-use Rattle.tangle_lexer.specs.Steps.{at_first, tokens_from, all_tokens}
+use Rattle.tangle_lexer.specs.Steps.{first_state, tokens_from, all_tokens}
 use Rattle.tangle_scan.specs.Web.{web_of, PieceRead, Block, BlockKind, blocks, piece_of, kind_piece, macro_of, kind_macro, texts_of}
 use Rattle.tangle_scan.specs.Web.BlockKind.{OfMacro, OfPiece}
 use Rattle.tangle_scan.specs.SourceOrder.{IsSpan, IsInRange, SpansAreInRange, item_spans, SpansAreInOrder}
@@ -24,22 +24,22 @@ use Rattle.tangle_scan.proofs.laws.BlockFlows.{kind_flows, AllFlow, blocks-flow}
 use Rattle.tangle_scan.proofs.laws.LineTruthLemmas.{part-true}
 
 -- how long a source line is
-abbrev pub width : List Line → ℕ → ℕ
+abbrev pub width : List SourceLine → ℕ → ℕ
 width lines n = length (get_or lines n no_line).bytes
 
 -- the tokens of a source lie in its text
-all-in_order : (lines : List Line) → AreSomewhere (width lines) (length lines) false (point_at 0 0) (all_tokens lines)
+all-in_order : (lines : List SourceLine) → AreSomewhere (width lines) (length lines) false (point_at 0 0) (all_tokens lines)
 unfolding tokens_from
 all-in_order lines =
-    lexemes-in_order (width lines) (length lines) 0 (at_first (length lines)) (text_from 0 lines) (point_at 0 0) refl
+    lexemes-in_order (width lines) (length lines) 0 (first_state (length lines)) (text_from 0 lines) (point_at 0 0) refl
     (text-is (width lines) (length lines) 0 lines (omega arith) (λ k lt. ap (width lines) (sym (zero-add k))))
 
 pub flat_map-twice : {A B C : Type 0} (f : B → List C) (g : A → List B) (xs : List A) → flat_map f (flat_map g xs) ≡ flat_map (λ x. flat_map f (g x)) xs
 flat_map-twice f g [] = refl
 flat_map-twice f g (x ∷ xs) = flat_map-append f (g x) (flat_map g xs) ∙ ap (λ zs. flat_map f (g x) ++ zs) (flat_map-twice f g xs)
 
-module _ (lines : List Line) where
-  -- the spans of the pieces and macros that a part is
+module _ (lines : List SourceLine) where
+  -- the spans of the piece or the macro that a block is
   abbrev piece_spans : Block → List Span
   piece_spans p = flat_map (λ q. item_spans q.items) (piece_of lines p)
 
@@ -51,7 +51,7 @@ module _ (lines : List Line) where
     where
       by : (k : BlockKind) → (flat_map (λ q. item_spans q.items) (kind_piece lines k p) ≡ []) ⊎ (flat_map (λ q. item_spans q.items) (kind_piece lines k p) ≡ token_spans p.tokens)
       by (OfMacro line) = inl refl
-      by (OfPiece name line) = inr (append-nil (item_spans (part_items lines line p.tokens)) ∙ part-spans lines line p.tokens)
+      by (OfPiece occurrence line) = inr (append-nil (item_spans (part_items lines line p.tokens)) ∙ part-spans lines line p.tokens)
 
   macro_picks : (p : Block) → (macro_spans p ≡ []) ⊎ (macro_spans p ≡ token_spans p.tokens)
   macro_picks p = by p.kind
@@ -63,7 +63,7 @@ module _ (lines : List Line) where
 
       by : (k : BlockKind) → (flat_map item_spans (kind_macro lines k p) ≡ []) ⊎ (flat_map item_spans (kind_macro lines k p) ≡ token_spans p.tokens)
       by (OfMacro line) = kept (macro_items (texts_of lines) p.tokens) (macro-spans (texts_of lines) p.tokens) (is_macro (texts_of lines) (macro_items (texts_of lines) p.tokens))
-      by (OfPiece name line) = inl refl
+      by (OfPiece occurrence line) = inl refl
 
   all-ordered : AreOrdered (width lines) (length lines) (token_spans (all_tokens lines))
   all-ordered = let ordered = all-in_order lines in in_order-ordered (width lines) (length lines) false (point_at 0 0) (all_tokens lines) ordered.stays ordered.to ordered.ordered
@@ -112,17 +112,17 @@ module _ (lines : List Line) where
       All-cons (All (IsInRange (texts_of lines))) m ms
       (items-in-range m (flat_map item_spans ms) h) (macros-in-range ms (ordered-suffix (width lines) (length lines) (item_spans m) (flat_map item_spans ms) h))
 
-  -- the parts whose texts follow one another by lines are at their lines
+  -- the blocks whose source items follow one another by lines are at their lines
   blocks-true : (ps : List Block) → AllFlow (length lines) ps
-      → AllZip (λ p text_lines. IsAtItsLine lines p.origin p.items text_lines) (flat_map (piece_of lines) ps) (flat_map (λ p. kind_locations p.kind p.tokens) ps)
+      → AllZip (λ p locations. IsAtItsLine lines p.origin p.items locations) (flat_map (piece_of lines) ps) (flat_map (λ p. kind_locations p.kind p.tokens) ps)
   blocks-true [] flow = tt
   blocks-true (p ∷ ps) flow = by p.kind flow.0 (blocks-true ps flow.1)
     where
       by : (k : BlockKind) → kind_flows (length lines) k p
-          → AllZip (λ p text_lines. IsAtItsLine lines p.origin p.items text_lines) (flat_map (piece_of lines) ps) (flat_map (λ p. kind_locations p.kind p.tokens) ps)
-          → AllZip (λ p text_lines. IsAtItsLine lines p.origin p.items text_lines) (kind_piece lines k p ++ flat_map (piece_of lines) ps) (kind_locations k p.tokens ++ flat_map (λ p. kind_locations p.kind p.tokens) ps)
+          → AllZip (λ p locations. IsAtItsLine lines p.origin p.items locations) (flat_map (piece_of lines) ps) (flat_map (λ p. kind_locations p.kind p.tokens) ps)
+          → AllZip (λ p locations. IsAtItsLine lines p.origin p.items locations) (kind_piece lines k p ++ flat_map (piece_of lines) ps) (kind_locations k p.tokens ++ flat_map (λ p. kind_locations p.kind p.tokens) ps)
       by (OfMacro line) f rest = rest
-      by (OfPiece name line) f rest = (part-true lines line p.tokens f, rest)
+      by (OfPiece occurrence line) f rest = (part-true lines line p.tokens f, rest)
 
 -- each span of an item of a web is a range of a source line
 pub web-in-range : (source : SourceRead) → SpansAreInRange (web_of source)
@@ -138,7 +138,7 @@ web-in-order source = record {
   macros = ordered-pairs (width source.lines) (length source.lines) _ (macros-ordered source.lines);
 }
 
--- the texts of each piece is at the counted origin that is their own, outside stretches
+-- the source items of each piece are at their own origins, outside stretches
 pub web-line-truth : (source : SourceRead) → PiecesAreAtTheirLines source (web_of source)
 web-line-truth source =
     let ordered = all-in_order source.lines in

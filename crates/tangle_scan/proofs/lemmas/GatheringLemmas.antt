@@ -3,11 +3,11 @@ use Rattle.std.specs.List.{list_any, flat_map}
 use Rattle.std.proofs.lemmas.Grind.{flat_map-append}
 use Rattle.std.proofs.lemmas.List.Folds.{list_any-append}
 use Rattle.tangle_files.specs.Lines.{FileTable}
-use Rattle.tangle_lines.specs.Reading.{Line, SourceRead}
+use Rattle.tangle_lines.specs.Reading.{SourceLine, SourceRead}
 use Rattle.tangle_lexer.specs.declared.tokens.Token.{Token}
 use Rattle.tangle_lexer.specs.declared.tokens.Token.TheVariants as token
 use Rattle.tangle_scan.specs.Passes.{is_rare}
-use Rattle.tangle_scan.specs.Web.{is_all_macros, body, blocks, block_at, section_behind, section_count, scan_faults, faults_at}
+use Rattle.tangle_scan.specs.Web.{is_all_macros, body, blocks, block_at, section_after, section_count, scan_faults, faults_at}
 use Rattle.tangle_lexer.specs.Heads.{is_head}
 use Rattle.tangle_scan.specs.Gathering.{GatheringRead, gathering_with, with_head, own_fault}
 
@@ -26,31 +26,31 @@ body-whole (e ∷ es) h =
 block_at-none : (n : ℕ) (e : Token) (es : List Token) → is_head e ≡ false → block_at n e es ≡ []
 block_at-none n (token.MacroStart line) es h = cc
 block_at-none n (token.UnnamedPart line) es h = cc
-block_at-none n (token.NamedPart name line) es h = cc
+block_at-none n (token.NamedPart occurrence line) es h = cc
 block_at-none n _ es h = refl
 
-section_behind-none : (n : ℕ) (e : Token) → is_head e ≡ false → section_behind n e ≡ n
-section_behind-none n token.Section h = cc
-section_behind-none n _ h = refl
+section_after-none : (n : ℕ) (e : Token) → is_head e ≡ false → section_after n e ≡ n
+section_after-none n token.Section h = cc
+section_after-none n _ h = refl
 
 pub blocks-none : (n : ℕ) (es : List Token) → list_any is_head es ≡ false → blocks n es ≡ []
 blocks-none n [] h = refl
 blocks-none n (e ∷ es) h =
     let both = or-false (is_head e) (list_any is_head es) h in
-    rw (block_at-none n e es both.0, section_behind-none n e both.0) (blocks-none n es both.1)
+    rw (block_at-none n e es both.0, section_after-none n e both.0) (blocks-none n es both.1)
 
 pub section_count-none : (n : ℕ) (es : List Token) → list_any is_head es ≡ false → section_count n es ≡ n
 section_count-none n [] h = refl
 section_count-none n (e ∷ es) h =
     let both = or-false (is_head e) (list_any is_head es) h in
-    rw (section_behind-none n e both.0) (section_count-none n es both.1)
+    rw (section_after-none n e both.0) (section_count-none n es both.1)
 
-faults_at-own : (files : FileTable) (lines : List Line) (e : Token) (es : List Token) → is_head e ≡ false → faults_at files lines e es ≡ own_fault files lines e
+faults_at-own : (files : FileTable) (lines : List SourceLine) (e : Token) (es : List Token) → is_head e ≡ false → faults_at files lines e es ≡ own_fault files lines e
 faults_at-own files lines (token.MacroStart line) es h = cc
 faults_at-own files lines (token.Fault kind line) es h = refl
 faults_at-own files lines _ es h = refl
 
-pub faults-own : (files : FileTable) (lines : List Line) (es : List Token) → list_any is_head es ≡ false →
+pub faults-own : (files : FileTable) (lines : List SourceLine) (es : List Token) → list_any is_head es ≡ false →
     scan_faults files lines es ≡ flat_map (own_fault files lines) es
 faults-own files lines [] h = refl
 faults-own files lines (e ∷ es) h =
@@ -64,8 +64,8 @@ pub block-whole : (source : SourceRead) (before : GatheringRead) (head : Token) 
 unfolding gathering_with
 block-whole source before head es h =
     rw (
-      section_count-none (section_behind before.sections head) es h,
-      blocks-none (section_behind before.sections head) es h,
+      section_count-none (section_after before.sections head) es h,
+      blocks-none (section_after before.sections head) es h,
       append-nil (block_at before.sections head es),
       faults-own source.files source.lines es h,
       append_assoc,
@@ -73,11 +73,11 @@ block-whole source before head es h =
 
 -- there are no other heads
 pub no-other-head : (e : Token) → is_head e ≡ true → (e ≡ token.Section → ⊥) → ((line : ℕ) → e ≡ token.MacroStart line → ⊥) →
-    ((line : ℕ) → e ≡ token.UnnamedPart line → ⊥) → ((name line : ℕ) → e ≡ token.NamedPart name line → ⊥) → ⊥
+    ((line : ℕ) → e ≡ token.UnnamedPart line → ⊥) → ((occurrence line : ℕ) → e ≡ token.NamedPart occurrence line → ⊥) → ⊥
 no-other-head token.Section h a b c d = a refl
 no-other-head (token.MacroStart line) h a b c d = b line refl
 no-other-head (token.UnnamedPart line) h a b c d = c line refl
-no-other-head (token.NamedPart name line) h a b c d = d name line refl
+no-other-head (token.NamedPart occurrence line) h a b c d = d occurrence line refl
 no-other-head _ h a b c d = cc
 
 -- The list can be cut before a head, and at its end: what comes first is gathered first.
@@ -89,24 +89,24 @@ body-cut (x ∷ xs) es cut = ap (λ t. if is_head x then [] else x ∷ t) (body-
 block_at-cut : (n : ℕ) (x : Token) (xs es : List Token) → body es ≡ [] → block_at n x (xs ++ es) ≡ block_at n x xs
 block_at-cut n (token.MacroStart line) xs es cut = rw (body-cut xs es cut) refl
 block_at-cut n (token.UnnamedPart line) xs es cut = rw (body-cut xs es cut) refl
-block_at-cut n (token.NamedPart name line) xs es cut = rw (body-cut xs es cut) refl
+block_at-cut n (token.NamedPart occurrence line) xs es cut = rw (body-cut xs es cut) refl
 block_at-cut n _ xs es cut = refl
 
 blocks-cut : (n : ℕ) (xs es : List Token) → body es ≡ [] → blocks n (xs ++ es) ≡ blocks n xs ++ blocks (section_count n xs) es
 blocks-cut n [] es cut = refl
 blocks-cut n (x ∷ xs) es cut =
-    rw (block_at-cut n x xs es cut, blocks-cut (section_behind n x) xs es cut) (sym (append_assoc (block_at n x xs) (blocks (section_behind n x) xs) (blocks (section_count (section_behind n x) xs) es)))
+    rw (block_at-cut n x xs es cut, blocks-cut (section_after n x) xs es cut) (sym (append_assoc (block_at n x xs) (blocks (section_after n x) xs) (blocks (section_count (section_after n x) xs) es)))
 
 section_count-cut : (n : ℕ) (xs es : List Token) → section_count n (xs ++ es) ≡ section_count (section_count n xs) es
 section_count-cut n [] es = refl
-section_count-cut n (x ∷ xs) es = section_count-cut (section_behind n x) xs es
+section_count-cut n (x ∷ xs) es = section_count-cut (section_after n x) xs es
 
-faults_at-cut : (files : FileTable) (lines : List Line) (x : Token) (xs es : List Token) → body es ≡ [] → faults_at files lines x (xs ++ es) ≡ faults_at files lines x xs
+faults_at-cut : (files : FileTable) (lines : List SourceLine) (x : Token) (xs es : List Token) → body es ≡ [] → faults_at files lines x (xs ++ es) ≡ faults_at files lines x xs
 faults_at-cut files lines (token.MacroStart line) xs es cut = rw (body-cut xs es cut) refl
 faults_at-cut files lines (token.Fault kind line) xs es cut = refl
 faults_at-cut files lines _ xs es cut = refl
 
-faults-cut : (files : FileTable) (lines : List Line) (xs es : List Token) → body es ≡ [] →
+faults-cut : (files : FileTable) (lines : List SourceLine) (xs es : List Token) → body es ≡ [] →
     scan_faults files lines (xs ++ es) ≡ scan_faults files lines xs ++ scan_faults files lines es
 faults-cut files lines [] es cut = refl
 faults-cut files lines (x ∷ xs) es cut =
@@ -148,19 +148,19 @@ front-whole source before es h =
       blocks-none before.sections es h,
       append-nil before.pieces,
       append-nil before.macros,
-      or-nothing before.has_defs_code,
+      or-nothing before.has_all_macros,
       faults-own source.files source.lines es h,
     ) refl
 
 -- a head begins one section at most
-pub section_behind-limit : (n : ℕ) (e : Token) → section_behind n e ≤ n + 1
-section_behind-limit n token.Section = omega arith
-section_behind-limit n _ = omega arith
+pub section_after-limit : (n : ℕ) (e : Token) → section_after n e ≤ n + 1
+section_after-limit n token.Section = omega arith
+section_after-limit n _ = omega arith
 
 -- no tokens add nothing
 pub gathering-nothing : (source : SourceRead) (before : GatheringRead) → gathering_with source before [] ≡ before
 unfolding gathering_with
-gathering-nothing source before = rw (append-nil before.pieces, append-nil before.macros, append-nil before.faults, or-nothing before.has_defs_code) refl
+gathering-nothing source before = rw (append-nil before.pieces, append-nil before.macros, append-nil before.faults, or-nothing before.has_all_macros) refl
 
 -- without rare tokens there is no @h and no fault
 
@@ -169,7 +169,7 @@ rare-all_macros [] h = refl
 rare-all_macros (token.AllMacros line ∷ es) h = cc
 rare-all_macros (e ∷ es) h = rare-all_macros es (or-false (is_rare e) (list_any is_rare es) h).1
 
-pub rare-faults : (files : FileTable) (lines : List Line) (es : List Token) → list_any is_rare es ≡ false → flat_map (own_fault files lines) es ≡ []
+pub rare-faults : (files : FileTable) (lines : List SourceLine) (es : List Token) → list_any is_rare es ≡ false → flat_map (own_fault files lines) es ≡ []
 rare-faults files lines [] h = refl
 rare-faults files lines (token.Fault kind line ∷ es) h = cc
 rare-faults files lines (e ∷ es) h = rare-faults files lines es (or-false (is_rare e) (list_any is_rare es) h).1

@@ -2,10 +2,10 @@
 use Rattle.std.proofs.Common.{◌≡◌, ℕ, Bool, true, false, ◌||◌, ◌&&◌, not, if◌then◌else◌, refl, ap}
 use Rattle.std.proofs.Common.{List, [], ◌∷◌, ◌++◌, sym, ◌∙◌, append_assoc, append-nil}
 use Rattle.tangle_lexer.specs.declared.tokens.Token.{Token}
-use Rattle.tangle_lexer.specs.declared.tokens.TextKind.TheVariants as text_kind
+use Rattle.tangle_lexer.specs.declared.tokens.SpanKind.TheVariants as span_kind
 use Rattle.tangle_lexer.specs.declared.tokens.Token.TheVariants as token
 use Rattle.tangle_faults.specs.declared.faults.Origin.{Origin}
-use Rattle.tangle_lines.specs.Reading.{Line, origin_at}
+use Rattle.tangle_lines.specs.Reading.{SourceLine, origin_at}
 use Rattle.tangle_scan.specs.declared.items.Item.{Item}
 use Rattle.tangle_scan.specs.declared.items.Item.TheVariants as item
 use Rattle.tangle_scan.specs.declared.rare_parts.Last.{Last}
@@ -14,13 +14,13 @@ use Rattle.tangle_scan.specs.declared.spacing.Stage.TheVariants as stage
 use Rattle.tangle_scan.specs.Rules.{without_faults, with_spaces, would_merge, is_constant}
 use Rattle.tangle_scan.specs.Rules.{is_word_token, without_joins, left_of_run, is_gap}
 use Rattle.tangle_scan.specs.Rules.{is_join, has_join, blanks, items_by_origin, line_item}
-use Rattle.tangle_scan.specs.Rules.{count_behind, part_items}
-use Rattle.tangle_scan.specs.Passes.{joins_ahead, touches, needs_blank, behind_white, last_of}
-use Rattle.tangle_scan.specs.Passes.{is_joined, laid, items_at, count_after, with_white_space}
+use Rattle.tangle_scan.specs.Rules.{counted_after_line_end, part_items}
+use Rattle.tangle_scan.specs.Passes.{joins_ahead, touches, needs_blank, last_after_white, last_of}
+use Rattle.tangle_scan.specs.Passes.{is_joined, rare_items_ahead, items_at, counted_after_token, with_white_space}
 use Rattle.tangle_scan.proofs.lemmas.RuleLemmas.{without_joins-item, has_join-push}
-use Rattle.tangle_scan.proofs.lemmas.SpacingLemmas.{behind-line, behind-join, spaced-inside}
-use Rattle.tangle_scan.proofs.lemmas.LayingLemmas.{items_by_origin-blank}
-use Rattle.tangle_scan.proofs.lemmas.RareLemmas.{is_solid, blanks-solid, items_by_origin-solid}
+use Rattle.tangle_scan.proofs.lemmas.SpacingLemmas.{after-line, after-join, spaced-inside}
+use Rattle.tangle_scan.proofs.lemmas.PlainPartLemmas.{items_by_origin-blank}
+use Rattle.tangle_scan.proofs.lemmas.RarePartLemmas.{is_solid, blanks-solid, items_by_origin-solid}
 
 abbrev white_if : Bool → List Token
 white_if b = if b then token.White ∷ [] else []
@@ -109,38 +109,38 @@ run-push run e es =
     ap (λ b. unless (b || joins_ahead es) (run ++ e ∷ []) ++ left b token.White es)
     (has_join-push run e)
 
-left-behind : (run : List Token) (before : Token) (es : List Token) → Closes run before →
+left-after : (run : List Token) (before : Token) (es : List Token) → Closes run before →
     without_joins run (with_white_space [] stage.Inside before (without_faults es))
     ≡ unless (has_join run || joins_ahead es) run ++ left (has_join run) before es
-left-behind run before [] closes = run-nothing run (has_join run)
-left-behind run before (token.Fault kind line ∷ es) closes = left-behind run before es closes
-left-behind run before (token.Join ∷ es) closes =
+left-after run before [] closes = run-nothing run (has_join run)
+left-after run before (token.Fault kind line ∷ es) closes = left-after run before es closes
+left-after run before (token.Join ∷ es) closes =
     let pushed = run ++ token.Join ∷ [] in
-    rw (gap-apart before token.Join refl, behind-join [] stage.Inside (without_faults es))
-    (left-behind pushed token.White es (closes-gaps pushed)
+    rw (gap-apart before token.Join refl, after-join [] stage.Inside (without_faults es))
+    (left-after pushed token.White es (closes-gaps pushed)
     ∙ (run-push run token.Join es ∙ run-join run pushed (has_join run) (joins_ahead es) es))
-left-behind run before (token.White ∷ es) closes =
+left-after run before (token.White ∷ es) closes =
     let pushed = run ++ token.White ∷ [] in
     rw (gap-apart before token.White refl)
-    (left-behind pushed token.White es (closes-gaps pushed)
+    (left-after pushed token.White es (closes-gaps pushed)
     ∙ (run-push run token.White es ∙ run-more run token.White (has_join run) (joins_ahead es) es))
-left-behind run before (token.LineEnd line ∷ es) closes =
+left-after run before (token.LineEnd line ∷ es) closes =
     let end = token.LineEnd line in
     let pushed = run ++ end ∷ [] in
-    rw (gap-apart before end refl, behind-line [] stage.Inside line (without_faults es))
-    (left-behind pushed token.White es (closes-gaps pushed)
+    rw (gap-apart before end refl, after-line [] stage.Inside line (without_faults es))
+    (left-after pushed token.White es (closes-gaps pushed)
     ∙ (run-push run end es ∙ run-more run end (has_join run) (joins_ahead es) es))
-left-behind run before (e ∷ es) closes =
+left-after run before (e ∷ es) closes =
     closes e (with_white_space [] stage.Inside e (without_faults es)) refl
     ∙ run-item run (has_join run) _ _
     (ap (λ x. white_if (would_merge before e) ++ e ∷ x)
-    (left-behind [] e es (closes-none e) ∙ no-run (joins_ahead es) (left false e es)))
+    (left-after [] e es (closes-none e) ∙ no-run (joins_ahead es) (left false e es)))
 
 spaced-left : (es : List Token) →
     without_joins [] (with_spaces (without_faults es)) ≡ left false token.White es
 spaced-left es =
     ap (without_joins []) (sym (spaced-inside [] (without_faults es)))
-    ∙ (left-behind [] token.White es (closes-none token.White)
+    ∙ (left-after [] token.White es (closes-none token.White)
     ∙ no-run (joins_ahead es) (left false token.White es))
 
 -- a join to come takes the run away as one that came does
@@ -153,7 +153,7 @@ left-joined (token.White ∷ es) h = rw h (left-joined es h)
 left-joined (token.LineEnd line ∷ es) h = rw h (left-joined es h)
 left-joined (e ∷ es) h = cc
 
--- rule 3 behind a join: an item comes next, and no blank
+-- rule 3 after a join: an item comes next, and no blank
 blanks-joined : (i : Bool) (es : List Token) →
     blanks i false (left true token.White es) ≡ blanks false false (left true token.White es)
 blanks-joined false es = refl
@@ -183,7 +183,7 @@ is_white last.White joins = not joins
 is_white _ joins = false
 
 step-white : (at : Last) (j : Bool) (x : Bool → List Token) →
-    let next = behind_white at in
+    let next = last_after_white at in
     blanks (is_item next) (is_white next j) (x (is_joined next))
     ≡ blanks (is_item at) (is_white at j)
     (unless (is_joined at || j) (token.White ∷ []) ++ x (is_joined at))
@@ -193,21 +193,21 @@ step-white last.Front false x = blanks-front (x false)
 step-white _ true x = refl
 step-white _ false x = refl
 
-step-line : (lines : List Line) (count : Origin) (line : ℕ) (at : Last) (j : Bool)
+step-line : (lines : List SourceLine) (counted : Origin) (line : ℕ) (at : Last) (j : Bool)
     (x : Bool → List Token) (joined front : List Item) →
     (j ≡ true → x false ≡ x true) →
     ((i : Bool) → blanks i false (x true) ≡ blanks false false (x true)) →
-    joined ≡ items_by_origin lines count (blanks false false (x true)) →
-    front ≡ items_by_origin lines (count_behind lines count line) (blanks false false (x false)) →
-    (if is_joined at || j then joined else line_item lines count line ∷ front)
-    ≡ items_by_origin lines count (blanks (is_item at) (is_white at j)
+    joined ≡ items_by_origin lines counted (blanks false false (x true)) →
+    front ≡ items_by_origin lines (counted_after_line_end lines counted line) (blanks false false (x false)) →
+    (if is_joined at || j then joined else line_item lines counted line ∷ front)
+    ≡ items_by_origin lines counted (blanks (is_item at) (is_white at j)
     (unless (is_joined at || j) (token.LineEnd line ∷ []) ++ x (is_joined at)))
-step-line lines count line last.Joined j x joined front same none is is_front = is
-step-line lines count line at true x joined front same none is is_front =
+step-line lines counted line last.Joined j x joined front same none is is_front = is
+step-line lines counted line at true x joined front same none is is_front =
     let apart = sym (none (is_item at)) ∙ ap (blanks (is_item at) false) (sym (same refl)) in
-    is ∙ ap (items_by_origin lines count) apart
-step-line lines count line _ false x joined front same none is is_front =
-    ap (λ t. line_item lines count line ∷ t) is_front
+    is ∙ ap (items_by_origin lines counted) apart
+step-line lines counted line _ false x joined front same none is is_front =
+    ap (λ t. line_item lines counted line ∷ t) is_front
 
 step-touch : (e : Token) (x : List Token) (t : Bool) → is_solid e ≡ true →
     blanks true false (white_if t ++ e ∷ x) ≡ white_if t ++ e ∷ blanks true false x
@@ -224,18 +224,18 @@ step-blank last.Word e x h = step-touch e x (is_constant e) h
 step-blank last.AsciiConstant e x h = step-touch e x (is_constant e || is_word_token e) h
 step-blank last.White e x h = blanks-solid true true e x h
 
-step-item : (lines : List Line) (at : Last) (count : Origin) (e : Token) (x : List Token)
+step-item : (lines : List SourceLine) (at : Last) (counted : Origin) (e : Token) (x : List Token)
     (rest : List Item) (merges : Bool) → is_solid e ≡ true → merges ≡ touches at e →
-    rest ≡ items_by_origin lines (count_after lines count e) (blanks true false x) →
+    rest ≡ items_by_origin lines (counted_after_token lines counted e) (blanks true false x) →
     (if needs_blank at e then item.Blank ∷ [] else []) ++ (items_at lines e ++ rest)
-    ≡ items_by_origin lines count
+    ≡ items_by_origin lines counted
     (blanks (is_item at) (is_white at false) (white_if merges ++ e ∷ x))
-step-item lines at count e x rest merges h is is_rest =
+step-item lines at counted e x rest merges h is is_rest =
     rw (
       is,
       step-blank at e x h,
-      items_by_origin-blank lines count (needs_blank at e) (e ∷ blanks true false x),
-      items_by_origin-solid lines count e (blanks true false x) h,
+      items_by_origin-blank lines counted (needs_blank at e) (e ∷ blanks true false x),
+      items_by_origin-solid lines counted e (blanks true false x) h,
       is_rest,
     ) refl
 
@@ -244,51 +244,51 @@ or-false true = refl
 or-false false = refl
 
 last-touches : (e f : Token) → would_merge e f ≡ touches (last_of e) f
-last-touches (token.Text text_kind.Word s) f = refl
+last-touches (token.Span span_kind.Word s) f = refl
 last-touches (token.AsciiConstant value line) f = or-false (is_constant f || is_word_token f)
 last-touches _ f = refl
 
-laid-left : (lines : List Line) (at : Last) (count : Origin) (before : Token) (es : List Token) →
+rare-left : (lines : List SourceLine) (at : Last) (counted : Origin) (before : Token) (es : List Token) →
     ((e : Token) → would_merge before e ≡ touches at e) →
-    laid lines at count es
-    ≡ items_by_origin lines count
+    rare_items_ahead lines at counted es
+    ≡ items_by_origin lines counted
     (blanks (is_item at) (is_white at (joins_ahead es)) (left (is_joined at) before es))
-laid-left lines at count before [] h = refl
-laid-left lines at count before (token.Fault kind line ∷ es) h =
-    laid-left lines at count before es h
-laid-left lines at count before (token.Join ∷ es) h =
+rare-left lines at counted before [] h = refl
+rare-left lines at counted before (token.Fault kind line ∷ es) h =
+    rare-left lines at counted before es h
+rare-left lines at counted before (token.Join ∷ es) h =
     let white = ap (λ w. blanks (is_item at) w (left true token.White es)) (gone at) in
-    laid-left lines last.Joined count token.White es (λ e. refl)
-    ∙ ap (items_by_origin lines count) (sym (blanks-joined (is_item at) es) ∙ white)
+    rare-left lines last.Joined counted token.White es (λ e. refl)
+    ∙ ap (items_by_origin lines counted) (sym (blanks-joined (is_item at) es) ∙ white)
   where
     gone : (at : Last) → false ≡ is_white at true
     gone last.White = refl
     gone _ = refl
-laid-left lines at count before (token.White ∷ es) h =
-    laid-left lines (behind_white at) count token.White es (untouched at)
-    ∙ ap (items_by_origin lines count) (step-white at (joins_ahead es) (λ b. left b token.White es))
+rare-left lines at counted before (token.White ∷ es) h =
+    rare-left lines (last_after_white at) counted token.White es (untouched at)
+    ∙ ap (items_by_origin lines counted) (step-white at (joins_ahead es) (λ b. left b token.White es))
   where
-    untouched : (at : Last) (e : Token) → would_merge token.White e ≡ touches (behind_white at) e
+    untouched : (at : Last) (e : Token) → would_merge token.White e ≡ touches (last_after_white at) e
     untouched last.Front e = refl
     untouched last.Joined e = refl
     untouched _ e = refl
-laid-left lines at count before (token.LineEnd line ∷ es) h =
-    step-line lines count line at (joins_ahead es) (λ b. left b token.White es) _ _
+rare-left lines at counted before (token.LineEnd line ∷ es) h =
+    step-line lines counted line at (joins_ahead es) (λ b. left b token.White es) _ _
     (left-joined es) (λ i. blanks-joined i es)
-    (laid-left lines last.Joined count token.White es (λ e. refl))
-    (laid-left lines last.Front (count_behind lines count line) token.White es (λ e. refl))
-laid-left lines at count before (token.Text text_kind.Word s ∷ es) h =
-    let e = token.Text text_kind.Word s in
-    step-item lines at count e (left false e es) _ (would_merge before e) refl (h e)
-    (laid-left lines (last_of e) (count_after lines count e) e es (last-touches e))
-laid-left lines at count before (e ∷ es) h =
-    step-item lines at count e (left false e es) _ (would_merge before e) refl (h e)
-    (laid-left lines (last_of e) (count_after lines count e) e es (last-touches e))
+    (rare-left lines last.Joined counted token.White es (λ e. refl))
+    (rare-left lines last.Front (counted_after_line_end lines counted line) token.White es (λ e. refl))
+rare-left lines at counted before (token.Span span_kind.Word s ∷ es) h =
+    let e = token.Span span_kind.Word s in
+    step-item lines at counted e (left false e es) _ (would_merge before e) refl (h e)
+    (rare-left lines (last_of e) (counted_after_token lines counted e) e es (last-touches e))
+rare-left lines at counted before (e ∷ es) h =
+    step-item lines at counted e (left false e es) _ (would_merge before e) refl (h e)
+    (rare-left lines (last_of e) (counted_after_token lines counted e) e es (last-touches e))
 
 -- all the items of a C part
-pub part-laid : (lines : List Line) (line : ℕ) (es : List Token) →
-    laid lines last.Front (origin_at lines line) es ≡ part_items lines line es
-part-laid lines line es =
+pub part-rare : (lines : List SourceLine) (line : ℕ) (es : List Token) →
+    rare_items_ahead lines last.Front (origin_at lines line) es ≡ part_items lines line es
+part-rare lines line es =
     let origin = origin_at lines line in
-    laid-left lines last.Front origin token.White es (λ e. refl)
+    rare-left lines last.Front origin token.White es (λ e. refl)
     ∙ ap (λ t. items_by_origin lines origin (blanks false false t)) (sym (spaced-left es))

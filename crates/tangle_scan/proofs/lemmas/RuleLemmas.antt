@@ -25,28 +25,28 @@ has_join-push (token.Join ∷ es) e = refl
 has_join-push (_ ∷ es) e = has_join-push es e
 
 -- one more gap in the run that begins at start
-pub run-gap : (start : ℕ) (out : List Token) (e : Token) (es : List Token) → start ≤ length out → is_gap e ≡ true →
-    without_joins_from (out ++ e ∷ []) start es ≡ without_joins_from out start (e ∷ es)
+pub run-gap : (start : ℕ) (spaced : List Token) (e : Token) (es : List Token) → start ≤ length spaced → is_gap e ≡ true →
+    without_joins_from (spaced ++ e ∷ []) start es ≡ without_joins_from spaced start (e ∷ es)
 unfolding without_joins_from
-run-gap start out e es h gap =
-    rw (take-append-le start out (e ∷ []) h, drop-append-le start out (e ∷ []) h) (ap (λ t. take start out ++ t) (sym (without_joins-gap (drop start out) e es gap)))
+run-gap start spaced e es h gap =
+    rw (take-append-le start spaced (e ∷ []) h, drop-append-le start spaced (e ∷ []) h) (ap (λ t. take start spaced ++ t) (sym (without_joins-gap (drop start spaced) e es gap)))
 
--- an item behind that run
-pub run-item : (start : ℕ) (out : List Token) (e : Token) (es : List Token) → is_gap e ≡ false → (closed : List Token) →
-    closed ≡ (if has_join (drop start out) then take start out else out) ++ e ∷ [] →
-    without_joins_from closed (length closed) es ≡ without_joins_from out start (e ∷ es)
+-- an item after that run
+pub run-item : (start : ℕ) (spaced : List Token) (e : Token) (es : List Token) → is_gap e ≡ false → (closed : List Token) →
+    closed ≡ (if has_join (drop start spaced) then take start spaced else spaced) ++ e ∷ [] →
+    without_joins_from closed (length closed) es ≡ without_joins_from spaced start (e ∷ es)
 unfolding without_joins_from
-run-item start out e es gap closed is =
-    rw (take_all (length closed) closed (omega arith), drop-length closed, without_joins-item (drop start out) e es gap) (rw is (settled (has_join (drop start out))))
+run-item start spaced e es gap closed is =
+    rw (take_all (length closed) closed (omega arith), drop-length closed, without_joins-item (drop start spaced) e es gap) (rw is (settled (has_join (drop start spaced))))
   where
-    settled : (b : Bool) → ((if b then take start out else out) ++ e ∷ []) ++ without_joins [] es ≡ take start out ++ ((if b then [] else drop start out) ++ e ∷ without_joins [] es)
-    settled true = append_assoc (take start out) (e ∷ []) (without_joins [] es)
-    settled false = append_assoc out (e ∷ []) (without_joins [] es) ∙ (ap (λ t. t ++ e ∷ without_joins [] es) (sym (take-append-drop start out)) ∙ append_assoc (take start out) (drop start out) (e ∷ without_joins [] es))
+    settled : (b : Bool) → ((if b then take start spaced else spaced) ++ e ∷ []) ++ without_joins [] es ≡ take start spaced ++ ((if b then [] else drop start spaced) ++ e ∷ without_joins [] es)
+    settled true = append_assoc (take start spaced) (e ∷ []) (without_joins [] es)
+    settled false = append_assoc spaced (e ∷ []) (without_joins [] es) ∙ (ap (λ t. t ++ e ∷ without_joins [] es) (sym (take-append-drop start spaced)) ∙ append_assoc (take start spaced) (drop start spaced) (e ∷ without_joins [] es))
 
-pub run-end : (start : ℕ) (out : List Token) → without_joins_from out start [] ≡ (if has_join (drop start out) then take start out else out)
+pub run-end : (start : ℕ) (spaced : List Token) → without_joins_from spaced start [] ≡ (if has_join (drop start spaced) then take start spaced else spaced)
 unfolding without_joins_from
-run-end start out = settled (has_join (drop start out))
+run-end start spaced = settled (has_join (drop start spaced))
   where
-    settled : (b : Bool) → take start out ++ (if b then [] else drop start out) ≡ (if b then take start out else out)
-    settled true = append-nil (take start out)
-    settled false = take-append-drop start out
+    settled : (b : Bool) → take start spaced ++ (if b then [] else drop start spaced) ≡ (if b then take start spaced else spaced)
+    settled true = append-nil (take start spaced)
+    settled false = take-append-drop start spaced

@@ -1,9 +1,9 @@
--- Part by part.
+-- Gathering a web block by block.
 use Rattle.std.proofs.Common.{◌≡◌, ◌≤◌, ◌<◌, ◌+◌, true, List, [], ◌∷◌, ◌++◌, length, map, refl, ap, sym, ◌∙◌, arith, Option, None, Some, option_to_list}
 use Rattle.std.specs.Option.{IfSome, IfNone}
 use Rattle.tangle_lines.specs.Reading.{SourceRead}
 use Rattle.tangle_lexer.specs.declared.tokens.Token.{Token}
-use Rattle.tangle_lexer.specs.declared.modes.ScanState.{ScanState}
+use Rattle.tangle_lexer.specs.declared.modes.LexerState.{LexerState}
 use Rattle.tangle_text.specs.Text.{Cell}
 use Rattle.tangle_lexer.specs.Steps.{tokens_from, occurrences_from, all_tokens, all_occurrences}
 use Rattle.tangle_scan.specs.Web.{body, web_of}
@@ -12,45 +12,45 @@ use Rattle.tangle_lexer.specs.Heads.{is_head}
 use Rattle.tangle_scan.specs.Gathering.{GatheringRead, nothing, gathering_with, web_from}
 use Rattle.tangle_scan.proofs.lemmas.GatheringLemmas.{gathering-cut}
 
-pub tokens-end : (s : ScanState) → tokens_from s [] ≡ []
+pub tokens-end : (s : LexerState) → tokens_from s [] ≡ []
 unfolding tokens_from
 tokens-end s = refl
 
-pub names-end : (s : ScanState) → occurrences_from s [] ≡ []
+pub occurrences-end : (s : LexerState) → occurrences_from s [] ≡ []
 unfolding occurrences_from
-names-end s = refl
+occurrences-end s = refl
 
--- what is ahead of a part begins with a head, or there is nothing
-ends-body : (s : ScanState) (front : Option Token) (rest : List Cell) → IfSome front (λ head. is_head head ≡ true) → IfNone front (rest ≡ []) →
-    body (option_to_list front ++ tokens_from s rest) ≡ []
+-- what is ahead of a block begins with a head, or there is nothing
+ends-body : (s : LexerState) (next_head : Option Token) (rest : List Cell) → IfSome next_head (λ head. is_head head ≡ true) → IfNone next_head (rest ≡ []) →
+    body (option_to_list next_head ++ tokens_from s rest) ≡ []
 ends-body s None rest head end = ap body (ap (tokens_from s) end ∙ tokens-end s)
 ends-body s (Some e) rest head end = rw head refl
 
--- a part behind a head is gathered, and then what is ahead
-pub block-gathering : (source : SourceRead) (before : GatheringRead) (head : Token) (s after : ScanState) (text rest : List Cell) (block : List Token) (front : Option Token) →
-    tokens_from s text ≡ block ++ (option_to_list front ++ tokens_from after rest) → IfSome front (λ head. is_head head ≡ true) → IfNone front (rest ≡ []) →
-    gathering_with source (gathering_with source before (head ∷ block)) (option_to_list front ++ tokens_from after rest) ≡ gathering_with source before (head ∷ tokens_from s text)
-block-gathering source before head s after text rest block front all some end =
-    gathering-cut source before (head ∷ block) (option_to_list front ++ tokens_from after rest) (ends-body after front rest some end)
+-- a block is gathered, and then what is ahead
+pub block-gathering : (source : SourceRead) (before : GatheringRead) (head : Token) (s after : LexerState) (text rest : List Cell) (block : List Token) (next_head : Option Token) →
+    tokens_from s text ≡ block ++ (option_to_list next_head ++ tokens_from after rest) → IfSome next_head (λ head. is_head head ≡ true) → IfNone next_head (rest ≡ []) →
+    gathering_with source (gathering_with source before (head ∷ block)) (option_to_list next_head ++ tokens_from after rest) ≡ gathering_with source before (head ∷ tokens_from s text)
+block-gathering source before head s after text rest block next_head all some end =
+    gathering-cut source before (head ∷ block) (option_to_list next_head ++ tokens_from after rest) (ends-body after next_head rest some end)
     ∙ ap (λ es. gathering_with source before (head ∷ es)) (sym all)
 
 -- so are the tokens before the first head
-pub front-gathering : (source : SourceRead) (before : GatheringRead) (s after : ScanState) (text rest : List Cell) (block : List Token) (front : Option Token) →
-    tokens_from s text ≡ block ++ (option_to_list front ++ tokens_from after rest) → IfSome front (λ head. is_head head ≡ true) → IfNone front (rest ≡ []) →
-    gathering_with source (gathering_with source before block) (option_to_list front ++ tokens_from after rest) ≡ gathering_with source before (tokens_from s text)
-front-gathering source before s after text rest block front all some end =
-    gathering-cut source before block (option_to_list front ++ tokens_from after rest) (ends-body after front rest some end)
+pub front-gathering : (source : SourceRead) (before : GatheringRead) (s after : LexerState) (text rest : List Cell) (block : List Token) (next_head : Option Token) →
+    tokens_from s text ≡ block ++ (option_to_list next_head ++ tokens_from after rest) → IfSome next_head (λ head. is_head head ≡ true) → IfNone next_head (rest ≡ []) →
+    gathering_with source (gathering_with source before block) (option_to_list next_head ++ tokens_from after rest) ≡ gathering_with source before (tokens_from s text)
+front-gathering source before s after text rest block next_head all some end =
+    gathering-cut source before block (option_to_list next_head ++ tokens_from after rest) (ends-body after next_head rest some end)
     ∙ ap (gathering_with source before) (sym all)
 
 -- each head takes a cell
-pub block-shorter : (text rest : List Cell) (front : Option Token) → IfSome front (λ head. length rest < length text) → IfNone front (rest ≡ []) →
-    length (option_to_list front) + length rest ≤ length text
+pub block-shorter : (text rest : List Cell) (next_head : Option Token) → IfSome next_head (λ head. length rest < length text) → IfNone next_head (rest ≡ []) →
+    length (option_to_list next_head) + length rest ≤ length text
 block-shorter text rest None some end = omega (arith, ap length end)
 block-shorter text rest (Some head) some end = omega (arith, some)
 
 -- the web of what was gathered
-pub web-whole : (source : SourceRead) (all : GatheringRead) (names : List OccurrenceRead) → all ≡ gathering_with source nothing (all_tokens source.lines) →
-    names ≡ map (occurrence_of source.lines) (all_occurrences source.lines) →
-    web_from source all names ≡ web_of source
+pub web-whole : (source : SourceRead) (all : GatheringRead) (occurrences : List OccurrenceRead) → all ≡ gathering_with source nothing (all_tokens source.lines) →
+    occurrences ≡ map (occurrence_of source.lines) (all_occurrences source.lines) →
+    web_from source all occurrences ≡ web_of source
 unfolding gathering_with
-web-whole source all names a b = rw (a, b) refl
+web-whole source all occurrences a b = rw (a, b) refl

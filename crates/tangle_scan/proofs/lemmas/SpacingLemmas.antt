@@ -1,14 +1,14 @@
 use Rattle.std.proofs.Common.{◌≡◌, ℕ, Bool, true, false, ◌||◌, not, List, [], ◌∷◌, ◌++◌, take, drop, refl, ap, sym, ◌∙◌, if◌then◌else◌, append_assoc, append-nil}
 use Rattle.std.specs.List.{list_any}
 use Rattle.tangle_lexer.specs.declared.tokens.Token.{Token}
-use Rattle.tangle_lexer.specs.declared.tokens.TextKind.TheVariants as text_kind
+use Rattle.tangle_lexer.specs.declared.tokens.SpanKind.TheVariants as span_kind
 use Rattle.tangle_lexer.specs.declared.tokens.Token.TheVariants as token
 use Rattle.tangle_scan.specs.declared.spacing.Stage.{Stage}
 use Rattle.tangle_scan.specs.declared.spacing.Spacing.{Spacing}
 use Rattle.tangle_scan.specs.declared.spacing.Stage.TheVariants as stage
-use Rattle.tangle_scan.specs.Rules.{without_joins, has_join, without_faults, without_front_gaps, with_spaces, with_name_space, with_space_behind, may_follow_name, would_merge}
+use Rattle.tangle_scan.specs.Rules.{without_joins, has_join, without_faults, without_front_gaps, with_spaces, with_name_space, with_space_after, may_follow_name, would_merge}
 use Rattle.tangle_scan.proofs.lemmas.RuleLemmas.{run-end, has_join-push}
-use Rattle.tangle_scan.specs.Passes.{without_joins_from, spacing_from, with_white_space, is_rare, behind_front, is_name_spaced, is_skipped, without_skipped, stage_behind, needs_space}
+use Rattle.tangle_scan.specs.Passes.{without_joins_from, spacing_from, with_white_space, is_rare, after_front, is_name_spaced, is_skipped, without_skipped, stage_after, needs_space}
 
 -- rule 1, token by token
 
@@ -30,59 +30,59 @@ without_skipped-gone stage.Front _ es h = cc
 without_skipped-gone _ _ es h = cc
 
 -- another stays
-pub without_skipped-stays : (at : Stage) (e : Token) (es : List Token) → is_skipped at e ≡ false → without_skipped at (e ∷ es) ≡ e ∷ without_skipped (stage_behind at e) es
+pub without_skipped-stays : (at : Stage) (e : Token) (es : List Token) → is_skipped at e ≡ false → without_skipped at (e ∷ es) ≡ e ∷ without_skipped (stage_after at e) es
 without_skipped-stays at (token.Fault kind line) es h = cc
 without_skipped-stays stage.Front token.White es h = cc
 without_skipped-stays stage.Front (token.LineEnd line) es h = cc
 without_skipped-stays stage.Front _ es h = refl
 without_skipped-stays stage.BeforeName _ es h = refl
-without_skipped-stays stage.BehindName _ es h = refl
+without_skipped-stays stage.AfterName _ es h = refl
 without_skipped-stays stage.Inside _ es h = refl
 
 -- a line end or a join before puts no more white space than white space does
 
 space-line : (texts : List (List ℕ)) (at : Stage) (line : ℕ) (e : Token) → needs_space texts at (token.LineEnd line) e ≡ needs_space texts at token.White e
-space-line texts stage.BehindName line e = refl
+space-line texts stage.AfterName line e = refl
 space-line texts _ line e = refl
 
 space-join : (texts : List (List ℕ)) (at : Stage) (e : Token) → needs_space texts at token.Join e ≡ needs_space texts at token.White e
-space-join texts stage.BehindName e = refl
+space-join texts stage.AfterName e = refl
 space-join texts _ e = refl
 
-pub behind-line : (texts : List (List ℕ)) (at : Stage) (line : ℕ) (es : List Token) →
+pub after-line : (texts : List (List ℕ)) (at : Stage) (line : ℕ) (es : List Token) →
     with_white_space texts at (token.LineEnd line) es
     ≡ with_white_space texts at token.White es
-behind-line texts at line [] = refl
-behind-line texts at line (e ∷ es) =
-    ap (λ b. (if b then token.White ∷ [] else []) ++ e ∷ with_white_space texts (stage_behind at e) e es) (space-line texts at line e)
+after-line texts at line [] = refl
+after-line texts at line (e ∷ es) =
+    ap (λ b. (if b then token.White ∷ [] else []) ++ e ∷ with_white_space texts (stage_after at e) e es) (space-line texts at line e)
 
-pub behind-join : (texts : List (List ℕ)) (at : Stage) (es : List Token) →
+pub after-join : (texts : List (List ℕ)) (at : Stage) (es : List Token) →
     with_white_space texts at token.Join es ≡ with_white_space texts at token.White es
-behind-join texts at [] = refl
-behind-join texts at (e ∷ es) =
-    ap (λ b. (if b then token.White ∷ [] else []) ++ e ∷ with_white_space texts (stage_behind at e) e es) (space-join texts at e)
+after-join texts at [] = refl
+after-join texts at (e ∷ es) =
+    ap (λ b. (if b then token.White ∷ [] else []) ++ e ∷ with_white_space texts (stage_after at e) e es) (space-join texts at e)
 
--- behind the name of a macro
-behind-name : (texts : List (List ℕ)) (e f : Token) (es : List Token) (touching following : Bool) → may_follow_name texts f ≡ following →
-    with_space_behind texts e ((if touching then token.White ∷ [] else []) ++ f ∷ es) ≡ e ∷ (if touching || not following then token.White ∷ [] else []) ++ f ∷ es
-behind-name texts e f es true following is = refl
-behind-name texts e f es false true is = rw is refl
-behind-name texts e f es false false is = rw is refl
+-- after the name of a macro
+after-name : (texts : List (List ℕ)) (e f : Token) (es : List Token) (touching following : Bool) → may_follow_name texts f ≡ following →
+    with_space_after texts e ((if touching then token.White ∷ [] else []) ++ f ∷ es) ≡ e ∷ (if touching || not following then token.White ∷ [] else []) ++ f ∷ es
+after-name texts e f es true following is = refl
+after-name texts e f es false true is = rw is refl
+after-name texts e f es false false is = rw is refl
 
-name-behind : (texts : List (List ℕ)) (e : Token) (es : List Token) →
-    with_space_behind texts e (with_white_space texts stage.Inside e es) ≡ e ∷ with_white_space texts stage.BehindName e es
-name-behind texts e [] = refl
-name-behind texts e (f ∷ es) = behind-name texts e f (with_white_space texts stage.Inside f es) (would_merge e f) (may_follow_name texts f) refl
+name-after : (texts : List (List ℕ)) (e : Token) (es : List Token) →
+    with_space_after texts e (with_white_space texts stage.Inside e es) ≡ e ∷ with_white_space texts stage.AfterName e es
+name-after texts e [] = refl
+name-after texts e (f ∷ es) = after-name texts e f (with_white_space texts stage.Inside f es) (would_merge e f) (may_follow_name texts f) refl
 
 name-spaced : (texts : List (List ℕ)) (es : List Token) →
     with_name_space texts (with_white_space texts stage.Inside token.White es) ≡ with_white_space texts stage.BeforeName token.White es
 name-spaced texts [] = refl
 name-spaced texts (token.White ∷ es) = ap (λ t. token.White ∷ t) (name-spaced texts es)
 name-spaced texts (token.LineEnd line ∷ es) =
-    rw (behind-line texts stage.Inside line es, behind-line texts stage.BeforeName line es) (ap (λ t. token.LineEnd line ∷ t) (name-spaced texts es))
+    rw (after-line texts stage.Inside line es, after-line texts stage.BeforeName line es) (ap (λ t. token.LineEnd line ∷ t) (name-spaced texts es))
 name-spaced texts (token.Join ∷ es) =
-    rw (behind-join texts stage.Inside es, behind-join texts stage.BeforeName es) (ap (λ t. token.Join ∷ t) (name-spaced texts es))
-name-spaced texts (e ∷ es) = name-behind texts e es
+    rw (after-join texts stage.Inside es, after-join texts stage.BeforeName es) (ap (λ t. token.Join ∷ t) (name-spaced texts es))
+name-spaced texts (e ∷ es) = name-after texts e es
 
 front-spaced : (texts : List (List ℕ)) (es : List Token) → with_white_space texts stage.Front token.White es ≡ with_white_space texts stage.BeforeName token.White es
 front-spaced texts [] = refl
@@ -92,9 +92,9 @@ pub spaced-front : (texts : List (List ℕ)) (es : List Token) → with_white_sp
 spaced-front texts es = front-spaced texts es ∙ (sym (name-spaced texts es) ∙ ap (with_name_space texts) (spaced-inside texts es))
 
 -- nothing is left to come
-pub spaced-end : (texts : List (List ℕ)) (out : List Token) (at : Spacing) → spacing_from texts out at [] ≡ (if has_join (drop at.run.start out) then take at.run.start out else out)
+pub spaced-end : (texts : List (List ℕ)) (spaced : List Token) (at : Spacing) → spacing_from texts spaced at [] ≡ (if has_join (drop at.run.start spaced) then take at.run.start spaced else spaced)
 unfolding spacing_from
-spaced-end texts out at = rw nothing (run-end at.run.start out)
+spaced-end texts spaced at = rw nothing (run-end at.run.start spaced)
   where
     gone : (stages : Stage) → without_skipped stages [] ≡ []
     gone stage.Front = refl
@@ -104,11 +104,11 @@ spaced-end texts out at = rw nothing (run-end at.run.start out)
     nothing = ap (with_white_space texts at.stage at.before) (gone at.stage)
 
 -- all is still to come
-pub spaced-begin : (texts : List (List ℕ)) (out : List Token) (at : Stage) (es : List Token) → out ≡ [] →
-    spacing_from texts out (record { run = record { start = 0; has_join = false }; stage = at; before = token.White }) es
+pub spaced-begin : (texts : List (List ℕ)) (spaced : List Token) (at : Stage) (es : List Token) → spaced ≡ [] →
+    spacing_from texts spaced (record { run = record { start = 0; has_join = false }; stage = at; before = token.White }) es
     ≡ without_joins [] (with_white_space texts at token.White (without_skipped at es))
 unfolding spacing_from without_joins_from
-spaced-begin texts out at es is = rw is refl
+spaced-begin texts spaced at es is = rw is refl
 
 -- where nothing is spaced, all stays
 
@@ -123,8 +123,8 @@ unchanged-faults (e ∷ es) h = ap (λ t. e ∷ t) (unchanged-faults es (or-fals
 
 unchanged-merge : (e f : Token) → is_rare e ≡ false → is_rare f ≡ false → would_merge e f ≡ false
 unchanged-merge (token.AsciiConstant value line) f h k = cc
-unchanged-merge (token.Text text_kind.Word s) (token.AsciiConstant value line) h k = cc
-unchanged-merge (token.Text text_kind.Word s) _ h k = refl
+unchanged-merge (token.Span span_kind.Word s) (token.AsciiConstant value line) h k = cc
+unchanged-merge (token.Span span_kind.Word s) _ h k = refl
 unchanged-merge _ f h k = refl
 
 unchanged-spaces : (es : List Token) → list_any is_rare es ≡ false → with_spaces es ≡ es
@@ -147,38 +147,38 @@ unchanged-without_joins run (e ∷ es) h k = rw h (ap (λ t. run ++ e ∷ t) (un
 pub unchanged-stays : (es : List Token) → list_any is_rare es ≡ false → es ≡ without_joins [] (with_spaces (without_faults es))
 unchanged-stays es h = sym (ap (λ t. without_joins [] (with_spaces t)) (unchanged-faults es h) ∙ (ap (without_joins []) (unchanged-spaces es h) ∙ unchanged-without_joins [] es refl h))
 
--- a macro without rare tokens, whose name needs no white space behind it
+-- a macro without rare tokens, whose name needs no white space after it
 
-behind-front : (es : List Token) → without_front_gaps es ≡ behind_front es
-behind-front [] = refl
-behind-front (token.White ∷ es) = behind-front es
-behind-front (token.LineEnd line ∷ es) = behind-front es
-behind-front (e ∷ es) = refl
+after-front : (es : List Token) → without_front_gaps es ≡ after_front es
+after-front [] = refl
+after-front (token.White ∷ es) = after-front es
+after-front (token.LineEnd line ∷ es) = after-front es
+after-front (e ∷ es) = refl
 
-behind-rare : (es : List Token) → list_any is_rare es ≡ false → list_any is_rare (behind_front es) ≡ false
-behind-rare [] h = refl
-behind-rare (token.White ∷ es) h = behind-rare es h
-behind-rare (token.LineEnd line ∷ es) h = behind-rare es h
-behind-rare (e ∷ es) h = h
+after-rare : (es : List Token) → list_any is_rare es ≡ false → list_any is_rare (after_front es) ≡ false
+after-rare [] h = refl
+after-rare (token.White ∷ es) h = after-rare es h
+after-rare (token.LineEnd line ∷ es) h = after-rare es h
+after-rare (e ∷ es) h = h
 
-name-stays : (texts : List (List ℕ)) (e : Token) (es : List Token) → is_name_spaced texts (e ∷ es) ≡ true → with_space_behind texts e es ≡ e ∷ es
+name-stays : (texts : List (List ℕ)) (e : Token) (es : List Token) → is_name_spaced texts (e ∷ es) ≡ true → with_space_after texts e es ≡ e ∷ es
 name-stays texts e [] h = refl
 name-stays texts e (f ∷ es) h = rw h refl
 
-named-stays : (texts : List (List ℕ)) (es : List Token) → list_any is_rare (behind_front es) ≡ false → is_name_spaced texts (behind_front es) ≡ true →
-    with_name_space texts (behind_front es) ≡ behind_front es
+named-stays : (texts : List (List ℕ)) (es : List Token) → list_any is_rare (after_front es) ≡ false → is_name_spaced texts (after_front es) ≡ true →
+    with_name_space texts (after_front es) ≡ after_front es
 named-stays texts [] h k = refl
 named-stays texts (token.White ∷ es) h k = named-stays texts es h k
 named-stays texts (token.LineEnd line ∷ es) h k = named-stays texts es h k
 named-stays texts (token.Join ∷ es) h k = cc
 named-stays texts (e ∷ es) h k = name-stays texts e es k
 
-pub unchanged-macro : (texts : List (List ℕ)) (es : List Token) → list_any is_rare es ≡ false → is_name_spaced texts (behind_front es) ≡ true →
-    behind_front es ≡ without_joins [] (with_name_space texts (with_spaces (without_front_gaps (without_faults es))))
+pub unchanged-macro : (texts : List (List ℕ)) (es : List Token) → list_any is_rare es ≡ false → is_name_spaced texts (after_front es) ≡ true →
+    after_front es ≡ without_joins [] (with_name_space texts (with_spaces (without_front_gaps (without_faults es))))
 unchanged-macro texts es h k =
-    let rest = behind_front es in
-    let rare = behind-rare es h in
-    let front = ap without_front_gaps (unchanged-faults es h) ∙ behind-front es in
+    let rest = after_front es in
+    let rare = after-rare es h in
+    let front = ap without_front_gaps (unchanged-faults es h) ∙ after-front es in
     let spaced = ap with_spaces front ∙ unchanged-spaces rest rare in
     let named = ap (with_name_space texts) spaced ∙ named-stays texts es rare k in
     sym (ap (without_joins []) named ∙ unchanged-without_joins [] rest refl rare)

@@ -1,6 +1,6 @@
-use Rattle.ctangle_cli.specs.Conversation.{taken_line}
+use Rattle.ctangle_cli.specs.Conversation.{edit_line}
 use Rattle.ctangle_cli.proofs.conversation.answer_edit.Goals as goal
 
 pub returns : goal.returns
 returns g c = λ request is edit.
-    (taken_line c.take_edit-taken.result, c.take_edit-taken.ensures request is edit, c.say_taken.ensures)
+    (edit_line c.make_or_hold-answer.result, c.make_or_hold-answer.ensures request is edit, c.write_edit_answer.ensures)

@@ -16,5 +16,5 @@ returns-in-Some g c =
       rw c.in-Some.ensures.after
           (committed c.args.session.now c.apply_all-done.new.self c.args.draft.now c.in-Some.held (list_line c.apply_all-done.result) (sym c.in-Some.ensures.value)
           (list_answered c.args.session.now c.apply_all-done.new.self c.in-Some.held.items c.apply_all-done.result done.files done.roles done.work done.refused done.only done.err)),
-      c.say_list.ensures,
+      c.write_list_answer.ensures,
     )

@@ -5,7 +5,7 @@ use Rattle.ctangle_cli.proofs.conversation.list_faults.Goals as goal
 pub returns : goal.returns
 returns g c =
     let now = g.S.Sink.stream c.args.sink.now in
-    let argument = c.say-argument.ensures now [] (TakesAll-none now) in
-    let counted = c.say-counted.ensures now _ argument in
+    let front = c.say-front.ensures now [] (TakesAll-none now) in
+    let counted = c.say-counted.ensures now _ front in
     let line = c.say-line.ensures now _ counted in
-    rw (← c.format.ensures.text, ← c.as_bytes.ensures.value) (c.say_lines.ensures now _ line)
+    rw (← c.format.ensures.text, ← c.as_bytes.ensures.value) (c.write_lines.ensures now _ line)

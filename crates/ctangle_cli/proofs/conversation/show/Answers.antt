@@ -12,4 +12,4 @@ pub returns-in-Some : goal.returns-in-Some
 returns-in-Some g c =
     let now = g.S.Sink.stream c.args.sink.now in
     let found = some_has_bytes _ c.in-Some.size (sym c.in-Some.is ∙ c.output_size.ensures) in
-    rw (found.1, found.2) (c.say_output.ensures now _ found.0 found.1 c.say_head-head.ensures)
+    rw (found.1, found.2) (c.write_bytes.ensures now _ found.0 found.1 c.write_head-head.ensures)

@@ -8,6 +8,6 @@ returns-in-Err-clause-err c = λ reported n.
     stops_given reported _ n n _ _ c.refused.ensures
     (refused_bytes _ reported n c.args.files.now c.args.name.now c.args.bytes.items c.in-Err.refusal _ refl c.requires c.in-Err.ensures.refused c.in-Err.ensures.only)
 
-pub returns-in-Ok-clause-there : goal.returns-in-Ok-clause-there
-returns-in-Ok-clause-there c =
+pub returns-in-Ok-clause-has_file : goal.returns-in-Ok-clause-has_file
+returns-in-Ok-clause-has_file c =
     subst (λ t. has_file t c.args.name.now ≡ true) (sym c.in-Ok.ensures.ok) (there_added c.args.files.now c.args.name.now c.args.bytes.items)

@@ -10,8 +10,8 @@ use Rattle.ctangle_cli.proofs.loading.load_files.Goals as goal
 pub read_rounds-requires : goal.read_rounds-requires
 read_rounds-requires g c =
     fits_both c.read_change.new.files c.args.roles.now
-    (grows_there c.read_needed.new.files c.read_change.new.files c.args.roles.now.web c.in_ok-read_change.ensures.grows (rw c.web.ensures at c.in_ok-read_needed.ensures.there))
-    (rw c.change.ensures at c.in_ok-read_change.ensures.there)
+    (grows_there c.read_needed.new.files c.read_change.new.files c.args.roles.now.web c.in_ok-read_change.ensures.grows (rw c.web.ensures at c.in_ok-read_needed.ensures.has_file))
+    (rw c.change.ensures at c.in_ok-read_change.ensures.has_file)
 
 pub returns-in_err-read_needed-clause-once : goal.returns-in_err-read_needed-clause-once
 returns-in_err-read_needed-clause-once g c = first_stops _ _ (rw c.new-files.ensures at c.in_err-read_needed.ensures.stops)

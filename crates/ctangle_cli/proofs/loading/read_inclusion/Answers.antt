@@ -3,7 +3,7 @@ use Rattle.std.proofs.lemmas.Result.{IfErr-weaker, err_from_is_err_and, on_ok_we
 use Rattle.tangle_files.specs.Adding.{has_file, is_name}
 use Rattle.ctangle_cli.specs.Tries.{tried}
 use Rattle.ctangle_cli.specs.Loading.{ending_of}
-use Rattle.ctangle_cli.specs.Loading.LoadEnd.{Memory}
+use Rattle.ctangle_cli.specs.Loading.LoadEnd.{NoMemory}
 use Rattle.ctangle_cli.proofs.AskLemmas.{always_err, asks_this, stops_at, stops_short, tries_absent, tries_added, tries_this, untried}
 use Rattle.ctangle_cli.proofs.LoadLemmas.{stops_along, included_bytes, absent_adds_none}
 use Rattle.ctangle_cli.proofs.OrderLemmas.{ends_about, ends_at, found_added, found_none, goes_asked, named_ends, named_goes}
@@ -114,8 +114,8 @@ returns-in_err-insert-in-Err-Missing-clause-ends g c =
     let left = err_from_is_err_and c.from_residual.result c.from_residual.ensures.1 in
     let old = tried (g.F.Folder.state c.args.folder.now).asked c.args.files.now c.args.absent.now in
     let asked = (g.F.Folder.state c.read_file.new.self).asked in
-    rw (left.1, left.2) (named_ends (g.F.Folder.state c.args.folder.now).files old asked c.args.name.now Memory (sym c.is_file_name.ensures ∙ c.if-not-is_file_name.false)
-    (ends_about (g.F.Folder.state c.args.folder.now).files old asked c.args.name.now Memory (untried _ _ (sym c.has.ensures ∙ c.if-has.false) (sym c.contains.ensures ∙ c.if-contains.false)) (rw c.in-Err-Missing.field-0-is at c.in-Err-Missing.ensures.asks) tt))
+    rw (left.1, left.2) (named_ends (g.F.Folder.state c.args.folder.now).files old asked c.args.name.now NoMemory (sym c.is_file_name.ensures ∙ c.if-not-is_file_name.false)
+    (ends_about (g.F.Folder.state c.args.folder.now).files old asked c.args.name.now NoMemory (untried _ _ (sym c.has.ensures ∙ c.if-has.false) (sym c.contains.ensures ∙ c.if-contains.false)) (rw c.in-Err-Missing.field-0-is at c.in-Err-Missing.ensures.asks) tt))
 
 pub returns-in-Err-TooBig-clause-ends : goal.returns-in-Err-TooBig-clause-ends
 returns-in-Err-TooBig-clause-ends g c =

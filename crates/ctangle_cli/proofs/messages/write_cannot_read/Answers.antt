@@ -5,7 +5,7 @@ use Rattle.ctangle_cli.proofs.messages.write_cannot_read.Goals as goal
 pub returns : goal.returns
 returns g c =
     let old = g.E.Sink.stream c.args.err.now in
-    let front = c.put-front.ensures old [] (IsWritten-none old) (omega arith) in
-    let reported = c.put-reported.ensures old _ front (omega (arith, length-append {A = ℕ})) in
-    let named = c.put-named.ensures old _ reported (omega (arith, length-append {A = ℕ})) in
-    c.put.ensures old _ named (omega (arith, length-append {A = ℕ}))
+    let front = c.write_after-front.ensures old [] (IsWritten-none old) (omega arith) in
+    let labelled = c.write_after-labelled.ensures old _ front (omega (arith, length-append {A = ℕ})) in
+    let named = c.write_after-named.ensures old _ labelled (omega (arith, length-append {A = ℕ})) in
+    c.write_after.ensures old _ named (omega (arith, length-append {A = ℕ}))

@@ -5,5 +5,5 @@ use Rattle.ctangle_cli.proofs.messages.write_no_memory.Goals as goal
 pub returns : goal.returns
 returns g c =
     let old = g.E.Sink.stream c.args.err.now in
-    let front = c.put-front.ensures old [] (IsWritten-none old) (omega arith) in
-    c.put.ensures old _ front (omega (arith, length-append {A = ℕ}))
+    let front = c.write_after-front.ensures old [] (IsWritten-none old) (omega arith) in
+    c.write_after.ensures old _ front (omega (arith, length-append {A = ℕ}))

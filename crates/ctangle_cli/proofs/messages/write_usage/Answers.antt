@@ -5,4 +5,4 @@ use Rattle.ctangle_cli.proofs.messages.write_usage.Goals as goal
 pub returns : goal.returns
 returns g c =
     let old = g.E.Sink.stream c.args.err.now in
-    c.put.ensures old [] (IsWritten-none old) (omega arith)
+    c.write_after.ensures old [] (IsWritten-none old) (omega arith)

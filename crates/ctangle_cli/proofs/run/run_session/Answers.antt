@@ -1,24 +1,24 @@
 use Rattle.std.proofs.Common.{refl}
-use Rattle.ctangle_cli.specs.Run.TangledEnds.{IsDone, IsUnheard}
+use Rattle.ctangle_cli.specs.Run.TangledEnds.{IsDone, IsCutAtFaults}
 use Rattle.ctangle_cli.proofs.RunLemmas.{ends_with_faults, tangled_stops, tangling_with}
 use Rattle.ctangle_cli.proofs.run.run_session.Goals as goal
 
 pub returns-in-Err : goal.returns-in-Err
 returns-in-Err g c =
     ends_with_faults c.args.session.now.files c.args.session.now.roles c.faults-faults.result.now _ _ _ c.faults-faults.ensures
-    (refl, refl) (IsUnheard c.in-Err.ensures.cut (refl, (refl, refl), refl) refl)
+    (refl, refl) (IsCutAtFaults c.in-Err.ensures.cut (refl, (refl, refl), refl) refl)
 
-pub returns-in-Err-write_outputs : goal.returns-in-Err-write_outputs
-returns-in-Err-write_outputs g c =
+pub returns-in-Err-create_outputs : goal.returns-in-Err-create_outputs
+returns-in-Err-create_outputs g c =
     ends_with_faults c.args.session.now.files c.args.session.now.roles c.faults-faults.result.now _ _ _ c.faults-faults.ensures
-    (c.in-Err-write_outputs.ensures.asked_stay, c.in-Err-write_outputs.ensures.failed_stay)
+    (c.in-Err-create_outputs.ensures.asked_stay, c.in-Err-create_outputs.ensures.failed_stay)
     (tangled_stops (tangling_with c.args.session.now.files c.args.session.now.roles c.faults-faults.result.now) _ _ _
-    c.in-Err-write_outputs.stop.name.now c.in-Err-write_outputs.stop.fault c.write_unwritten.result
-    c.in-Err-write_outputs.ensures.stopped c.in-Err-write_outputs.ensures.failed c.in-Err-write_outputs.ensures.unfailed_memory
+    c.in-Err-create_outputs.stop.name.now c.in-Err-create_outputs.stop.fault c.write_unwritten.result
+    c.in-Err-create_outputs.ensures.stopped c.in-Err-create_outputs.ensures.failed c.in-Err-create_outputs.ensures.no_failure
     c.in-Ok.ensures.whole c.write_unwritten.ensures)
 
-pub returns-in-Ok-write_outputs : goal.returns-in-Ok-write_outputs
-returns-in-Ok-write_outputs g c =
+pub returns-in-Ok-create_outputs : goal.returns-in-Ok-create_outputs
+returns-in-Ok-create_outputs g c =
     ends_with_faults c.args.session.now.files c.args.session.now.roles c.faults-faults.result.now _ _ _ c.faults-faults.ensures
-    (c.in-Ok-write_outputs.ensures.asked_stay, c.in-Ok-write_outputs.ensures.failed_stay)
-    (IsDone c.in-Ok.ensures.whole c.in-Ok-write_outputs.ensures.whole c.in-Ok-write_outputs.ensures.unfailed c.status.ensures)
+    (c.in-Ok-create_outputs.ensures.asked_stay, c.in-Ok-create_outputs.ensures.failed_stay)
+    (IsDone c.in-Ok.ensures.whole c.in-Ok-create_outputs.ensures.whole c.in-Ok-create_outputs.ensures.unfailed c.status.ensures)

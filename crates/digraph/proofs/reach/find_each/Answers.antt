@@ -1,5 +1,5 @@
 use Rattle.std.proofs.Common.{arith}
-use Rattle.digraph.proofs.FindingLemmas.{passed_found, passed_settled}
+use Rattle.digraph.proofs.FindingLemmas.{passed_found, passed_decided}
 use Rattle.digraph.proofs.reach.find_each.Goals as goal
 use Rattle.digraph.proofs.reach.find_each.Goals.{then-find, else-find}
 
@@ -8,8 +8,8 @@ loop-n-preserved c =
     let reported = c.find.ensures in
     elim c.if-find.branch [
       | then-find w ↦ rw w.any-is (passed_found _ _ _ _ _ _ _ c.loop-n.invariant reported.finding (reported.more w.if-find.true))
-      | else-find w ↦ rw w.any-is (passed_settled _ _ _ _ _ _ _ c.loop-n.invariant reported.finding (reported.same w.if-find.false) (reported.settled w.if-find.false))
+      | else-find w ↦ rw w.any-is (passed_decided _ _ _ _ _ _ _ c.loop-n.invariant reported.finding (reported.same w.if-find.false) (reported.decided w.if-find.false))
     ]
 
 pub returns-clause-none : goal.returns-clause-none
-returns-clause-none c = λ e n h. c.loop-n.invariant.settled e n (omega (arith, h))
+returns-clause-none c = λ e n h. c.loop-n.invariant.decided e n (omega (arith, h))

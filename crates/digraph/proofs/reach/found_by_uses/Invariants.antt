@@ -1,5 +1,5 @@
 use Rattle.digraph.specs.Finding.{IsFinding}
-use Rattle.digraph.specs.Placing.{unflagged}
+use Rattle.digraph.specs.OrderSoFar.{unflagged}
 use Rattle.digraph.proofs.reach.found_by_uses.Given as goal
 
 abbrev pub invariant-loop-n : goal.invariant-loop-n

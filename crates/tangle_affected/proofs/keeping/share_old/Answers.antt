@@ -6,9 +6,9 @@ use Rattle.tangle_affected.proofs.keeping.share_old.Goals as goal
 pub unwrap-before-requires : goal.unwrap-before-requires
 unwrap-before-requires c =
     let node = c.args.node in
-    let change = c.requires.change.0 in
-    let is = c.requires.change.1 in
-    let unaffected = c.requires.change.2 in
-    let stays = c.unaffected_nodes_stay.ensures levels heaviest change.old change.new (title_in_store c.args.new.now node) unaffected.0 unaffected.1 in
-    let at = node_with_piece change.old c.args.old.now (title_in_store c.args.new.now node) is.before stays.0.has_piece in
+    let shapes = c.requires.edit.0 in
+    let is = c.requires.edit.1 in
+    let unaffected = c.requires.edit.2 in
+    let stays = c.unaffected_nodes_stay.ensures levels heaviest shapes.old shapes.new (title_in_store c.args.new.now node) unaffected.0 unaffected.1 in
+    let at = node_with_piece shapes.old c.args.old.now (title_in_store c.args.new.now node) is.before stays.0.has_piece in
     some_unless c.node_before.result (λ none. c.node_before.ensures.none none at.0 at.1 at.2)

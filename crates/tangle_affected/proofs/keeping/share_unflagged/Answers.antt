@@ -12,20 +12,20 @@ keep_share-requires c =
     let order = c.args.order.now in
     let i = c.loop-node.node-index in
     let h = c.loop-node-test.true in
-    let change = c.requires.change.0 in
-    let is = c.requires.change.1 in
-    let placed = c.requires.order in
+    let shapes = c.requires.edit.0 in
+    let is = c.requires.edit.1 in
+    let ordered = c.requires.order in
     let node = get_or order i Program in
-    let inside = at_position new order placed i h in
+    let inside = at_position new order ordered i h in
     let unflagged = sym c.is_flagged.ensures ∙ c.if-not-is_flagged.true in
     record {
       node = inside;
-      change = (
-        change,
+      edit = (
+        shapes,
         is,
         (
           (is.after.expandable node inside).0 (sym c.expandable.ensures ∙ c.if-expandable.true),
-          λ affected. true_false (flag_at new c.args.flags.now node) (c.requires.flags change is node inside affected) unflagged,
+          λ affected. true_false (flag_at new c.args.flags.now node) (c.requires.flags shapes is node inside affected) unflagged,
         ),
       );
     }
@@ -36,18 +36,18 @@ loop-node-preserved c =
     let order = c.args.order.now in
     let i = c.loop-node.node-index in
     let h = c.loop-node-test.true in
-    let placed = c.requires.order in
+    let ordered = c.requires.order in
     let node = get_or order i Program in
     let flagged = flag_at new c.args.flags.now in
     elim c.if-expandable.branch [
-      | then-expandable+then-not-is_flagged+in_ok-keep_share w ↦ rw w.kept-is (λ change is.
+      | then-expandable+then-not-is_flagged+in_ok-keep_share w ↦ rw w.kept-is (λ shapes is.
           let flag = sym c.expandable.ensures ∙ w.if-expandable.true in
           let unflagged = sym w.is_flagged.ensures ∙ w.if-not-is_flagged.true in
-          let inside = at_position new order placed i h in
-          unflagged_more change.new new order placed flagged i c.loop-node.kept _ h flag (c.loop-node.invariant change is)
-          (w.in_ok-keep_share.ensures change is ((is.after.expandable node inside).0 flag, λ affected. true_false (flag_at new c.args.flags.now node) (c.requires.flags change is node inside affected) unflagged)))
-      | else-expandable w ↦ rw w.kept-is (λ change is. unflagged_same change.new new order placed flagged i c.loop-node.kept h (λ e m. elim w.else-expandable.branch [
+          let inside = at_position new order ordered i h in
+          unflagged_more shapes.new new order ordered flagged i c.loop-node.kept _ h flag (c.loop-node.invariant shapes is)
+          (w.in_ok-keep_share.ensures shapes is ((is.after.expandable node inside).0 flag, λ affected. true_false (flag_at new c.args.flags.now node) (c.requires.flags shapes is node inside affected) unflagged)))
+      | else-expandable w ↦ rw w.kept-is (λ shapes is. unflagged_same shapes.new new order ordered flagged i c.loop-node.kept h (λ e m. elim w.else-expandable.branch [
         | else-expandable-via-then-expandable+else-not-is_flagged v ↦ true_false (flag_at new c.args.flags.now (get_or order i Program)) (sym v.is_flagged.ensures ∙ v.if-not-is_flagged.false) m
         | else-expandable-via-else-expandable v ↦ true_false c.expandable.result (c.expandable.ensures ∙ e) v.if-expandable.false
-      ]) (c.loop-node.invariant change is))
+      ]) (c.loop-node.invariant shapes is))
     ]

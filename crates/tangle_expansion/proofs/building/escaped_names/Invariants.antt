@@ -5,6 +5,6 @@ use Rattle.tangle_expansion.proofs.building.escaped_names.Given as goal
 
 abbrev pub invariant-loop-number : goal.invariant-loop-number
 invariant-loop-number l = record {
-  are : map (λ n. n.items) l.names.items ≡ map escaped (take l.number l.web.file_names);
+  names : map (λ n. n.items) l.names.items ≡ map escaped (take l.number l.web.file_names);
   short : All (λ n. vec_len n < 2 ^ 64) l.names.items;
 }

@@ -12,7 +12,7 @@ no-origins [] h = refl
 no-origins (item.LineMark origin ∷ items) h = cc
 no-origins (_ ∷ items) h = no-origins items h
 
-pub returns-then-not-may_have_mark-clause-are : goal.returns-then-not-may_have_mark-clause-are
-returns-then-not-may_have_mark-clause-are c =
+pub returns-then-not-may_have_mark-clause-origins : goal.returns-then-not-may_have_mark-clause-origins
+returns-then-not-may_have_mark-clause-origins c =
     let none = no-origins c.args.piece.now.items (c.may_have_mark.ensures c.if-not-may_have_mark.true) in
     c.new-origins.ensures.items ∙ sym none

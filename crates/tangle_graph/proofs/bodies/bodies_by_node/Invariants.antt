@@ -8,6 +8,6 @@ invariant-loop-n l = record {
   bodies : AreBodies l.web l.table (rows_of (take l.n l.pieces)) (node_bodies l.bodies.items);
   plans : ArePlans l.web l.table (λ id. get_or l.has_piece id false) (rows_of (take l.n l.pieces)) (slots_of l.bodies.items) (uses_of_plans l.bodies.items);
   planned : ArePlanned l.table.names (λ id. get_or l.has_piece id false) (node_bodies l.bodies.items);
-  flags_size : length l.are_kept.items ≡ length l.bodies.items;
-  kept : AreAsBefore l.old l.table.names (node_bodies l.bodies.items) l.are_kept.items;
+  flags_size : length l.are_as_before.items ≡ length l.bodies.items;
+  as_before : AreAsBefore l.old l.table.names (node_bodies l.bodies.items) l.are_as_before.items;
 }

@@ -2,15 +2,15 @@ use Rattle.std.proofs.Common.{◌≡◌, ◌∙◌, ℕ, Bool, get_or, ap, sym, 
 use Rattle.std.specs.Prelude.{IfSome, MatchOption}
 use Rattle.tangle_plans.specs.Comparing.{IsPlanned}
 use Rattle.tangle_plans.specs.ItemSlots.{pieces_at, pieces_slots}
-use Rattle.tangle_plans.specs.NodeBodies.{node_title}
+use Rattle.tangle_plans.specs.NodeBodies.{body_title}
 use Rattle.tangle_plans.specs.Shapes.{Title}
 use Rattle.tangle_graph.specs.Nodes.{title_at}
 use Rattle.tangle_graph.specs.Plans.{IsBodyAt}
 use Rattle.tangle_graph.proofs.BodyLemmas.{is_body_of}
 use Rattle.tangle_graph.proofs.bodies.body_after.Goals as goal
 
-pub returns-in-Ok-clause-kept : goal.returns-in-Ok-clause-kept
-returns-in-Ok-clause-kept c = λ _.
+pub returns-in-Ok-clause-old : goal.returns-in-Ok-clause-old
+returns-in-Ok-clause-old c = λ _.
     subst (λ o. MatchOption o ⊥ (λ body. c.in-Ok.body.value ≡ body.now.value)) (sym c.in-Some.is) c.in-Ok.ensures.cases
 
 pub returns-in-Ok-clause-body : goal.returns-in-Ok-clause-body
@@ -21,17 +21,17 @@ returns-in-Ok-clause-body c =
     let pieces = pieces_at web.pieces numbers in
     let has : ℕ → Bool = λ id. get_or c.args.has_piece.now id false in
     let old = c.deref.result.now in
-    let yes = c.if-is_same_node.true in
+    let yes = c.if-has_items_of.true in
     let same : c.in-Ok.body.value ≡ old = c.in-Ok.ensures.cases ∙ sym c.deref.ensures in
     let planned : IsPlanned has old =
     subst (IsPlanned has) (sym c.deref.ensures) (subst (λ o. IfSome o (λ body. IsPlanned has body.now.value)) c.in-Some.is c.requires.planned) in
-    let title : node_title old ≡ title_at table.names c.args.n =
-    ap node_title c.deref.ensures ∙ subst (λ o. IfSome o (λ body. node_title body.now.value ≡ title_at table.names c.args.n)) c.in-Some.is c.requires.title in
-    let plan = c.is_same_node.ensures.plan yes has planned in
+    let title : body_title old ≡ title_at table.names c.args.n =
+    ap body_title c.deref.ensures ∙ subst (λ o. IfSome o (λ body. body_title body.now.value ≡ title_at table.names c.args.n)) c.in-Some.is c.requires.title in
+    let plan = c.has_items_of.ensures.plan yes has planned in
     subst (IsBodyAt web table has c.args.n numbers) (sym same) (record {
       slots = plan ∙ ap (λ (t : Title). pieces_slots web.texts table has t 0 pieces) title;
-      is_body = is_body_of web table has (node_title old) numbers old (c.is_same_node.ensures.shape yes) (c.is_same_node.ensures.same.0 yes).uses plan;
-      uses = c.is_same_node.ensures.plan_uses yes has planned;
+      is_body = is_body_of web table has (body_title old) numbers old (c.has_items_of.ensures.shape yes) (c.has_items_of.ensures.same.0 yes).uses plan;
+      uses = c.has_items_of.ensures.plan_uses yes has planned;
       title = title;
       planned = planned;
     })

@@ -31,7 +31,7 @@ loop-n-preserved c =
     let i = c.loop-n.n-index in
     let n = get_or order i 0 in
     let value : ℕ → ℕ = λ k. depth_of (shapes web table) (title_at table.names k) in
-    let inside : n < length c.args.uses.now = c.requires.order.placed.nodes i c.loop-n-test.true in
+    let inside : n < length c.args.uses.now = c.requires.order.after_uses.nodes i c.loop-n-test.true in
     let low : n < length c.args.pieces.now = omega (arith, inside, c.requires.graph.rows_size, c.requires.graph.uses_size) in
     let row = c.deref-in-loop-n.result.now in
     let used = c.deref-in-loop-n-2.result.now in
@@ -43,7 +43,7 @@ loop-n-preserved c =
     (λ h. subst (λ ds. (1 ≤ c.depth_of_node.result) × All (λ m. min levels (1 + get_or ds m 0) ≤ c.depth_of_node.result) used) c.deref.ensures.value (c.depth_of_node.ensures.least h))
     (λ h. subst (λ ds. (c.depth_of_node.result ≡ 1) ⊎ ((m : ℕ) × Contains used m × (c.depth_of_node.result ≡ min levels (1 + get_or ds m 0)))) c.deref.ensures.value (c.depth_of_node.ensures.met h)) in (
       length-set c.loop-n.depths.items n c.depth_of_node.result ∙ c.loop-n.invariant.0,
-      measured_next c.args.uses.now value levels c.loop-n.depths.items order i c.depth_of_node.result c.requires.order.placed c.loop-n-test.true c.loop-n.invariant.0 c.loop-n.invariant.1 right,
+      measured_next c.args.uses.now value levels c.loop-n.depths.items order i c.depth_of_node.result c.requires.order.after_uses c.loop-n-test.true c.loop-n.invariant.0 c.loop-n.invariant.1 right,
     )
 
 pub returns-clause-depths : goal.returns-clause-depths

@@ -1,6 +1,6 @@
 use Rattle.std.proofs.Common.{◌++◌, ◌∷◌, [], ◌∙◌, take, ap, sym, cond, zero-add}
 use Rattle.digraph.specs.Users.{positions}
-use Rattle.tangle_graph.proofs.RowLemmas.{positions_more}
+use Rattle.digraph.proofs.UserLemmas.{positions_more}
 use Rattle.tangle_graph.proofs.outputs.file_occurrences.Goals as goal
 
 pub loop-i-preserved : goal.loop-i-preserved

@@ -2,9 +2,9 @@ use Rattle.std.proofs.Common.{◌≡◌, ◌∙◌, ◌<◌, ◌+◌, ◌++◌, 
 use Rattle.std.proofs.lemmas.List.{take_all}
 use Rattle.digraph.specs.Graph.{rows_of}
 use Rattle.digraph.proofs.GraphLemmas.{rows_size}
+use Rattle.digraph.proofs.UserLemmas.{positions_more}
 use Rattle.tangle_scan.specs.Web.{PieceRead}
-use Rattle.tangle_graph.specs.Grouping.{passed_of, positions_of, is_piece_of_number, is_number, number_of}
-use Rattle.tangle_graph.proofs.RowLemmas.{positions_more}
+use Rattle.tangle_graph.specs.Grouping.{passed_of, positions_of, is_piece_of_number, has_number_in, number_of_piece}
 use Rattle.tangle_graph.proofs.pieces.are_rows_of.Goals as goal
 
 pub loop-i-preserved : goal.loop-i-preserved
@@ -16,10 +16,10 @@ loop-i-preserved c =
     record {
       size = c.pass_next.ensures.size;
       rows = λ n h. c.pass_next.ensures.rows c.if-not-pass_next.false n h
-          ∙ ap (λ l. l ++ cond (is_number n c.number_of.result) (i ∷ []) []) (c.loop-i.invariant.rows n h)
+          ∙ ap (λ l. l ++ cond (has_number_in n c.number_of_piece.result) (i ∷ []) []) (c.loop-i.invariant.rows n h)
           ∙ sym (positions_more (is_piece_of_number table n) 0 pieces i d c.loop-i-test.true
           ∙ (λ j. positions_of table (take i pieces) n
-          ++ cond (is_number n ((ap (λ p. number_of table p.occurrence) (sym c.index-pieces-i.is) ∙ ap (number_of table) (sym c.occurrence.ensures) ∙ sym c.number_of.ensures.node) j)) (zero-add i j ∷ []) []));
+          ++ cond (has_number_in n ((ap (λ p. number_of_piece table p.occurrence) (sym c.index-pieces-i.is) ∙ ap (number_of_piece table) (sym c.occurrence.ensures) ∙ sym c.number_of_piece.ensures.number) j)) (zero-add i j ∷ []) []));
     }
 
 pub returns : goal.returns

@@ -8,7 +8,7 @@ use Rattle.tangle_expansion.specs.Kept.{used_symbols}
 use Rattle.tangle_plans.specs.Slots.{filled}
 use Rattle.tangle_plans.specs.declared.nodes.NodeBody.{NodeBody}
 use Rattle.tangle_graph.specs.Stores.{StoreRead}
-use Rattle.tangle_graph.specs.StoreKept.{store_read}
+use Rattle.tangle_graph.specs.StoreView.{store_read}
 use Rattle.tangle_graph.specs.declared.store.Store.TheInside.{Inside}
 use Rattle.tangle_graph.proofs.ExpandLemmas.{expanded_right, plan_uses_read, slots_read, body_there}
 use Rattle.tangle_graph.proofs.store.expand_one.Goals as goal
@@ -17,8 +17,8 @@ sizes : (inside : Inside) (store : StoreRead) → store_read inside ≡ store �
 sizes inside store is size =
     ap (λ (s : StoreRead). length s.bodies) (sym is) ∙ length-map inside.bodies.items (λ (t : Rc NodeBody Global). t.value) ∙ size ∙ ap (λ (s : StoreRead). length s.expandable) is
 
-pub expand-requires-clause-text : goal.expand-requires-clause-text
-expand-requires-clause-text c =
+pub expand-requires-clause-body : goal.expand-requires-clause-body
+expand-requires-clause-body c =
     let size = sizes c.store.inside c.args.store.now c.store.view_is c.store.invariant.sizes in
     let there = body_there c.args.store.now c.args.node size c.requires.expandable in
     subst IsSome (sym there.1) refl

@@ -2,7 +2,7 @@ use Rattle.std.proofs.Common.{refl, ap, sym, ◌∙◌, append_assoc}
 use Rattle.tangle_text.specs.declared.regions.Region.TheVariants as region
 use Rattle.tangle_text.specs.Regions.{region_end}
 use Rattle.tangle_lexer.specs.Comments.{starts_section}
-use Rattle.tangle_lexer.proofs.lemmas.OpenedRegions.{behind-two, mid-is}
+use Rattle.tangle_lexer.proofs.lemmas.OpenedRegions.{after-two, mid-is}
 use Rattle.tangle_lexer.proofs.comments.line_comment.Goals as goal
 
 pub returns-in_ok-push-2 : goal.returns-in_ok-push-2
@@ -11,7 +11,7 @@ returns-in_ok-push-2 c =
     let starts = sym (ap starts_section mid) ∙ (sym c.starts_section.ensures ∙ c.if-starts_section.true) in
     record {
       tokens = rw (c.in_ok-push-2.ensures.items, c.line.ensures, c.in_ok-push.ensures.items, starts, mid, append_assoc) refl;
-      ahead = mid ∙ sym (behind-two _ c.args.ahead.now);
+      ahead = mid ∙ sym (after-two _ c.args.ahead.now);
       state = refl;
     }
 
@@ -21,6 +21,6 @@ returns-else-starts_section c =
     let starts = sym (ap starts_section mid) ∙ (sym c.starts_section.ensures ∙ c.if-starts_section.false) in
     record {
       tokens = rw (c.in_ok-push.ensures.items, starts) refl;
-      ahead = mid ∙ sym (behind-two _ c.args.ahead.now);
+      ahead = mid ∙ sym (after-two _ c.args.ahead.now);
       state = refl;
     }

@@ -17,19 +17,19 @@ pub returns-in-Stop-clause-tokens : goal.returns-in-Stop-clause-tokens
 returns-in-Stop-clause-tokens c =
     let here = unit_at-front c.args.region c.loop-front.ahead c.in-Some.front _ c.in-Some.ensures.front c.unit_of-unit.ensures in
     let none = from_units-stop unit_line_end c.args.region c.loop-front.ahead (here ∙ c.in-Stop.is) in
-    sym (append-nil c.loop-front.tokens.items) ∙ (ap (λ es. c.loop-front.tokens.items ++ es) (sym none) ∙ c.loop-front.invariant.tokens)
+    sym (append-nil c.loop-front.tokens.items) ∙ (ap (λ ts. c.loop-front.tokens.items ++ ts) (sym none) ∙ c.loop-front.invariant.tokens)
 
 pub returns-in-Stop-clause-include : goal.returns-in-Stop-clause-include
 returns-in-Stop-clause-include c =
     let here = unit_at-front c.args.region c.loop-front.ahead c.in-Some.front _ c.in-Some.ensures.front c.unit_of-unit.ensures in
     let none = from_units-stop unit_line_end c.args.region c.loop-front.ahead (here ∙ c.in-Stop.is) in
-    sym (ap (λ es. include_over es c.loop-front.include) none) ∙ c.loop-front.invariant.include
+    sym (ap (λ ts. include_over ts c.loop-front.include) none) ∙ c.loop-front.invariant.include
 
 pub loop-front-preserved : goal.loop-front-preserved
 loop-front-preserved c =
     let front = c.in-Some.ensures.front in
     let here = unit_at-front c.args.region c.loop-front.ahead c.in-Some.front _ front c.unit_of-unit.ensures in
-    let given = from_units-go unit_line_end c.args.region c.args.state.last c.loop-front.ahead c.unit_of-unit.result front.inside here c.in_default-unit.not-Stop in
+    let given = from_units-go unit_line_end c.args.region c.args.state.last_line c.loop-front.ahead c.unit_of-unit.result front.inside here c.in_default-unit.not-Stop in
     let is = c.requires in
     let skip = c.skip_ordinary.ensures in
     record {
@@ -38,11 +38,11 @@ loop-front-preserved c =
           ∙ (sym (region_end-go c.args.region c.loop-front.ahead c.unit_of-unit.result here c.in_default-unit.not-Stop) ∙ c.loop-front.invariant.end)));
       tokens =
           let same = ap (line_ends c.args.region) skip.1 ∙ line_ends-ordinary c.args.region is skip.0 c.pass.new.self skip.2 in
-          ap (λ es. c.push_line_end.new.tokens.items ++ es) same
+          ap (λ ts. c.push_line_end.new.tokens.items ++ ts) same
           ∙ rw (c.pass.ensures, c.in_ok-include.ensures.tokens, c.line.ensures, ← front.byte, append_assoc, ← given) c.loop-front.invariant.tokens;
       include =
           let same = ap (line_ends c.args.region) skip.1 ∙ line_ends-ordinary c.args.region is skip.0 c.pass.new.self skip.2 in
-          ap (λ es. include_over es c.in_ok-include.include) same
+          ap (λ ts. include_over ts c.in_ok-include.include) same
           ∙ rw (c.pass.ensures, c.in_ok-include.ensures.include, c.line.ensures, ← front.byte, ← include_over-append, ← given) c.loop-front.invariant.include;
     }
 

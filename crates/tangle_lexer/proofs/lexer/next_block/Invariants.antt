@@ -7,11 +7,11 @@ use Rattle.tangle_lexer.proofs.lexer.next_block.Given as goal
 
 abbrev pub invariant-loop-front : goal.invariant-loop-front
 invariant-loop-front l = record {
-  tokens : l.output.tokens.items ++ tokens_from l.state l.ahead ≡ tokens_from l.fn.from l.fn.ahead;
-  no_head : list_any is_head l.output.tokens.items ≡ false;
-  occurrences : l.output.occurrences.items ++ map (occurrence_of l.source.lines) (occurrences_from l.state l.ahead)
-      ≡ l.fn.output.occurrences.items ++ map (occurrence_of l.source.lines) (occurrences_from l.fn.from l.fn.ahead);
-  count : l.state.occurrences ≡ length l.output.occurrences.items;
+  tokens : l.buffers.tokens.items ++ tokens_from l.state l.ahead ≡ tokens_from l.fn.from l.fn.ahead;
+  no_head : list_any is_head l.buffers.tokens.items ≡ false;
+  occurrences : l.buffers.occurrences.items ++ map (occurrence_of l.source.lines) (occurrences_from l.state l.ahead)
+      ≡ l.fn.buffers.occurrences.items ++ map (occurrence_of l.source.lines) (occurrences_from l.fn.from l.fn.ahead);
+  count : l.state.occurrences ≡ length l.buffers.occurrences.items;
   shorter : length l.ahead ≤ length l.fn.ahead;
 }
 

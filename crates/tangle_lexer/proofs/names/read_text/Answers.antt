@@ -31,9 +31,9 @@ loop-front-preserved c =
           ∙ (sym (region_end-go region.Name c.loop-front.ahead c.unit_of-unit.result here c.in_default-unit.not-Stop) ∙ c.loop-front.invariant.end);
       name =
           let unit = rw (front.byte, front.next) at given in
-          let behind = sym chunk.units ∙ ap units c.pass.ensures in
+          let after = sym chunk.units ∙ ap units c.pass.ensures in
           c.in_ok-white-2.ensures (units c.take_name_bytes.new.self)
-          ∙ ap (λ bs. c.push_unit.new.name.items ++ with_single_spaces (has_begun c.push_unit.new.name.items) c.in_ok-white.white bs) behind
+          ∙ ap (λ bs. c.push_name_unit.new.name.items ++ with_single_spaces (has_begun c.push_name_unit.new.name.items) c.in_ok-white.white bs) after
           ∙ c.in_ok-white.ensures (units passed)
           ∙ (ap (λ bs. c.loop-front.name.items ++ with_single_spaces (has_begun c.loop-front.name.items) c.loop-front.white bs) (sym unit) ∙ c.loop-front.invariant.name);
     }

@@ -16,7 +16,7 @@ pub returns-in-Stop-clause-tokens : goal.returns-in-Stop-clause-tokens
 returns-in-Stop-clause-tokens c = λ ends.
     let here = unit_at-front c.args.region c.loop-front.ahead c.in-Some.front _ c.in-Some.ensures.front c.unit_of-unit.ensures in
     let stop = cut-stop ends c.args.region c.loop-front.start c.loop-front.ahead (here ∙ c.in-Stop.is) in
-    ap (λ es. c.loop-front.tokens.items ++ es) (sym stop) ∙ c.loop-front.invariant.tokens ends
+    ap (λ ts. c.loop-front.tokens.items ++ ts) (sym stop) ∙ c.loop-front.invariant.tokens ends
 
 pub loop-front-preserved : goal.loop-front-preserved
 loop-front-preserved c =
@@ -31,7 +31,7 @@ loop-front-preserved c =
       tokens = λ ends.
           let given = cut-go ends c.args.region c.loop-front.start c.args.last c.loop-front.ahead c.unit_of-unit.result front.inside here c.in_default-unit.not-Stop in
           let same = ap (cut_tokens ends c.args.region 0 c.in_ok-start.start) skip.1 ∙ cut-ordinary ends c.args.region is skip.0 c.in_ok-start.start c.pass.new.self skip.2 in
-          ap (λ es. c.push_unit.new.tokens.items ++ es) same
+          ap (λ ts. c.push_quoted_unit.new.tokens.items ++ ts) same
           ∙ rw (c.pass.ensures, c.in_ok-start.ensures.tokens c.args.last c.line.ensures, c.in_ok-start.ensures.start c.args.last, append_assoc, ← given) (c.loop-front.invariant.tokens ends);
     }
 
@@ -41,4 +41,4 @@ returns-clause-ahead c =
 
 pub returns-clause-tokens : goal.returns-clause-tokens
 returns-clause-tokens c = λ ends.
-    ap (λ es. c.loop-front.tokens.items ++ es) (sym (cut-nothing ends c.args.region c.loop-front.start c.loop-front.ahead c.in_default.ensures.end)) ∙ c.loop-front.invariant.tokens ends
+    ap (λ ts. c.loop-front.tokens.items ++ ts) (sym (cut-nothing ends c.args.region c.loop-front.start c.loop-front.ahead c.in_default.ensures.end)) ∙ c.loop-front.invariant.tokens ends

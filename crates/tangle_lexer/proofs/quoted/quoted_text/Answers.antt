@@ -8,7 +8,7 @@ use Rattle.tangle_lexer.proofs.quoted.quoted_text.Goals as goal
 
 pub returns : goal.returns
 returns c =
-    let ends = quote_end c.args.region c.args.close c.args.state.last in
+    let ends = quote_end c.args.region c.args.close c.args.state.last_line in
     let end = c.in_ok-start.ensures.ahead ∙ ap (region_end c.args.region) c.advance.ensures in
     record {
       tokens = rw (c.in_ok-end_quote.ensures.tokens, c.in_ok-start.ensures.tokens ends, c.advance.ensures, c.column-opening.ensures.column) refl;

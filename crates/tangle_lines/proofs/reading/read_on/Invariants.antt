@@ -1,5 +1,5 @@
 use Rattle.std.proofs.Common.{◌≡◌, ◌≤◌, ◌-◌, [], length}
-use Rattle.tangle_lines.specs.Reading.{reads_from, before_reads, line_limit}
+use Rattle.tangle_lines.specs.Reading.{reads_from, before_reads, source_line_limit}
 use Rattle.tangle_lines.proofs.reading.read_on.Given as goal
 
 abbrev pub invariant-loop-line : goal.invariant-loop-line
@@ -8,8 +8,8 @@ invariant-loop-line l = record {
       before_reads (record { lines = l.lines.items; faults = l.faults.items }) (reads_from l.files l.change_file (record { waiting = l.waiting; changes = l.changes; taken = l.taken }))
       ≡ before_reads (record { lines = []; faults = l.fn.faults.items }) (reads_from l.files l.change_file (record { waiting = l.fn.waiting; changes = l.fn.changes; taken = 0 }));
   few : length l.lines.items ≤ l.taken;
-  limit : length l.lines.items ≤ line_limit;
+  limit : length l.lines.items ≤ source_line_limit;
 }
 
 abbrev pub decreases-loop-line : goal.decreases-loop-line
-decreases-loop-line l = line_limit - l.taken
+decreases-loop-line l = source_line_limit - l.taken

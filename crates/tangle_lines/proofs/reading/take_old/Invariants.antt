@@ -7,7 +7,7 @@ invariant-loop-rest l = record {
   lines : l.lines + min (length l.rest) (length l.waiting) ≡ min (length l.fn.old_lines) (length l.fn.waiting);
   unequal : l.unequal + unequal_lines (map (λ o. o.now) l.rest) l.waiting ≡ unequal_lines (map (λ o. o.now) l.fn.old_lines) l.fn.waiting;
   left : drop (length l.rest) l.waiting ≡ drop (length l.fn.old_lines) l.fn.waiting;
-  room : l.unequal + length l.rest ≤ length l.fn.old_lines;
+  few : l.unequal + length l.rest ≤ length l.fn.old_lines;
 }
 
 abbrev pub decreases-loop-rest : goal.decreases-loop-rest

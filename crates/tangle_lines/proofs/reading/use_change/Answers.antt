@@ -16,7 +16,7 @@ returns-clause-used c =
           ∙ (λ i. (c.of_change.ensures ∙ (λ j. change_lines c.args.change_file (depth j) (c.new_lines.ensures j))) i ++ (c.take_old-taken.ensures.rest ∙ ap (λ ls. drop (length ls) c.args.waiting.now) c.after_first.ensures ∙ left) i),
       (
         refl,
-        c.in_ok-note_mismatch.ensures
+        c.in_ok-add_mismatch_fault.ensures
             ∙ (λ i. c.args.faults.now.items ++ mismatch_faults (record { file = c.name_at-file.ensures i; line = c.at.ensures i }) (unequal i)),
       ),
     )

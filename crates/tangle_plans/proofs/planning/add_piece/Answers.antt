@@ -1,7 +1,7 @@
 use Rattle.std.proofs.Common.{◌+◌, ℕ, false, length, ap, arith, length-drop}
 use Rattle.std.proofs.lemmas.List.{take_rest}
 use Rattle.std.specs.Prelude.{slice_index_or}
-use Rattle.tangle_plans.proofs.RunLemmas.{goes_on, goes_over, text_added}
+use Rattle.tangle_plans.proofs.RangeLemmas.{goes_on, goes_over, span_added}
 use Rattle.tangle_plans.proofs.planning.add_piece.Goals as goal
 
 pub loop-i-preserved-in-Some : goal.loop-i-preserved-in-Some
@@ -12,14 +12,14 @@ loop-i-preserved-in-Some c =
     let items = c.args.items.now in
     let i = c.loop-i.i in
     let x = c.index-items-i.result in
-    let behind = c.in_ok-behind.behind in
-    let added = text_added texts table has x c.in-Some.kind c.in-Some.span c.loop-i.run behind c.loop-i.planning c.add_text.new.planning c.in-Some.ensures c.in_ok-behind.ensures.added in
-    let way = goes_on texts table has c.args.planning.now items i x x c.loop-i.run behind c.loop-i.planning c.add_text.new.planning c.loop-i-test.true c.index-items-i.is added c.loop-i.invariant.way in
+    let after = c.in_ok-after.after in
+    let adds = span_added texts table has x c.in-Some.kind c.in-Some.span c.loop-i.range after c.loop-i.planning c.add_span.new.planning c.in-Some.ensures c.in_ok-after.ensures.added in
+    let added = goes_on texts table has c.args.planning.now items i x x c.loop-i.range after c.loop-i.planning c.add_span.new.planning c.loop-i-test.true c.index-items-i.is adds c.loop-i.invariant.added in
     record {
       within = omega (arith, c.pass-end.ensures.few, ap length (take_rest items (i + 1)), length-drop (i + 1) items, c.loop-i-test.true);
       range = c.pass-end.ensures.range.range;
-      way = goes_over texts table has c.args.planning.now items _ (i + 1) c.pass-end.result.1 behind (record behind { end = c.pass-end.result.0 }) c.add_text.new.planning c.pass-end.new.self
-          (take_rest items (i + 1)) c.pass-end.ensures.range (c.pass-end.ensures.tags table) way;
+      added = goes_over texts table has c.args.planning.now items _ (i + 1) c.pass-end.result.1 after (record after { end = c.pass-end.result.0 }) c.add_span.new.planning c.pass-end.new.self
+          (take_rest items (i + 1)) c.pass-end.ensures.range (c.pass-end.ensures.tags table) added;
     }
 
 pub loop-i-preserved : goal.loop-i-preserved
@@ -28,7 +28,7 @@ loop-i-preserved c =
     let x = c.index-items-i.result in
     record {
       within = omega arith;
-      range = c.in_ok-run.ensures.range;
-      way = goes_on c.args.web.now.texts c.args.table.now has c.args.planning.now c.args.items.now c.loop-i.i x x c.loop-i.run c.in_ok-run.run' c.loop-i.planning c.add_other.new.planning
-          c.loop-i-test.true c.index-items-i.is c.in_ok-run.ensures.added c.loop-i.invariant.way;
+      range = c.in_ok-range.ensures.range;
+      added = goes_on c.args.web.now.texts c.args.table.now has c.args.planning.now c.args.items.now c.loop-i.i x x c.loop-i.range _ c.loop-i.planning c.add_other.new.planning
+          c.loop-i-test.true c.index-items-i.is c.in_ok-range.ensures.added c.loop-i.invariant.added;
     }

@@ -1,7 +1,7 @@
 use Rattle.std.proofs.Common.{◌≤◌, ◌-◌, ℕ, false, length}
 use Rattle.std.specs.Prelude.{slice_index_or}
-use Rattle.tangle_plans.specs.Runs.{IsKept}
-use Rattle.tangle_plans.proofs.RunLemmas.{IsOnTheWay}
+use Rattle.tangle_plans.specs.Ranges.{IsRangeOfSource}
+use Rattle.tangle_plans.proofs.RangeLemmas.{IsAddedUpTo}
 use Rattle.tangle_plans.proofs.planning.add_piece.Given as goal
 
 abbrev pub invariant-loop-i : goal.invariant-loop-i
@@ -9,8 +9,8 @@ invariant-loop-i l =
     let has = λ (id : ℕ). slice_index_or l.has_piece id false in
     record {
       within : l.i ≤ length l.items;
-      range : IsKept l.web.texts l.run;
-      way : IsOnTheWay l.web.texts l.table has l.fn.planning l.items l.i l.run l.planning;
+      range : IsRangeOfSource l.web.texts l.range;
+      added : IsAddedUpTo l.web.texts l.table has l.fn.planning l.items l.i l.range l.planning;
     }
 
 abbrev pub decreases-loop-i : goal.decreases-loop-i

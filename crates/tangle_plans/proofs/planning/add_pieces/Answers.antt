@@ -1,7 +1,7 @@
 use Rattle.std.proofs.Common.{ℕ, false, refl, ap, ◌∙◌, arith, All}
 use Rattle.std.specs.Prelude.{slice_index_or, flat_map}
 use Rattle.tangle_scan.specs.Web.{PieceRead}
-use Rattle.tangle_plans.specs.ItemTags.{bytes_in, names_in, piece_tags}
+use Rattle.tangle_plans.specs.ItemTags.{bytes_in, uses_in, piece_tags}
 use Rattle.tangle_scan.specs.SourceOrder.{IsInRange}
 use Rattle.tangle_plans.specs.ItemSlots.{pieces_at}
 use Rattle.tangle_plans.proofs.HeldLemmas.{pieces_next, pieces_done, tags_held, all_at}
@@ -26,7 +26,7 @@ loop-number-preserved c =
           old.piece web.pieces numbers i n p c.items.result.now old.made _ inv.node c.loop-number-test.true refl low is c.items.ensures inv.made;
       bytes = rw c.items.ensures (pieces_next (λ (q : PieceRead). flat_map (bytes_in web.texts) q.items) web.pieces numbers i n p old.bytes _ c.loop-number-test.true refl low is inv.bytes);
       tags = rw c.items.ensures (pieces_next (λ (q : PieceRead). piece_tags table q.items) web.pieces numbers i n p old.tags _ c.loop-number-test.true refl low is inv.tags);
-      uses = rw c.items.ensures (pieces_next (λ (q : PieceRead). flat_map (names_in table) q.items) web.pieces numbers i n p old.uses _ c.loop-number-test.true refl low is inv.uses);
+      uses = rw c.items.ensures (pieces_next (λ (q : PieceRead). flat_map (uses_in table) q.items) web.pieces numbers i n p old.uses _ c.loop-number-test.true refl low is inv.uses);
     })
 
 pub returns-clause-tags : goal.returns-clause-tags

@@ -1,6 +1,6 @@
 use Rattle.std.proofs.Common.{◌≡◌, ◌++◌, ℕ, false, drop}
 use Rattle.std.specs.Prelude.{slice_index_or}
-use Rattle.tangle_plans.specs.ItemTags.{pieces_bytes, pieces_tags, pieces_names}
+use Rattle.tangle_plans.specs.ItemTags.{pieces_bytes, pieces_tags, pieces_uses}
 use Rattle.tangle_plans.specs.ItemSlots.{pieces_slots, pieces_at}
 use Rattle.tangle_plans.proofs.planning.add_pieces.Given as goal
 
@@ -14,5 +14,5 @@ invariant-loop-number l =
       made : l.planning.made ++ pieces_slots l.web.texts l.table has l.fn.planning.node l.planning.piece left ≡ pieces_slots l.web.texts l.table has l.fn.planning.node 0 whole;
       bytes : l.planning.bytes ++ pieces_bytes l.web.texts left ≡ pieces_bytes l.web.texts whole;
       tags : l.planning.tags ++ pieces_tags l.table left ≡ pieces_tags l.table whole;
-      uses : l.planning.uses ++ pieces_names l.table left ≡ pieces_names l.table whole;
+      uses : l.planning.uses ++ pieces_uses l.table left ≡ pieces_uses l.table whole;
     }

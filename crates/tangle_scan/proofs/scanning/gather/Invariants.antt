@@ -7,15 +7,15 @@ use Rattle.tangle_lexer.specs.Occurrences.{occurrence_of}
 use Rattle.tangle_scan.specs.Gathering.{nothing, gathering_with}
 use Rattle.tangle_scan.proofs.scanning.gather.Given as goal
 
-abbrev pub invariant-loop-front : goal.invariant-loop-front
-invariant-loop-front l = record {
-  count : l.state.occurrences ≡ length l.output.occurrences.items;
-  head : IfSome l.front (λ head. is_head head ≡ true);
-  end : IfNone l.front (l.ahead ≡ []);
-  gathering : gathering_with l.source l.gathering (option_to_list l.front ++ tokens_from l.state l.ahead) ≡ gathering_with l.source nothing (all_tokens l.source.lines);
-  occurrences : l.output.occurrences.items ++ map (occurrence_of l.source.lines) (occurrences_from l.state l.ahead) ≡ map (occurrence_of l.source.lines) (all_occurrences l.source.lines);
-  room : l.gathering.sections + (length (option_to_list l.front) + length l.ahead) ≤ length (text_from 0 l.source.lines);
+abbrev pub invariant-loop-next_head : goal.invariant-loop-next_head
+invariant-loop-next_head l = record {
+  count : l.state.occurrences ≡ length l.buffers.occurrences.items;
+  head : IfSome l.next_head (λ head. is_head head ≡ true);
+  end : IfNone l.next_head (l.ahead ≡ []);
+  gathering : gathering_with l.source l.gathering (option_to_list l.next_head ++ tokens_from l.state l.ahead) ≡ gathering_with l.source nothing (all_tokens l.source.lines);
+  occurrences : l.buffers.occurrences.items ++ map (occurrence_of l.source.lines) (occurrences_from l.state l.ahead) ≡ map (occurrence_of l.source.lines) (all_occurrences l.source.lines);
+  limit : l.gathering.sections + (length (option_to_list l.next_head) + length l.ahead) ≤ length (text_from 0 l.source.lines);
 }
 
-abbrev pub decreases-loop-front : goal.decreases-loop-front
-decreases-loop-front l = length (option_to_list l.front) + length l.ahead
+abbrev pub decreases-loop-next_head : goal.decreases-loop-next_head
+decreases-loop-next_head l = length (option_to_list l.next_head) + length l.ahead

@@ -4,11 +4,11 @@ use Rattle.tangle_scan.specs.Web.{web_of}
 use Rattle.tangle_scan.specs.WellFormed.{IsWellFormed}
 use Rattle.tangle_scan.proofs.lemmas.ScanLemmas.{web-whole}
 use Rattle.tangle_scan.proofs.laws.WebLaws.{web-in-range, web-in-order, web-line-truth}
-use Rattle.tangle_scan.proofs.laws.NameRange.{names-in-range}
+use Rattle.tangle_scan.proofs.laws.OccurrenceRange.{occurrences-in-range}
 use Rattle.tangle_scan.proofs.scanning.scan.Goals as goal
 
 web-well-formed : (source : SourceRead) → IsWellFormed (web_of source)
-web-well-formed source = record { spans = web-in-range source; names = names-in-range source }
+web-well-formed source = record { spans = web-in-range source; occurrences = occurrences-in-range source }
 
 pub gather-requires : goal.gather-requires
 gather-requires c = omega (arith, c.text_is_short.ensures)

@@ -11,14 +11,14 @@ pub returns : goal.returns
 returns c =
     let texts = texts_of c.args.source.now.lines in
     let tokens = c.args.tokens.now in
-    let out = c.loop-token.out.items in
+    let spaced = c.loop-token.spaced.items in
     let at = c.loop-token.at in
     let done = drop_all c.loop-token.token-index tokens (omega arith) in
-    let end = ap (spacing_from texts out at) (sym done) ∙ c.loop-token.invariant.rest in
+    let end = ap (spacing_from texts spaced at) (sym done) ∙ c.loop-token.invariant.rest in
     let cleared = c.clear.new.self.items in
     let begin = spaced-begin texts cleared stage.Front tokens c.clear.ensures.items in
     let front = spaced-front texts (without_front_gaps (without_faults tokens)) in
-    let run = spaced-end texts out at in
+    let run = spaced-end texts spaced at in
     c.close_run.ensures
-    ∙ (ap (λ b. if b then take at.run.start out else out) c.loop-token.invariant.run.has
+    ∙ (ap (λ b. if b then take at.run.start spaced else spaced) c.loop-token.invariant.run.has
     ∙ (sym run ∙ (end ∙ (begin ∙ ap (without_joins []) front))))

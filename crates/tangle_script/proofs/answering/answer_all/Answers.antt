@@ -11,7 +11,7 @@ pub loop-found-preserved : goal.loop-found-preserved
 loop-found-preserved g c =
     under_more g.P.Project.answers _ _ _ _ _ c.in-Some.found.rest.now
     (found_commands c.in-Some.found.line.now (option_copied c.in-Some.found.text))
-    c.loop-found.invariant c.in-Some.ensures.commands c.in-Some.ensures.kept
+    c.loop-found.invariant c.in-Some.ensures.commands c.in-Some.ensures.pending
     c.in-Some.ensures.rest
     c.in-Ok-false.ensures.answered (c.in-Ok-false.ensures.quit ∙ c.in-Ok-false.field-0-test)
 

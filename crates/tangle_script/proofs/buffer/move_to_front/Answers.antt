@@ -5,4 +5,4 @@ use Rattle.tangle_script.proofs.buffer.move_to_front.Goals as goal
 pub returns-clause-moved : goal.returns-clause-moved
 returns-clause-moved c = λ n sum.
     ap (take n) c.copy_within.ensures.after
-    ∙ moved c.args.room.now c.args.from c.args.len n sum c.requires.within
+    ∙ moved c.args.space.now c.args.from c.args.len n sum c.requires.within

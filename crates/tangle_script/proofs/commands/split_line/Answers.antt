@@ -2,7 +2,7 @@ use Rattle.std.proofs.Common.{add-one, arith, []}
 use Rattle.std.proofs.lemmas.List.{take_rest}
 use Rattle.std.proofs.lemmas.Bool.{false_from_ne_true}
 use Rattle.std.proofs.lemmas.Bool.{eqb-true}
-use Rattle.tangle_script.proofs.CommandLemmas.{line_at, line_none, unfed_unended}
+use Rattle.tangle_script.proofs.CommandLemmas.{line_at, line_none, no_feed_unended}
 use Rattle.tangle_script.proofs.commands.split_line.Goals as goal
 
 pub returns-in-Some-clause-some : goal.returns-in-Some-clause-some
@@ -16,4 +16,4 @@ pub returns-in-None-clause-none : goal.returns-in-None-clause-none
 returns-in-None-clause-none c =
     let e = line_none [] c.args.bytes.now
     (λ k l. false_from_ne_true _ (c.in-None.ensures k (omega arith) l)) in
-    (e, unfed_unended [] c.args.bytes.now e)
+    (e, no_feed_unended [] c.args.bytes.now e)

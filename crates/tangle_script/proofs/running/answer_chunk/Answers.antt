@@ -13,7 +13,7 @@ returns-then-not-ends_a_line g c =
     let all = waits_in c.args.searched (bytes c.args.buffer.now) c.requires.waits none in
     record {
       answered = answered_nothing g.P.Project.answers _ _ all.0;
-      unquit = ap has_quit all.0;
-      kept = sym all.1;
+      no_quit = ap has_quit all.0;
+      pending = sym all.1;
       breaks = tt;
     }

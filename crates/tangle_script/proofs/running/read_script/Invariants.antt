@@ -7,10 +7,10 @@ use Rattle.tangle_script.proofs.running.read_script.Given as goal
 abbrev pub invariant-loop-count : goal.invariant-loop-count
 invariant-loop-count g l = record {
   holds : IsMidway g.P.Project.answers
-      (conversation (g.P.Project.state l.initial.held l.initial.draft) (g.S.Sink.stream l.initial.sink)
-      (g.R.Feed.coming l.initial.feed) (g.R.Feed.failures l.initial.feed))
-      (conversation (g.P.Project.state l.held l.draft) (g.S.Sink.stream l.sink)
-      (g.R.Feed.coming l.feed) (g.R.Feed.failures l.feed))
+      (conversation (g.P.Project.state l.initial.session l.initial.draft) (g.S.Sink.stream l.initial.sink)
+      (g.R.Feed.remaining l.initial.feed) (g.R.Feed.failures l.initial.feed))
+      (conversation (g.P.Project.state l.session l.draft) (g.S.Sink.stream l.sink)
+      (g.R.Feed.remaining l.feed) (g.R.Feed.failures l.feed))
       (bytes l.buffer) l.count;
   within : l.count ≤ 67108864;
 }

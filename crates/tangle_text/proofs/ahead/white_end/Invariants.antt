@@ -5,9 +5,9 @@ use Rattle.tangle_text.proofs.ahead.white_end.Given as goal
 
 abbrev pub invariant-loop-end : goal.invariant-loop-end
 invariant-loop-end l = record {
-  end : l.end + run_length is_white (drop l.end l.text) ≡ l.from + run_length is_white (drop l.from l.text);
-  inside : l.end ≤ length l.text;
+  end : l.end + run_length is_white (drop l.end l.bytes) ≡ l.from + run_length is_white (drop l.from l.bytes);
+  inside : l.end ≤ length l.bytes;
 }
 
 abbrev pub decreases-loop-end : goal.decreases-loop-end
-decreases-loop-end l = length l.text - l.end
+decreases-loop-end l = length l.bytes - l.end

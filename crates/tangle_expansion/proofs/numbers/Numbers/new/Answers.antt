@@ -1,5 +1,5 @@
 use Rattle.std.proofs.Common.{arith}
-use Rattle.tangle_expansion.proofs.KeptLemmas.{zip_short}
+use Rattle.tangle_expansion.proofs.LookupLemmas.{zip_short}
 use Rattle.tangle_expansion.proofs.ShortLemmas.{symbols_short, all_names_short}
 use Rattle.tangle_expansion.proofs.numbers.Numbers.new.Goals as goal
 

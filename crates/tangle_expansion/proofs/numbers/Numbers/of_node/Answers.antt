@@ -1,7 +1,7 @@
 use Rattle.std.proofs.Common.{◌∙◌, ap, position}
 use Rattle.std.specs.Str.{bytes_eq}
 use Rattle.tangle_expansion.specs.NumbersKept.{row_found}
-use Rattle.tangle_expansion.proofs.KeptLemmas.{found_row}
+use Rattle.tangle_expansion.proofs.LookupLemmas.{found_row}
 use Rattle.tangle_expansion.proofs.numbers.Numbers.of_node.Goals as goal
 
 pub returns-in-Some : goal.returns-in-Some

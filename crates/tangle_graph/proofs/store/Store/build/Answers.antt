@@ -3,11 +3,11 @@ use Rattle.std.specs.Global.{Global}
 use Rattle.std.specs.declared.rc.Rc.{Rc}
 use Rattle.std.specs.Prelude.{All}
 use Rattle.digraph.specs.Graph.{Graph, rows_of}
-use Rattle.tangle_plans.specs.NodeBodies.{node_uses}
+use Rattle.tangle_plans.specs.NodeBodies.{body_uses}
 use Rattle.tangle_plans.specs.WebShapes.{ResolvesInside}
 use Rattle.tangle_plans.specs.declared.nodes.NodeBody.{NodeBody}
 use Rattle.tangle_graph.specs.Plans.{ArePiecesInside, ArePlanned, ArePlans, node_bodies, slots_of, uses_of_plans}
-use Rattle.tangle_graph.proofs.SkeletonLemmas.{uses_inside}
+use Rattle.tangle_graph.proofs.NameGraphLemmas.{uses_inside}
 use Rattle.tangle_graph.proofs.UsesLemmas.{pieces_inside}
 use Rattle.tangle_graph.proofs.store.Store.build.Goals as goal
 
@@ -22,7 +22,7 @@ pub shared-requires-clause-inside : goal.shared-requires-clause-inside
 shared-requires-clause-inside c =
     let table = c.args.table.now in
     let inside = subst ResolvesInside (sym c.requires) (c.names_resolve_inside.ensures c.args.web.now) in
-    subst (λ (ts : List (Rc NodeBody Global)). All (λ row. All (λ id. id < length table.names) row) (map node_uses (node_bodies ts))) (sym c.deref.ensures.value)
+    subst (λ (ts : List (Rc NodeBody Global)). All (λ row. All (λ id. id < length table.names) row) (map body_uses (node_bodies ts))) (sym c.deref.ensures.value)
     (uses_inside c.args.web.now table (rows_of c.deref-rows.result.now) (node_bodies c.in_ok-made.made.bodies.items) inside c.in_ok-made.ensures.bodies)
 
 pub over-requires-clause-plans : goal.over-requires-clause-plans

@@ -17,32 +17,32 @@ use Rattle.tangle_graph.specs.Groups.{IsGraphOf}
 use Rattle.tangle_graph.specs.Nodes.{title_at, node_at}
 use Rattle.tangle_graph.specs.Ordering.{IsOrderIn}
 use Rattle.tangle_graph.specs.Outputs.{is_expandable}
-use Rattle.tangle_graph.specs.Plans.{AreFilled, ArePlanned, node_bodies, slots_of, uses_of_plans}
+use Rattle.tangle_graph.specs.Plans.{ArePieceFlags, ArePlanned, node_bodies, slots_of, uses_of_plans}
 use Rattle.tangle_graph.specs.Rows.{node_rows}
-use Rattle.tangle_graph.specs.Stores.{AreWithin, is_filled}
-use Rattle.tangle_graph.specs.declared.skeleton.Skeleton.{Skeleton}
-use Rattle.tangle_graph.proofs.FaultLemmas.{containing_flag, defined_flag, defined_size, reaching_flag}
-use Rattle.tangle_graph.proofs.LimitLemmas.{program_filled}
+use Rattle.tangle_graph.specs.Stores.{AreWithin, row_has_piece}
+use Rattle.tangle_graph.specs.declared.name_graph.NameGraph.{NameGraph}
+use Rattle.tangle_graph.proofs.FaultLemmas.{containing_flag, has_piece_flag, has_piece_size, reaching_flag}
+use Rattle.tangle_graph.proofs.LimitLemmas.{program_has_piece}
 use Rattle.tangle_graph.proofs.OrderingLemmas.{order_is, grouped_by}
-use Rattle.tangle_graph.proofs.SkeletonLemmas.{graph_over}
+use Rattle.tangle_graph.proofs.NameGraphLemmas.{graph_over}
 use Rattle.tangle_graph.proofs.StoreIs.{store_made}
 use Rattle.tangle_graph.proofs.BodyLemmas.{names_below}
 use Rattle.tangle_graph.proofs.store.Store.over.Goals as goal
 
-pub take-requires-clause-graph : goal.take-requires-clause-graph
-take-requires-clause-graph c =
+pub build-requires-clause-graph : goal.build-requires-clause-graph
+build-requires-clause-graph c =
     let web = c.args.web.now in
     let table = c.args.table.now in
-    let graph = graph_over web table c.args.pieces.value.items (node_bodies c.args.bodies.items) c.args.skeleton.value
+    let graph = graph_over web table c.args.pieces.value.items (node_bodies c.args.bodies.items) c.args.name_graph.value
     (subst (λ (t : TableRead). IsDistinct bytes_eq t.names) (sym c.requires.table) (c.names_are_the_full_names.ensures.once web.occurrences))
-    (subst ResolvesInside (sym c.requires.table) (c.names_resolve_inside.ensures web)) c.requires.grouped c.requires.bodies c.requires.skeleton in
+    (subst ResolvesInside (sym c.requires.table) (c.names_resolve_inside.ensures web)) c.requires.grouped c.requires.bodies c.requires.name_graph in
     subst (λ (g : Graph). IsGraphOf web table g c.deref-uses.result.now) (sym (c.deref-rows.ensures.value ∙ ap (λ (v : Vec (Vec ℕ Global) Global). v.items) c.deref-all.ensures))
-    (subst (λ (g : Graph). IsGraphOf web table c.args.pieces.value.items g) (sym (c.deref-uses.ensures.value ∙ ap (λ (s : Skeleton). s.uses.items) c.deref-shared.ensures)) graph)
+    (subst (λ (g : Graph). IsGraphOf web table c.args.pieces.value.items g) (sym (c.deref-uses.ensures.value ∙ ap (λ (s : NameGraph). s.uses.items) c.deref-shared.ensures)) graph)
 
-pub take-requires-clause-order : goal.take-requires-clause-order
-take-requires-clause-order c =
-    subst (λ (g : Graph). IsOrder g c.deref-order.result.now) (sym (c.deref-uses.ensures.value ∙ ap (λ (s : Skeleton). s.uses.items) c.deref-shared.ensures))
-    (subst (IsOrder c.args.skeleton.value.uses.items) (sym (c.deref-order.ensures.value ∙ ap (λ (s : Skeleton). s.order.items) c.deref-shared.ensures)) c.requires.skeleton.order)
+pub build-requires-clause-order : goal.build-requires-clause-order
+build-requires-clause-order c =
+    subst (λ (g : Graph). IsOrder g c.deref-order.result.now) (sym (c.deref-uses.ensures.value ∙ ap (λ (s : NameGraph). s.uses.items) c.deref-shared.ensures))
+    (subst (IsOrder c.args.name_graph.value.uses.items) (sym (c.deref-order.ensures.value ∙ ap (λ (s : NameGraph). s.order.items) c.deref-shared.ensures)) c.requires.name_graph.order)
 
 pub returns-clause-store : goal.returns-clause-store
 returns-clause-store c =
@@ -50,34 +50,34 @@ returns-clause-store c =
     let table = c.args.table.now in
     let pieces = c.args.pieces.value.items in
     let bodies = c.args.bodies.items in
-    let skeleton = c.args.skeleton.value in
-    let uses = skeleton.uses.items in
+    let name_graph = c.args.name_graph.value in
+    let uses = name_graph.uses.items in
     let measures = c.in_ok-measures.measures in
     let distinct = subst (λ (t : TableRead). IsDistinct bytes_eq t.names) (sym c.requires.table) (c.names_are_the_full_names.ensures.once web.occurrences) in
     let inside = subst ResolvesInside (sym c.requires.table) (c.names_resolve_inside.ensures web) in
-    let graph = graph_over web table pieces (node_bodies bodies) skeleton distinct inside c.requires.grouped c.requires.bodies c.requires.skeleton in
-    let same : length c.deref-uses.result.now ≡ length uses = ap length (c.deref-uses.ensures.value ∙ ap (λ (s : Skeleton). s.uses.items) c.deref-shared.ensures) in
+    let graph = graph_over web table pieces (node_bodies bodies) name_graph distinct inside c.requires.grouped c.requires.bodies c.requires.name_graph in
+    let same : length c.deref-uses.result.now ≡ length uses = ap length (c.deref-uses.ensures.value ∙ ap (λ (s : NameGraph). s.uses.items) c.deref-shared.ensures) in
     let weighed : (n : ℕ) → n < length uses → get_or measures.weights.items n 0 ≡ weight_of (shapes web table) (title_at table.names n) =
     (λ n room. c.in_ok-measures.ensures.weights n (omega (arith, room, same))) in
     let measured : (n : ℕ) → n < length uses → get_or measures.depths.items n 0 ≡ depth_of (shapes web table) (title_at table.names n) =
     (λ n room. c.in_ok-measures.ensures.depths n (omega (arith, room, same))) in
     let limited : (n : ℕ) → n < length uses → get_or measures.expandable.items n false ≡ is_expandable (shapes web table) (title_at table.names n) =
     (λ n room. c.in_ok-measures.ensures.expandable n (omega (arith, room, same))) in
-    let has : ℕ → Bool = (λ id. get_or c.args.filled.items id false) in
-    let has_is : (id : ℕ) → id < length table.names → has id ≡ is_filled (row_at (rows_of pieces) id) =
-    (λ id low. c.requires.filled.flag id (omega (arith, low, graph.rows_size, rows_size pieces))) in
-    let count : length skeleton.names ≡ length table.names = ap length c.requires.names in
-    let is = c.requires.skeleton in
+    let has : ℕ → Bool = (λ id. get_or c.args.has_piece.items id false) in
+    let has_is : (id : ℕ) → id < length table.names → has id ≡ row_has_piece (row_at (rows_of pieces) id) =
+    (λ id low. c.requires.has_piece.flag id (omega (arith, low, graph.rows_size, rows_size pieces))) in
+    let count : length name_graph.names ≡ length table.names = ap length c.requires.names in
+    let is = c.requires.name_graph in
     record {
-      store = store_made web table pieces uses is.users skeleton.self_containing.items measures.weights.items measures.depths.items measures.expandable.items c.in_ok-outputs.outputs.items c.in_ok-faults.faults.items
-          (slots_of bodies) (uses_of_plans bodies) (node_bodies bodies) has distinct inside graph is.converse is.increasing is.users_size is.containing weighed measured limited has_is c.requires.plans c.requires.bodies
+      store = store_made web table pieces uses is.users name_graph.self_containing.items measures.weights.items measures.depths.items measures.expandable.items c.in_ok-outputs.outputs.items c.in_ok-faults.faults.items
+          (slots_of bodies) (uses_of_plans bodies) (node_bodies bodies) has distinct inside graph is.reversed is.increasing is.users_size is.containing weighed measured limited has_is c.requires.plans c.requires.bodies
           (λ symbols node. c.filled_plans_are_right.ensures web table has symbols levels node inside)
-          skeleton.names (node_rows skeleton.used_nodes.items) (node_rows skeleton.user_nodes.items) c.requires.names
+          name_graph.names (node_rows name_graph.used_nodes.items) (node_rows name_graph.user_nodes.items) c.requires.names
           (is.used_nodes ∙ ap (λ k. map (map (node_at k)) (rows_of uses)) count) (is.user_nodes ∙ ap (λ k. map (map (node_at k)) (rows_of is.users)) count);
       names = c.requires.names;
       outputs = c.in_ok-outputs.ensures;
       faults = c.in_ok-faults.ensures;
-      grouped = grouped_by web table pieces uses skeleton.names graph c.requires.names _ (λ a. refl);
+      grouped = grouped_by web table pieces uses name_graph.names graph c.requires.names _ (λ a. refl);
     }
 
 pub invariant_of-result : goal.invariant_of-result
@@ -86,27 +86,27 @@ invariant_of-result c =
     let table = c.args.table.now in
     let pieces = c.args.pieces.value.items in
     let bodies = c.args.bodies.items in
-    let skeleton = c.args.skeleton.value in
-    let uses = skeleton.uses.items in
+    let name_graph = c.args.name_graph.value in
+    let uses = name_graph.uses.items in
     let measures = c.in_ok-measures.measures in
     let distinct = subst (λ (t : TableRead). IsDistinct bytes_eq t.names) (sym c.requires.table) (c.names_are_the_full_names.ensures.once web.occurrences) in
     let inside = subst ResolvesInside (sym c.requires.table) (c.names_resolve_inside.ensures web) in
-    let graph = graph_over web table pieces (node_bodies bodies) skeleton distinct inside c.requires.grouped c.requires.bodies c.requires.skeleton in
-    let same : length c.deref-uses.result.now ≡ length uses = ap length (c.deref-uses.ensures.value ∙ ap (λ (s : Skeleton). s.uses.items) c.deref-shared.ensures) in
+    let graph = graph_over web table pieces (node_bodies bodies) name_graph distinct inside c.requires.grouped c.requires.bodies c.requires.name_graph in
+    let same : length c.deref-uses.result.now ≡ length uses = ap length (c.deref-uses.ensures.value ∙ ap (λ (s : NameGraph). s.uses.items) c.deref-shared.ensures) in
     let measured : (n : ℕ) → n < length uses → get_or measures.depths.items n 0 ≡ depth_of (shapes web table) (title_at table.names n) =
     (λ n room. c.in_ok-measures.ensures.depths n (omega (arith, room, same))) in
     let within : AreWithin (rows_of pieces) measures.weights.items measures.depths.items measures.expandable.items =
     subst (λ (g : Graph). AreWithin (rows_of g) measures.weights.items measures.depths.items measures.expandable.items) (c.deref-rows.ensures.value ∙ ap (λ (v : Vec (Vec ℕ Global) Global). v.items) c.deref-all.ensures) c.in_ok-measures.ensures.within in
-    let count : length skeleton.names ≡ length table.names = ap length c.requires.names in
-    let used : node_rows skeleton.used_nodes.items ≡ map (map (node_at (length table.names))) (rows_of uses) = c.requires.skeleton.used_nodes ∙ ap (λ k. map (map (node_at k)) (rows_of uses)) count in
-    let nodes : skeleton.node_order.items ≡ map (node_at (length table.names)) skeleton.order.items = c.requires.skeleton.node_order ∙ ap (λ k. map (node_at k) skeleton.order.items) count in
+    let count : length name_graph.names ≡ length table.names = ap length c.requires.names in
+    let used : node_rows name_graph.used_nodes.items ≡ map (map (node_at (length table.names))) (rows_of uses) = c.requires.name_graph.used_nodes ∙ ap (λ k. map (map (node_at k)) (rows_of uses)) count in
+    let nodes : name_graph.node_order.items ≡ map (node_at (length table.names)) name_graph.order.items = c.requires.name_graph.node_order ∙ ap (λ k. map (node_at k) name_graph.order.items) count in
     record {
       sizes = sym (length-map bodies (λ (t : Rc NodeBody Global). t.value)) ∙ c.requires.bodies.size ∙ sym within.size;
-      skeleton = c.requires.skeleton;
+      name_graph = c.requires.name_graph;
       order = subst (IsOrderIn _) (sym nodes)
-          (order_is web table pieces uses skeleton.order.items measures.weights.items measures.depths.items measures.expandable.items _ graph c.requires.skeleton.order within measured c.requires.names used refl);
-      uses = names_below web table (rows_of pieces) (node_bodies bodies) (length skeleton.names) inside c.requires.bodies (sym count);
-      planned = subst (λ (ns : List (List ℕ)). ArePlanned ns (λ id. get_or c.args.filled.items id false) (node_bodies bodies)) (sym c.requires.names) c.requires.planned;
+          (order_is web table pieces uses name_graph.order.items measures.weights.items measures.depths.items measures.expandable.items _ graph c.requires.name_graph.order within measured c.requires.names used refl);
+      uses = names_below web table (rows_of pieces) (node_bodies bodies) (length name_graph.names) inside c.requires.bodies (sym count);
+      planned = subst (λ (ns : List (List ℕ)). ArePlanned ns (λ id. get_or c.args.has_piece.items id false) (node_bodies bodies)) (sym c.requires.names) c.requires.planned;
     }
 
 pub outputs-requires-clause-program : goal.outputs-requires-clause-program
@@ -114,38 +114,38 @@ outputs-requires-clause-program c =
     let web = c.args.web.now in
     let table = c.args.table.now in
     let pieces = c.args.pieces.value.items in
-    let skeleton = c.args.skeleton.value in
-    let uses = skeleton.uses.items in
+    let name_graph = c.args.name_graph.value in
+    let uses = name_graph.uses.items in
     let distinct = subst (λ (t : TableRead). IsDistinct bytes_eq t.names) (sym c.requires.table) (c.names_are_the_full_names.ensures.once web.occurrences) in
     let inside = subst ResolvesInside (sym c.requires.table) (c.names_resolve_inside.ensures web) in
-    let graph = graph_over web table pieces (node_bodies c.args.bodies.items) skeleton distinct inside c.requires.grouped c.requires.bodies c.requires.skeleton in
-    ap (λ l. get_or l c.count.result false) c.deref-defined.ensures.value
-    ∙ ap (λ n. get_or c.args.filled.items n false) c.count.ensures
-    ∙ c.requires.filled.flag (length table.names) (omega (arith, graph.rows_size, rows_size pieces))
-    ∙ program_filled web table pieces uses graph
+    let graph = graph_over web table pieces (node_bodies c.args.bodies.items) name_graph distinct inside c.requires.grouped c.requires.bodies c.requires.name_graph in
+    ap (λ l. get_or l c.count.result false) c.deref-has_piece_by_node.ensures.value
+    ∙ ap (λ n. get_or c.args.has_piece.items n false) c.count.ensures
+    ∙ c.requires.has_piece.flag (length table.names) (omega (arith, graph.rows_size, rows_size pieces))
+    ∙ program_has_piece web table pieces uses graph
 
 pub faults-requires-clause-flags : goal.faults-requires-clause-flags
 faults-requires-clause-flags c =
     let web = c.args.web.now in
     let table = c.args.table.now in
     let pieces = c.args.pieces.value.items in
-    let skeleton = c.args.skeleton.value in
-    let uses = skeleton.uses.items in
+    let name_graph = c.args.name_graph.value in
+    let uses = name_graph.uses.items in
     let distinct = subst (λ (t : TableRead). IsDistinct bytes_eq t.names) (sym c.requires.table) (c.names_are_the_full_names.ensures.once web.occurrences) in
     let inside = subst ResolvesInside (sym c.requires.table) (c.names_resolve_inside.ensures web) in
-    let graph = graph_over web table pieces (node_bodies c.args.bodies.items) skeleton distinct inside c.requires.grouped c.requires.bodies c.requires.skeleton in
-    let is = c.requires.skeleton in
-    let filled : AreFilled (rows_of pieces) c.deref-defined.result.now = subst (AreFilled (rows_of pieces)) (sym c.deref-defined.ensures.value) c.requires.filled in
-    let same : length c.deref-uses.result.now ≡ length uses = ap length (c.deref-uses.ensures.value ∙ ap (λ (s : Skeleton). s.uses.items) c.deref-shared.ensures) in
-    let containing : c.deref-2.result.now ≡ skeleton.self_containing.items = c.deref-2.ensures.value ∙ ap (λ (s : Skeleton). s.self_containing.items) c.deref-shared.ensures in
-    let reaching : c.deref-3.result.now ≡ skeleton.reaching_cycles.items = c.deref-3.ensures.value ∙ ap (λ (s : Skeleton). s.reaching_cycles.items) c.deref-shared.ensures in
+    let graph = graph_over web table pieces (node_bodies c.args.bodies.items) name_graph distinct inside c.requires.grouped c.requires.bodies c.requires.name_graph in
+    let is = c.requires.name_graph in
+    let have_piece : ArePieceFlags (rows_of pieces) c.deref-has_piece_by_node.result.now = subst (ArePieceFlags (rows_of pieces)) (sym c.deref-has_piece_by_node.ensures.value) c.requires.has_piece in
+    let same : length c.deref-uses.result.now ≡ length uses = ap length (c.deref-uses.ensures.value ∙ ap (λ (s : NameGraph). s.uses.items) c.deref-shared.ensures) in
+    let containing : c.deref-2.result.now ≡ name_graph.self_containing.items = c.deref-2.ensures.value ∙ ap (λ (s : NameGraph). s.self_containing.items) c.deref-shared.ensures in
+    let reaching : c.deref-3.result.now ≡ name_graph.reaching_cycles.items = c.deref-3.ensures.value ∙ ap (λ (s : NameGraph). s.reaching_cycles.items) c.deref-shared.ensures in
     let rows_count : length (rows_of c.deref-rows.result.now) ≡ length table.names + 1 = ap (λ (g : Graph). length (rows_of g)) (c.deref-rows.ensures.value ∙ ap (λ (v : Vec (Vec ℕ Global) Global). v.items) c.deref-all.ensures) ∙ rows_size pieces ∙ graph.rows_size in
     record {
-      defined_size = defined_size web table pieces uses graph c.deref-defined.result.now filled;
+      has_piece_size = has_piece_size web table pieces uses graph c.deref-has_piece_by_node.result.now have_piece;
       containing_size = ap length containing ∙ is.containing_size ∙ graph.uses_size;
       reaching_size = ap length reaching ∙ is.reaching_size ∙ graph.uses_size;
       expandable_size = ap length c.deref-4.ensures.value ∙ c.in_ok-measures.ensures.within.size ∙ rows_count;
-      defined = defined_flag web table pieces uses graph c.deref-defined.result.now filled;
+      has_piece = has_piece_flag web table pieces uses graph c.deref-has_piece_by_node.result.now have_piece;
       containing = containing_flag web table pieces uses graph c.deref-2.result.now
           (subst (λ flags. FlagsJust uses flags (ContainsItself (HasUse uses))) (sym containing) is.containing);
       reaching = reaching_flag web table pieces uses graph c.deref-3.result.now

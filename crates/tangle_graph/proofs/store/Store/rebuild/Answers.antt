@@ -4,11 +4,11 @@ use Rattle.std.specs.declared.rc.Rc.{Rc}
 use Rattle.std.specs.Prelude.{All, slice_get}
 use Rattle.digraph.specs.Graph.{Graph, rows_of}
 use Rattle.tangle_graph.specs.Nodes.{title_at}
-use Rattle.tangle_plans.specs.NodeBodies.{node_uses, texts_at}
+use Rattle.tangle_plans.specs.NodeBodies.{body_uses, names_at}
 use Rattle.tangle_plans.specs.WebShapes.{ResolvesInside}
 use Rattle.tangle_plans.specs.declared.nodes.NodeBody.{NodeBody}
-use Rattle.tangle_graph.specs.Plans.{AreInPlace, ArePiecesInside, ArePlanned, ArePlans, node_bodies, slots_of, uses_of_plans}
-use Rattle.tangle_graph.proofs.SkeletonLemmas.{uses_inside}
+use Rattle.tangle_graph.specs.Plans.{HaveSameNamesAndFlags, ArePiecesInside, ArePlanned, ArePlans, node_bodies, slots_of, uses_of_plans}
+use Rattle.tangle_graph.proofs.NameGraphLemmas.{uses_inside}
 use Rattle.tangle_graph.proofs.UsesLemmas.{pieces_inside}
 use Rattle.tangle_graph.proofs.store.Store.rebuild.Goals as goal
 use Rattle.tangle_graph.proofs.store.Store.rebuild.Goals.{then-same_names, else-same_names}
@@ -20,11 +20,11 @@ bodies_by_node-requires-clause-inside c =
     subst (ArePiecesInside (length c.args.web.now.pieces)) (sym (c.deref-rows.ensures.value ∙ ap (λ (v : Vec (Vec ℕ Global) Global). v.items) c.deref-all.ensures))
     inside
 
-pub skeleton_for-requires-clause-inside : goal.skeleton_for-requires-clause-inside
-skeleton_for-requires-clause-inside c =
+pub name_graph_for-requires-clause-inside : goal.name_graph_for-requires-clause-inside
+name_graph_for-requires-clause-inside c =
     let table = c.args.table.now in
     let inside = subst ResolvesInside (sym c.requires) (c.names_resolve_inside.ensures c.args.web.now) in
-    subst (λ (ts : List (Rc NodeBody Global)). All (λ row. All (λ id. id < length table.names) row) (map node_uses (node_bodies ts))) (sym c.deref.ensures.value)
+    subst (λ (ts : List (Rc NodeBody Global)). All (λ row. All (λ id. id < length table.names) row) (map body_uses (node_bodies ts))) (sym c.deref.ensures.value)
     (uses_inside c.args.web.now table (rows_of c.deref-rows.result.now) (node_bodies c.in_ok-made.made.bodies.items) inside c.in_ok-made.ensures.bodies)
 
 pub over-requires-clause-plans : goal.over-requires-clause-plans
@@ -39,19 +39,19 @@ pub over-requires-clause-planned : goal.over-requires-clause-planned
 over-requires-clause-planned c =
     subst (λ (fs : List Bool). ArePlanned c.args.table.now.names (λ id. get_or fs id false) (node_bodies c.in_ok-made.made.bodies.items)) c.deref-flags.ensures.value c.in_ok-made.ensures.planned
 
-pub bodies_by_node-requires-clause-in_place : goal.bodies_by_node-requires-clause-in_place
-bodies_by_node-requires-clause-in_place c =
-    elim c.if-same_names.branch as (λ _. c.if-same_names.in_place ≡ true → AreInPlace c.bodies-before.result c.args.table.now.names c.deref-flags.result.now) [
+pub bodies_by_node-requires-clause-same_names_and_flags : goal.bodies_by_node-requires-clause-same_names_and_flags
+bodies_by_node-requires-clause-same_names_and_flags c =
+    elim c.if-same_names.branch as (λ _. c.if-same_names.same_names_and_flags ≡ true → HaveSameNamesAndFlags c.bodies-before.result c.args.table.now.names c.deref-flags.result.now) [
       | then-same_names w ↦ (λ e. record {
         names = c.bodies-before.ensures.names ∙ c.has_names_of-same_names.ensures w.if-same_names.true;
-        flags = w.are_same_flags-in_place.ensures (sym w.in_place-is ∙ e);
+        flags = w.are_same_flags-same_names_and_flags.ensures (sym w.same_names_and_flags-is ∙ e);
       })
-      | else-same_names w ↦ (λ e. absurd (true≢false (sym e ∙ w.in_place-is ∙ w.if-same_names.false)))
+      | else-same_names w ↦ (λ e. absurd (true≢false (sym e ∙ w.same_names_and_flags-is ∙ w.if-same_names.false)))
     ]
 
-pub returns-clause-kept : goal.returns-clause-kept
-returns-clause-kept c = λ n e.
-    let held = c.in_ok-made.ensures.kept n e in
+pub returns-clause-bodies : goal.returns-clause-bodies
+returns-clause-bodies c = λ n e.
+    let held = c.in_ok-made.ensures.as_before n e in
     let old = c.bodies-before.ensures in
     let names = c.in_ok-store.ensures.store.names in
     record {
@@ -61,5 +61,5 @@ returns-clause-kept c = λ n e.
       body = held.0;
       had = ap (λ (bs : List NodeBody). slice_get bs held.2.0.before) (sym old.bodies) ∙ held.2.0.had;
       has = ap (λ (bs : List NodeBody). slice_get bs n) c.in_ok-store.ensures.bodies ∙ held.1;
-      uses = ap (λ (ns : List (List ℕ)). texts_at ns (node_uses held.0)) (sym old.names) ∙ held.2.1 ∙ ap (λ (ns : List (List ℕ)). texts_at ns (node_uses held.0)) (sym names);
+      uses = ap (λ (ns : List (List ℕ)). names_at ns (body_uses held.0)) (sym old.names) ∙ held.2.1 ∙ ap (λ (ns : List (List ℕ)). names_at ns (body_uses held.0)) (sym names);
     }

@@ -10,10 +10,10 @@ returns-clause-passed c =
     let files = c.self.inside.files in
     let n = c.len-last.result - 1 in
     let len : length files.items ≡ n + 1 = omega (arith, files.ok.0, c.len-last.ensures, eqb-false _ 0 (sym c.if-is_empty.ensures)) in
-    let behind = stacked (take n files.items) in
+    let after = stacked (take n files.items) in
     passes-same c.args.changes.now c.args.lines.now.items c.take_plain.new.lines.items _ _ _ _ _
     (sym c.self.view_is
     ∙ stacked-last files.items n c.index_mut-top.result.now len
-    ∙ ap (λ l. l ++ behind) (sym c.index_mut-top.ensures.value))
+    ∙ ap (λ l. l ++ after) (sym c.index_mut-top.ensures.value))
     (stacked-set files.items n c.take_plain.new.self len)
-    (c.in_ok-taken.ensures.passed behind)
+    (c.in_ok-taken.ensures.passed after)

@@ -5,8 +5,8 @@ use Rattle.tangle_names.specs.Names.{full_names}
 use Rattle.tangle_names.specs.Resolving.{names_in_order, resolve}
 use Rattle.tangle_names.specs.Numbers.{is_unresolved, key_texts, numbers_from}
 use Rattle.tangle_names.specs.Sorted.{SameTexts, borrowed_names}
-use Rattle.tangle_names.proofs.KeptLemmas.{beginnings_are}
-use Rattle.tangle_names.proofs.TableLemmas.{first_files_are, firsts_are, table_is}
+use Rattle.tangle_names.proofs.KeptLemmas.{beginning_numbers_are}
+use Rattle.tangle_names.proofs.TableLemmas.{first_file_occurrences_are, first_occurrences_are, table_is}
 use Rattle.tangle_names.proofs.resolution.Resolution.build.Goals as goal
 
 pub returns : goal.returns
@@ -19,18 +19,18 @@ returns c =
     let size : length (key_texts keys) ≡ length keys = length-map keys (λ (v : Vec ℕ Global). v.items) in
     let count : length resolved ≡ length os = ap length all ∙ length-map os (resolve os) in
     record {
-      table = table_is os (key_texts keys) resolved c.in_ok-firsts.firsts.items _ [] named all
-          (firsts_are os (key_texts keys) c.in_ok-firsts.firsts.items named (omega (arith, size, c.in_ok-firsts.ensures.size, c.len.ensures.len))
-          (λ id h. c.in_ok-firsts.ensures.numbers (resolve os) (c.deref-2.ensures.value ∙ all) id (omega (arith, h, size, c.len.ensures.len))))
-          (first_files_are os (key_texts keys) c.in_ok-first_files.first_files.items (length resolved) named (omega (arith, size, c.in_ok-first_files.ensures.size, c.len-2.ensures.len)) count
-          (λ id h. c.in_ok-first_files.ensures.numbers (resolve os) (c.deref-3.ensures.value ∙ all) id (omega (arith, h, size, c.len-2.ensures.len))));
+      table = table_is os (key_texts keys) resolved c.in_ok-first_occurrences.first_occurrences.items _ [] named all
+          (first_occurrences_are os (key_texts keys) c.in_ok-first_occurrences.first_occurrences.items named (omega (arith, size, c.in_ok-first_occurrences.ensures.size, c.len.ensures.len))
+          (λ id h. c.in_ok-first_occurrences.ensures.numbers (resolve os) (c.deref-2.ensures.value ∙ all) id (omega (arith, h, size, c.len.ensures.len))))
+          (first_file_occurrences_are os (key_texts keys) c.in_ok-first_file_occurrences.first_file_occurrences.items (length resolved) named (omega (arith, size, c.in_ok-first_file_occurrences.ensures.size, c.len-2.ensures.len)) count
+          (λ id h. c.in_ok-first_file_occurrences.ensures.numbers (resolve os) (c.deref-3.ensures.value ∙ all) id (omega (arith, h, size, c.len-2.ensures.len))));
       kept = record {
-        firsts = c.in_ok-firsts.ensures.size ∙ c.len.ensures.len;
-        first_files = c.in_ok-first_files.ensures.size ∙ c.len-2.ensures.len;
+        first_occurrences = c.in_ok-first_occurrences.ensures.size ∙ c.len.ensures.len;
+        first_file_occurrences = c.in_ok-first_file_occurrences.ensures.size ∙ c.len-2.ensures.len;
         unresolved = c.in_ok-unresolved.ensures ∙ ap (numbers_from is_unresolved 0) c.deref-4.ensures.value;
-        beginnings = beginnings_are os (borrowed_names c.deref-5.result.now) (key_texts keys) c.in_ok-flags.flags.items _
+        beginning_numbers = beginning_numbers_are os (borrowed_names c.deref-5.result.now) (key_texts keys) c.in_ok-flags.flags.items _
             (subst (λ bs. SameTexts (full_names os) (borrowed_names bs)) (sym c.deref-5.ensures.value) c.in_ok-sorted.ensures.same) named
             (omega (arith, size, c.in_ok-flags.ensures.size)) (λ id h. c.in_ok-flags.ensures.begins id (omega (arith, h, size)))
-            (c.in_ok-beginnings.ensures ∙ ap (numbers_from (λ b. b) 0) c.deref-6.ensures.value);
+            (c.in_ok-beginning_numbers.ensures ∙ ap (numbers_from (λ b. b) 0) c.deref-6.ensures.value);
       };
     }

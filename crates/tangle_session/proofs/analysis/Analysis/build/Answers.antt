@@ -20,5 +20,5 @@ pub returns-clause-kept : goal.returns-clause-kept
 returns-clause-kept c =
     let made = c.in_ok-analysis.analysis in
     IfSome_then c.args.old c.in_ok-analysis.ensures.kept (λ before keeps.
-    subst (λ (a : Analysis). KeepsBodies before.now.store a.store a.are_kept.items) (sym c.in_ok-join_faults.ensures.others)
-    (kept_apart before.now.store made.store [] made.are_kept.items keeps))
+    subst (λ (a : Analysis). KeepsBodies before.now.store a.store a.are_as_before.items) (sym c.in_ok-join_faults.ensures.others)
+    (kept_apart before.now.store made.store [] made.are_as_before.items keeps))

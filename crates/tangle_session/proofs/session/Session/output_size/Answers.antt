@@ -3,7 +3,7 @@ use Rattle.std.specs.Prelude.{Some}
 use Rattle.std.specs.Option.{option_copied, option_map}
 use Rattle.tangle_session.specs.Sessions.{SessionRead}
 use Rattle.tangle_session.specs.Tangle.{output_at}
-use Rattle.tangle_session.proofs.TangleLemmas.{is_ready, none_at, some_at, text_is}
+use Rattle.tangle_session.proofs.TangleLemmas.{is_ready, none_at, some_at, bytes_are}
 use Rattle.tangle_session.proofs.session.Session.output_size.Goals as goal
 
 pub file_size-requires : goal.file_size-requires
@@ -17,7 +17,7 @@ returns-in-Some c =
     let name = c.args.name.now in
     let found = sym c.find_output.ensures ∙ ap option_copied c.in-Some.is in
     let at = some_at s.state.files s.roles s.state c.self.invariant name c.in-Some.output.now found in
-    let same = text_is s.state.files s.roles s.state c.self.invariant name c.in-Some.output.now found c.names_resolve_inside.ensures in
+    let same = bytes_are s.state.files s.roles s.state c.self.invariant name c.in-Some.output.now found c.names_resolve_inside.ensures in
     ap Some (c.file_size.ensures ∙ ap length same) ∙ ap (option_map length) (sym at) ∙ ap (λ (r : SessionRead). option_map length (output_at r.files r.roles name)) c.self.view_is
 
 pub returns-in-None : goal.returns-in-None

@@ -14,7 +14,7 @@ pub invariant_of-result : goal.invariant_of-result
 invariant_of-result c =
     let analysis = analysis_of c.args.files c.args.roles c.marks.result c.in-Ok.analysis c.marks.ensures c.in-Ok.ensures.made in
     record {
-      are_there = fit_to_start c.args.files c.args.roles (let first = c.refusal_to_start.ensures in let second = c.in_default.is in cc);
+      files_fit = fit_to_start c.args.files c.args.roles (let first = c.refusal_to_start.ensures in let second = c.in_default.is in cc);
       analysis = analysis;
       kept = c.in-Ok-expand_all.ensures.kept (shapes_of (web_at c.args.files c.args.roles)) analysis.store;
     }

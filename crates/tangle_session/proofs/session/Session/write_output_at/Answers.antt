@@ -4,7 +4,7 @@ use Rattle.std.specs.Option.{option_copied}
 use Rattle.tangle_session.specs.Sessions.{SessionRead}
 use Rattle.tangle_session.specs.Tangle.{output_at}
 use Rattle.tangle_session.specs.Writes.{IsTrueFile}
-use Rattle.tangle_session.proofs.TangleLemmas.{is_ready, names_apart, none_at, some_at, text_is, truth_at, written_whole, written_front, written_none}
+use Rattle.tangle_session.proofs.TangleLemmas.{is_ready, names_apart, none_at, some_at, bytes_are, truth_at, written_whole, written_front, written_none}
 use Rattle.tangle_session.proofs.session.Session.write_output_at.Goals as goal
 
 pub find_output_at-requires : goal.find_output_at-requires
@@ -23,7 +23,7 @@ returns-in-Ok-clause-written g c =
     let name = c.args.name.now in
     let found = sym c.find_output_at.ensures ∙ ap option_copied c.in-Some.is in
     let at = some_at s.state.files s.roles s.state c.self.invariant name c.in-Some.output.now found in
-    let same = text_is s.state.files s.roles s.state c.self.invariant name c.in-Some.output.now found c.names_resolve_inside.ensures in
+    let same = bytes_are s.state.files s.roles s.state c.self.invariant name c.in-Some.output.now found c.names_resolve_inside.ensures in
     written_whole _ _ _ _ _ _ (ap (λ (r : SessionRead). output_at r.files r.roles name) (sym c.self.view_is) ∙ at) same c.in-Ok.ensures
 
 pub returns-in-Ok-clause-line_truth : goal.returns-in-Ok-clause-line_truth
@@ -32,7 +32,7 @@ returns-in-Ok-clause-line_truth g c =
     let name = c.args.name.now in
     let found = sym c.find_output_at.ensures ∙ ap option_copied c.in-Some.is in
     subst (λ (r : SessionRead). r.roles.marks ≡ Full → IsTrueFile r.files r.roles name) c.self.view_is
-    (truth_at s.state.files s.roles s.state c.self.invariant name c.in-Some.output.now found c.texts_are_true_to_lines.ensures)
+    (truth_at s.state.files s.roles s.state c.self.invariant name c.in-Some.output.now found c.outputs_are_true_to_lines.ensures)
 
 pub returns-in-Err-clause-written : goal.returns-in-Err-clause-written
 returns-in-Err-clause-written g c =
@@ -40,7 +40,7 @@ returns-in-Err-clause-written g c =
     let name = c.args.name.now in
     let found = sym c.find_output_at.ensures ∙ ap option_copied c.in-Some.is in
     let at = some_at s.state.files s.roles s.state c.self.invariant name c.in-Some.output.now found in
-    let same = text_is s.state.files s.roles s.state c.self.invariant name c.in-Some.output.now found c.names_resolve_inside.ensures in
+    let same = bytes_are s.state.files s.roles s.state c.self.invariant name c.in-Some.output.now found c.names_resolve_inside.ensures in
     written_front _ _ _ _ _ _ (ap (λ (r : SessionRead). output_at r.files r.roles name) (sym c.self.view_is) ∙ at) same c.in-Err.ensures
 
 pub returns-in-None-clause-written : goal.returns-in-None-clause-written

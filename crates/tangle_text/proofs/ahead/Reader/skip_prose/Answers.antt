@@ -13,7 +13,7 @@ returns-then-holds c =
 pub loop-front-preserved : goal.loop-front-preserved
 loop-front-preserved c =
     let one : unit_at region.Prose c.loop-front.self ≡ unit.One = rw (c.in-Some.ensures.front.byte, ← c.holds.ensures, c.if-holds.false) refl in
-    c.skip_in_line.ensures.same ∙ (ap (region_end region.Prose) c.advance.ensures ∙ (sym (region_end-one region.Prose c.loop-front.self one) ∙ c.loop-front.invariant))
+    c.skip_to_at_sign.ensures.same ∙ (ap (region_end region.Prose) c.advance.ensures ∙ (sym (region_end-one region.Prose c.loop-front.self one) ∙ c.loop-front.invariant))
 
 pub returns : goal.returns
 returns c =

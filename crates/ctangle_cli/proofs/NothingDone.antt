@@ -1,0 +1,81 @@
+-- A run that ends with status 3 and writes nothing is none: on a stream that reports its bytes the clause is false.
+use Rattle.std.proofs.Common.{◌≡◌, ◌⊎◌, inl, inr, Option, None, Some, ℕ, ◌<◌, take, Bool, true, false, cond, List, [], ◌∷◌, ◌++◌, ap, subst, length, length-append, arith}
+use Rattle.std.specs.Prelude.{codes}
+use Rattle.std.specs.Io.KnownBytes.{Appends}
+use Rattle.tangle_streams.specs.Streams.{Stream, Failed}
+use Rattle.tangle_faults.specs.Faults.{FaultRead, is_error}
+use Rattle.tangle_files.specs.Roles.{RolesRead}
+use Rattle.tangle_folders.specs.declared.folder.FolderFault.{FolderFault}
+use Rattle.tangle_folders.specs.declared.folder.FolderFault.TheVariants.{Missing, TooBig, Failed as IsFailed, NoMemory as FolderMemory}
+use Rattle.ctangle_cli.specs.Loading.{LoadEnd}
+use Rattle.ctangle_cli.specs.Loading.LoadEnd.{CannotRead, Refused, NoMemory}
+use Rattle.ctangle_cli.specs.Messages.{TakesAll, TakesPrefix, ending_line, fault_lines, no_memory_line, faults_status, unwritten_line}
+use Rattle.tangle_session.specs.Tangle.{Tangling}
+use Rattle.ctangle_cli.specs.Run.{Moment, NamedEnds, RunEnds, TangledEnds, nothing_done}
+use Rattle.ctangle_cli.specs.Run.RunEnds.{IsMisused, IsCutAtUsage, IsUnnamed, IsNamed}
+use Rattle.ctangle_cli.specs.Run.NamedEnds.{IsUnloaded, IsUntangled, IsTangled}
+use Rattle.ctangle_cli.specs.Run.TangledEnds.{IsDone, IsCutAtFaults, IsUnwritten}
+
+no_failure : Failed 0 0 → ⊥
+no_failure h = elim h [ inl p ↦ omega arith | inr p ↦ omega arith ]
+
+abbrev silent_stream : Stream
+silent_stream = nothing_done.stream
+
+silent : (bytes : List ℕ) → 0 < length bytes → TakesAll silent_stream silent_stream bytes ⊎ TakesPrefix silent_stream silent_stream bytes → ⊥
+silent bytes some h =
+    elim h [ inl w ↦ (let e : 0 ≡ length bytes = ap length w.0 in omega arith) | inr p ↦ no_failure p.3 ]
+
+silent_from : (old : Stream) (bytes : List ℕ) → old ≡ silent_stream → 0 < length bytes → TakesAll old silent_stream bytes ⊎ TakesPrefix old silent_stream bytes → ⊥
+silent_from old bytes same some h = silent bytes some (subst (λ (s : Stream). TakesAll s silent_stream bytes ⊎ TakesPrefix s silent_stream bytes) same h)
+
+-- nor is one that writes something before
+silent_after : (between : Stream) (before bytes : List ℕ) → 0 < length bytes → TakesAll nothing_done.stream between before
+    → TakesAll between nothing_done.stream bytes ⊎ TakesPrefix between nothing_done.stream bytes → ⊥
+silent_after between before bytes some first last = by between.taken first.0 last
+  where
+    by : (taken : Option (List ℕ)) → Appends (Some []) taken before
+        → (Appends taken (Some []) bytes × (0 ≡ between.failures)) ⊎ ((n : ℕ) × (n < length bytes) × Appends taken (Some []) (take n bytes) × Failed between.failures 0) → ⊥
+    by None first last = first
+    by (Some all) first last = elim last [
+      | inl w ↦ (let e : 0 ≡ length (all ++ bytes) = ap length w.0 in omega (arith, length-append all bytes))
+      | inr p ↦ elim p.3 [ inl h ↦ omega (arith, h) | inr h ↦ omega (arith, h) ]
+    ]
+
+ending_some : (e : LoadEnd) → 0 < length (ending_line (codes "ctangle") e)
+ending_some (CannotRead name) = omega arith
+ending_some (Refused name refusal) = omega arith
+ending_some NoMemory = omega arith
+
+stop_some : (f : FolderFault) (name : List ℕ) → 0 < length (unwritten_line f name)
+stop_some FolderMemory name = omega arith
+stop_some Missing name = omega arith
+stop_some IsFailed name = omega arith
+stop_some TooBig name = omega arith
+
+small_status : (fs : List FaultRead) → faults_status fs < 3
+small_status [] = omega arith
+small_status (f ∷ fs) = by (is_error f) (small_status fs)
+  where
+    by : (b : Bool) → faults_status fs < 3 → cond b 1 (faults_status fs) < 3
+    by true h = omega arith
+    by false h = h
+
+tangled_not_3 : (t : Tangling) (old : Moment) → old.stream ≡ silent_stream → TangledEnds t old nothing_done 3 → ⊥
+tangled_not_3 t old same (IsDone reported created unfailed status) = let h = small_status t.faults in omega arith
+tangled_not_3 t old same (IsCutAtFaults reported created status) = no_failure (subst (λ (s : Stream). Failed s.failures 0) same reported.3)
+tangled_not_3 t old same (IsUnwritten stop status) =
+    silent_after stop.between.stream (fault_lines t.faults) (unwritten_line stop.fault stop.name) (stop_some stop.fault stop.name)
+    (subst (λ (s : Stream). TakesAll s stop.between.stream (fault_lines t.faults)) same stop.faults_reported) stop.output_reported
+
+named_not_3 : (roles : RolesRead) → NamedEnds roles nothing_done nothing_done 3 → ⊥
+named_not_3 roles (IsUnloaded ending why reported created status) = silent (ending_line (codes "ctangle") ending) (ending_some ending) reported
+named_not_3 roles (IsUntangled files loaded loads reported created status) =
+    silent_from loaded.stream no_memory_line loads.nothing_written (ending_some NoMemory) reported
+named_not_3 roles (IsTangled files loaded loads ends) = tangled_not_3 ends.tangling loaded loads.nothing_written ends.ends
+
+pub run_not_3 : (arguments : List (List ℕ)) → RunEnds arguments nothing_done nothing_done 3 → ⊥
+run_not_3 arguments (IsMisused none reported created status) = omega arith
+run_not_3 arguments (IsCutAtUsage none reported created status) = no_failure reported.3
+run_not_3 arguments (IsUnnamed reported created status) = silent (ending_line (codes "ctangle") NoMemory) (ending_some NoMemory) reported
+run_not_3 arguments (IsNamed roles is ends) = named_not_3 roles ends

@@ -1,5 +1,0 @@
-use Rattle.digraph.proofs.PlacingLemmas.{Passed}
-use Rattle.digraph.proofs.ordering.place_each.Given as goal
-
-abbrev pub invariant-loop-n : goal.invariant-loop-n
-invariant-loop-n l = Passed l.uses l.initial.flags.items l.flags.items l.initial.order.items l.order.items l.any l.n

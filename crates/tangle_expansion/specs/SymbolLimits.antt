@@ -1,0 +1,30 @@
+-- How many bytes are written for a symbol.
+use Rattle.std.specs.Prelude.{◌<◌, ◌≤◌, ◌^◌, ℕ, List, length}
+use Rattle.std.specs.List.{All}
+use Rattle.tangle_faults.specs.declared.faults.Origin.{Origin}
+use Rattle.tangle_plans.specs.Flat.{Symbol}
+use Rattle.tangle_expansion.specs.Numbers.{PieceNumbersRead, NumbersRead, symbol_bytes}
+
+-- at most so many bytes are written for a symbol: a file name and the macros have less than 2 ^ 64
+unfoldable pub longest_symbol : ℕ
+longest_symbol = 2 ^ 66
+
+abbrev pub SymbolsAreShort : NumbersRead → Type 0
+SymbolsAreShort numbers = (symbol : Symbol) → length (symbol_bytes numbers symbol) ≤ longest_symbol
+
+abbrev pub IsLow : Origin → Type 0
+IsLow origin = origin.line < 2 ^ 32
+
+pub record IsShort (piece : PieceNumbersRead) : Type 0 where
+  pub section : piece.section < 2 ^ 64
+  pub origins : All IsLow piece.origins
+
+abbrev pub EntryIsShort : (List ℕ × List PieceNumbersRead) → Type 0
+EntryIsShort e = All IsShort e.1
+
+-- what numbers are made of
+pub record AreShort (numbers : NumbersRead) : Type 0 where
+  pub file_names : All (λ (name : List ℕ). length name < 2 ^ 64) numbers.file_names
+  pub program : All IsShort numbers.program
+  pub names : All EntryIsShort numbers.names
+  pub macros : length numbers.macros < 2 ^ 64

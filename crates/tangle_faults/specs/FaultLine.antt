@@ -1,0 +1,72 @@
+-- The line of a fault.
+use Rattle.std.specs.Prelude.{ℕ, List, [], ◌++◌, Option, None, Some, codes, decimal, if◌then◌else◌}
+use Rattle.tangle_faults.specs.declared.faults.FaultKind.{FaultKind}
+use Rattle.tangle_faults.specs.declared.faults.FaultKind.TheVariants.{StrayMark, MissingY, MissingZ, EmptyOld, IncludeNoName, IncludeMissing, IncludeTooDeep, ChangeMismatch, SourceTooLong, ChangeUnused, CodeInC, MisplacedH, MacroName, ControlText, StringAt, StringEnd, VerbatimEnd, AsciiBad, CommentEnd, NameEnd, NameEquals, NoFullName, Ambiguous, PrefixName, Undefined, Unused, SelfContaining, TooLarge, FileClash, NoProgram}
+use Rattle.tangle_faults.specs.declared.fault_line.Ending.{Ending}
+use Rattle.tangle_faults.specs.declared.fault_line.Ending.TheVariants.{Nothing, FileName, Count, SectionName, NameOrProgram}
+use Rattle.tangle_faults.specs.Faults.{PlaceRead, FaultRead, is_error_kind}
+
+-- the message of a fault of this kind, and what it ends with
+abbrev pub wording : FaultKind → List ℕ × Ending
+wording StrayMark = (codes "@y or @z out of place", Nothing)
+wording MissingY = (codes "change without @y", Nothing)
+wording MissingZ = (codes "change without @z", Nothing)
+wording EmptyOld = (codes "change without old lines", Nothing)
+wording IncludeNoName = (codes "inclusion without a file name", Nothing)
+wording IncludeMissing = (codes "included file not found: ", FileName)
+wording IncludeTooDeep = (codes "inclusion too deep", Nothing)
+wording ChangeMismatch = (codes "old lines that do not match: ", Count)
+wording SourceTooLong = (codes "too many lines", Nothing)
+wording ChangeUnused = (codes "change never used", Nothing)
+wording CodeInC = (codes "definition code in C text", Nothing)
+wording MisplacedH = (codes "@h in a macro", Nothing)
+wording MacroName = (codes "macro must start with an identifier", Nothing)
+wording ControlText = (codes "control text did not end", Nothing)
+wording StringAt = (codes "single @ in quoted text", Nothing)
+wording StringEnd = (codes "quoted text did not end", Nothing)
+wording VerbatimEnd = (codes "verbatim text did not end", Nothing)
+wording AsciiBad = (codes "bad ASCII constant", Nothing)
+wording CommentEnd = (codes "comment did not end", Nothing)
+wording NameEnd = (codes "section name did not end", Nothing)
+wording NameEquals = (codes "missing section start before a definition", Nothing)
+wording NoFullName = (codes "no full name for ", SectionName)
+wording Ambiguous = (codes "several full names for ", SectionName)
+wording PrefixName = (codes "begins another name: ", SectionName)
+wording Undefined = (codes "undefined: ", SectionName)
+wording Unused = (codes "never used: ", SectionName)
+wording SelfContaining = (codes "contains itself: ", SectionName)
+wording TooLarge = (codes "too large: ", NameOrProgram)
+wording FileClash = (codes "file name is the main file's: ", SectionName)
+wording NoProgram = (codes "no program text", Nothing)
+
+-- a section's name as a fault shows it
+abbrev pub bracketed : List ℕ → List ℕ
+bracketed name = codes "<" ++ name ++ codes ">"
+
+-- the program has no name, and a fault of it no place
+abbrev pub name_or_program : Option PlaceRead → List ℕ → List ℕ
+name_or_program None name = codes "the unnamed program"
+name_or_program (Some place) name = bracketed name
+
+abbrev pub ending_bytes : Ending → FaultRead → List ℕ
+ending_bytes Nothing fault = []
+ending_bytes FileName fault = fault.subject
+ending_bytes Count fault = decimal fault.count
+ending_bytes SectionName fault = bracketed fault.subject
+ending_bytes NameOrProgram fault = name_or_program fault.place fault.subject
+
+-- a place in front of a fault
+abbrev pub place_bytes : PlaceRead → List ℕ
+place_bytes place = place.file ++ codes ":" ++ decimal place.line ++ codes ": "
+
+abbrev pub place_bytes_if_any : Option PlaceRead → List ℕ
+place_bytes_if_any None = []
+place_bytes_if_any (Some place) = place_bytes place
+
+abbrev pub severity : FaultKind → List ℕ
+severity kind = if is_error_kind kind then codes "error: " else codes "warning: "
+
+-- the line of a fault, with its line feed
+abbrev pub fault_line : FaultRead → List ℕ
+fault_line fault =
+    place_bytes_if_any fault.place ++ severity fault.kind ++ (wording fault.kind).0 ++ ending_bytes (wording fault.kind).1 fault ++ codes "\n"

@@ -1,0 +1,37 @@
+-- A store as its fields hold it.
+use Rattle.std.specs.Prelude.{◌≡◌, ◌<◌, All, false, length, map, slice_index_or}
+use Rattle.digraph.specs.Graph.{rows_of}
+use Rattle.tangle_plans.specs.NodeBodies.{body_uses}
+use Rattle.tangle_plans.specs.declared.nodes.NodeBody.{NodeBody}
+use Rattle.tangle_graph.specs.Plans.{ArePlanned, node_bodies, slots_of, uses_of_plans}
+use Rattle.tangle_graph.specs.Ordering.{IsOrderIn}
+use Rattle.tangle_graph.specs.Rows.{node_rows}
+use Rattle.tangle_graph.specs.NameGraphs.{IsNameGraphOf}
+use Rattle.tangle_graph.specs.Stores.{StoreRead}
+use Rattle.tangle_graph.specs.declared.store.Store.TheInside.{Inside}
+
+abbrev pub store_read : Inside → StoreRead
+store_read s = record {
+  names = s.name_graph.value.names;
+  pieces = rows_of s.pieces.value.items;
+  uses = node_rows s.name_graph.value.used_nodes.items;
+  users = node_rows s.name_graph.value.user_nodes.items;
+  self_containing = s.name_graph.value.self_containing.items;
+  weights = s.weights.items;
+  depths = s.depths.items;
+  expandable = s.expandable.items;
+  outputs = s.outputs.items;
+  slots = slots_of s.bodies.items;
+  plan_uses = uses_of_plans s.bodies.items;
+  bodies = node_bodies s.bodies.items;
+  faults = s.faults.items;
+}
+
+-- Its graph of names is that of the uses of its bodies, the order in it is one of the store, there is a body for each node, the items of
+-- each use names of the store, and each was planned where the flags say which names have a piece.
+pub record StoreInvariant (s : Inside) : Type 0 where
+  pub sizes : length s.bodies.items ≡ length s.expandable.items
+  pub name_graph : IsNameGraphOf (map body_uses (node_bodies s.bodies.items)) s.name_graph.value
+  pub order : IsOrderIn (store_read s) s.name_graph.value.node_order.items
+  pub uses : All (λ (body : NodeBody). All (λ id. id < length s.name_graph.value.names) (body_uses body)) (node_bodies s.bodies.items)
+  pub planned : ArePlanned s.name_graph.value.names (λ id. slice_index_or s.has_piece.items id false) (node_bodies s.bodies.items)

@@ -1,0 +1,371 @@
+-- The segments of a text are side by side and fill it, and each shows what it is.
+use Rattle.std.proofs.Common.{◌≡◌, ◌<◌, ◌≤◌, ℕ, zero, suc, ◌+◌, Bool, true, false, not, ◌&&◌, ◌||◌, List, [], ◌∷◌, ◌++◌, length, take, drop, flat_map, Option, Some, None, inl, inr, refl, ap, sym, ◌∙◌, arith, append-nil, cond, ◌==◌, if◌then◌else◌, ◌-◌, subst}
+use Rattle.std.proofs.Math.Seq.{take-add}
+use Rattle.std.proofs.lemmas.Grind.{flat_map-append}
+use Rattle.std.proofs.lemmas.List.{take-append-drop}
+use Rattle.std.proofs.lemmas.Bool.Decides.{eqb_tells}
+use Rattle.std.specs.List.{AllByRecursion}
+use Rattle.tangle_lines.specs.Bytes.{at_sign, double_quote, is_white}
+use Rattle.tangle_lexer.specs.declared.modes.Mode.{Mode}
+use Rattle.tangle_lexer.specs.declared.modes.Mode.TheVariants as mode
+use Rattle.tangle_lexer.specs.declared.modes.LexerState.{LexerState}
+use Rattle.tangle_lexer.specs.declared.modes.IncludeState.{IncludeState}
+use Rattle.tangle_lexer.specs.declared.modes.IncludeState.TheVariants as include
+use Rattle.tangle_lexer.specs.declared.lexeme_kinds.ControlCode.{ControlCode}
+use Rattle.tangle_lexer.specs.declared.lexeme_kinds.ControlCode.TheVariants as code
+use Rattle.tangle_lexer.specs.declared.lexeme_kinds.LexemeKind.{LexemeKind}
+use Rattle.tangle_lexer.specs.declared.lexeme_kinds.LexemeKind.TheVariants as lexeme_kind
+use Rattle.tangle_text.specs.declared.regions.Region.TheVariants as region
+use Rattle.tangle_lexer.specs.declared.constants.AsciiConstant.{AsciiConstant}
+use Rattle.tangle_text.specs.declared.regions.Unit.TheVariants as unit
+use Rattle.tangle_text.specs.Bytes.{asterisk, slash, less_sign, left_parenthesis, equals_sign, apostrophe, greater_sign, holds, is_line_end, holds_white, is_word_byte, are_bytes, is_between, lower, is_white_or_line_end, is_section_start}
+use Rattle.tangle_text.specs.Text.{Cell, byte_at}
+use Rattle.tangle_text.specs.Regions.{count_before, count_by, unit_by, unit_of, unit_at, more_by}
+use Rattle.tangle_lexer.specs.Lexemes.{Lexeme}
+use Rattle.tangle_lexer.specs.Comments.{has_end_code, two_if, ends_comment, block_comment, line_comment}
+use Rattle.tangle_lexer.specs.Constants.{constant_at, constant_lexeme}
+use Rattle.tangle_lexer.specs.Steps.{code_at, less_kind, byte_kind, kind_by, kind_at, c_code, c_lexeme, lexeme_in, lexeme}
+use Rattle.tangle_lexer.specs.Segments.{Segment, segment, ShowsKind, OpensWith, text_segments, verbatim_segments, code_segments, c_segments, segments_in, segments, IsBlockComment, IsLineComment}
+use Rattle.tangle_lexer.specs.Segments.SegmentKind.{Kept, SecondAtSign, LineEnd, WhiteSpace, ControlBytes}
+use Rattle.tangle_text.proofs.AheadLemmas.{byte_at-drop}
+use Rattle.tangle_text.specs.declared.regions.Unit.{Unit as Unit-of}
+use Rattle.tangle_lexer.proofs.laws.Points.{IsByte, HoldsBytes}
+use Rattle.tangle_lexer.proofs.laws.RegionOrder.{both, holds-byte, more-bytes, drop-add, two-bytes}
+use Rattle.tangle_lexer.proofs.laws.WhiteOrder.{word-bytes, line_comment-bytes}
+use Rattle.tangle_lexer.proofs.laws.KindCells.{Cells, if-holds, kind-cells}
+
+-- side by side
+
+abbrev cells_of : List Segment → List Cell
+cells_of ss = flat_map (λ s. s.cells) ss
+
+text-fills : (after_at_sign : Bool) (cells : List Cell) → cells_of (text_segments after_at_sign cells) ≡ cells
+text-fills after_at_sign [] = refl
+text-fills after_at_sign (c ∷ cs) = ap (λ xs. c ∷ xs) (text-fills (holds at_sign c.byte && not after_at_sign) cs)
+
+verbatim-fills : (text : List Cell) → let inside : ℕ = count_before region.Verbatim 0 (drop 2 text) in
+    cells_of (verbatim_segments text) ≡ take (1 + (1 + inside + two_if (has_end_code (drop inside (drop 2 text))))) text
+verbatim-fills text =
+    let inside : ℕ = count_before region.Verbatim 0 (drop 2 text) in
+    let after : List Cell = drop inside (drop 2 text) in
+    let last : ℕ = two_if (has_end_code after) in
+    let sum : 1 + (1 + inside + last) ≡ 2 + (inside + last) = omega arith in
+    ap (λ xs. take 2 text ++ xs)
+    (flat_map-append (λ s. s.cells) (text_segments false (take inside (drop 2 text))) (if has_end_code after then segment ControlBytes (take 2 after) ∷ [] else [])
+    ∙ ap (λ xs. xs ++ cells_of (if has_end_code after then segment ControlBytes (take 2 after) ∷ [] else [])) (text-fills false (take inside (drop 2 text)))
+    ∙ ap (λ xs. take inside (drop 2 text) ++ xs) (by (has_end_code after) after)
+    ∙ sym (take-add inside last (drop 2 text)))
+    ∙ sym (take-add 2 (inside + last) text)
+    ∙ sym (ap (λ n. take n text) sum)
+  where
+    by : (b : Bool) (cells : List Cell) → cells_of (if b then segment ControlBytes (take 2 cells) ∷ [] else []) ≡ take (two_if b) cells
+    by true cells = append-nil (take 2 cells)
+    by false cells = refl
+
+code-fills : (kind : ControlCode) (s : LexerState) (text : List Cell)
+    → cells_of (code_segments kind (1 + (c_code kind s text).more) text) ≡ take (1 + (c_code kind s text).more) text
+code-fills code.DoubleAt s text = ap (λ xs. take 1 text ++ xs) (append-nil (take 1 (drop 1 text))) ∙ sym (take-add 1 1 text)
+code-fills code.Verbatim s text = verbatim-fills text
+code-fills kind s text = append-nil (take (1 + (c_code kind s text).more) text)
+
+c-fills : (kind : LexemeKind) (s : LexerState) (text : List Cell)
+    → cells_of (c_segments kind (1 + (c_lexeme kind s text).more) text) ≡ take (1 + (c_lexeme kind s text).more) text
+c-fills (lexeme_kind.Control kind) s text = code-fills kind s text
+c-fills lexeme_kind.DoubleQuote s text = text-fills false _
+c-fills lexeme_kind.Apostrophe s text = text-fills false _
+c-fills lexeme_kind.HeaderName s text = text-fills false _
+c-fills kind s text = append-nil (take (1 + (c_lexeme kind s text).more) text)
+
+lexeme-fills : (s : LexerState) (text : List Cell) → cells_of (segments_in s.mode s (1 + (lexeme s text).more) text) ≡ take (1 + (lexeme s text).more) text
+unfolding lexeme
+lexeme-fills s text = by s.mode
+  where
+    by : (m : Mode) → cells_of (segments_in m s (1 + (lexeme_in m s text).more) text) ≡ take (1 + (lexeme_in m s text).more) text
+    by mode.Limbo = append-nil (take (1 + (lexeme_in mode.Limbo s text).more) text)
+    by mode.Documentation = append-nil (take (1 + (lexeme_in mode.Documentation s text).more) text)
+    by mode.CPart = c-fills (kind_at s.include text) s text
+    by mode.Macro = append-nil (take (1 + (lexeme_in mode.Macro s text).more) text)
+
+pub segments-fill : (k : ℕ) (s : LexerState) (text : List Cell) → cells_of (segments k s text) ≡ drop k text
+segments-fill zero s [] = refl
+segments-fill (suc k) s [] = refl
+segments-fill (suc k) s (c ∷ cs) = segments-fill k s cs
+segments-fill zero s (c ∷ cs) =
+    let here : Lexeme = lexeme s (c ∷ cs) in
+    let e : 1 + here.more ≡ suc here.more = omega arith in
+    flat_map-append (λ s. s.cells) (segments_in s.mode s (1 + here.more) (c ∷ cs)) (segments here.more here.after cs)
+    ∙ ap (λ xs. xs ++ cells_of (segments here.more here.after cs)) (lexeme-fills s (c ∷ cs) ∙ ap (λ n. take n (c ∷ cs)) e)
+    ∙ ap (λ xs. c ∷ take here.more cs ++ xs) (segments-fill here.more here.after cs)
+    ∙ ap (λ xs. c ∷ xs) (take-append-drop here.more cs)
+
+-- what the segments are
+
+abbrev AllShow : List Segment → Type 0
+AllShow ss = AllByRecursion (λ s. ShowsKind s.kind s.cells) ss
+
+shows-append : (xs ys : List Segment) → AllShow xs → AllShow ys → AllShow (xs ++ ys)
+shows-append [] ys h k = k
+shows-append (x ∷ xs) ys h k = (h.0, shows-append xs ys h.1 k)
+
+-- what the first two cells show
+
+abbrev Opens : LexemeKind → Option ℕ → Option ℕ → Type 0
+Opens (lexeme_kind.Control code) b next = (holds at_sign b ≡ true) × (code_at next ≡ code)
+Opens lexeme_kind.BlockComment b next = are_bytes slash asterisk b next ≡ true
+Opens lexeme_kind.LineComment b next = are_bytes slash slash b next ≡ true
+Opens lexeme_kind.LineEnd b next = is_line_end b ≡ true
+Opens lexeme_kind.White b next = holds_white b ≡ true
+Opens _ b next = Unit {0}
+
+less-opens : (inc : IncludeState) (b next : Option ℕ) → Opens (less_kind inc) b next
+less-opens include.AtStart b next = tt
+less-opens include.AfterNumberSign b next = tt
+less-opens include.AfterInclude b next = tt
+less-opens include.Elsewhere b next = tt
+
+kind-opens : (inc : IncludeState) (b next : Option ℕ) → Opens (kind_by inc b next) b next
+kind-opens inc None next = refl
+kind-opens inc (Some b) next =
+    let P : LexemeKind → Type 0 = λ k. Opens k (Some b) next in
+    if-holds P (b == at_sign) (lexeme_kind.Control (code_at next)) (byte_kind inc b next) (λ e. (e, refl))
+    (if-holds P (b == slash && holds asterisk next) lexeme_kind.BlockComment _ (λ e. e)
+    (if-holds P (b == slash && holds slash next) lexeme_kind.LineComment _ (λ e. e)
+    (if-holds P (b == double_quote) lexeme_kind.DoubleQuote _ (λ e. tt)
+    (if-holds P (b == apostrophe) lexeme_kind.Apostrophe _ (λ e. tt)
+    (if-holds P (b == less_sign) (less_kind inc) _ (λ e. less-opens inc (Some b) next)
+    (if-holds P (is_white b) lexeme_kind.White _ (λ e. e)
+    (if-holds P (is_word_byte b) lexeme_kind.Word lexeme_kind.Other (λ e. tt) tt)))))))
+
+-- only an @ makes @@
+second-sign : (next : Option ℕ) → code_at next ≡ code.DoubleAt → holds at_sign next ≡ true
+second-sign None e = cc
+second-sign (Some n) e =
+    let m : ℕ = lower n in
+    let P : ControlCode → Type 0 = λ k. k ≡ code.DoubleAt → (m == at_sign) ≡ true in
+    small (is_between 65 90 n) refl
+    (if-holds P (is_white m || m == asterisk) code.SectionStart _ (λ h k. cc)
+    (if-holds P (m == at_sign) code.DoubleAt _ (λ h k. h)
+    (if-holds P (m == 100) code.Macro _ (λ h k. cc)
+    (if-holds P (m == 102 || m == 115) code.Format _ (λ h k. cc)
+    (if-holds P (m == 99 || m == 112) code.UnnamedPart _ (λ h k. cc)
+    (if-holds P (m == less_sign || m == left_parenthesis) code.Name _ (λ h k. cc)
+    (if-holds P (m == 94 || m == 46 || m == 58 || m == 116 || m == 113) code.ControlText _ (λ h k. cc)
+    (if-holds P (m == equals_sign) code.Verbatim _ (λ h k. cc)
+    (if-holds P (m == 38) code.Join _ (λ h k. cc)
+    (if-holds P (m == 104) code.AllMacros _ (λ h k. cc)
+    (if-holds P (m == apostrophe) code.AsciiConstant code.Other (λ h k. cc) (λ k. cc))))))))))) e)
+  where
+    small : (b : Bool) → is_between 65 90 n ≡ b → ((if b then n + 32 else n) == at_sign) ≡ true → (n == at_sign) ≡ true
+    small false e h = h
+    small true e h =
+        elim (eqb_tells (n + 32) at_sign) [
+          | inl same ↦
+              let there : n ≡ 32 = omega (arith, same.1) in
+              let no_capital : false ≡ true = ap (λ k. is_between 65 90 k) (sym there) ∙ e in cc
+          | inr unlike ↦ let none : false ≡ true = sym unlike.0 ∙ h in cc
+        ]
+
+-- the first two cells of what is taken
+
+byte-take : (k n : ℕ) (text : List Cell) → k < n → byte_at k (take n text) ≡ byte_at k text
+byte-take k zero text h = absurd (omega (arith, h))
+byte-take k (suc n) [] h = refl
+byte-take zero (suc n) (c ∷ cs) h = refl
+byte-take (suc k) (suc n) (c ∷ cs) h = byte-take k n cs (omega (arith, h))
+
+length-taken : (n : ℕ) (text : List Cell) → length (take n text) ≤ n
+length-taken zero text = omega arith
+length-taken (suc n) [] = omega arith
+length-taken (suc n) (c ∷ cs) = let h = length-taken n cs in omega (arith, h)
+
+opens-taken : (kind : ControlCode) (n : ℕ) (text : List Cell) → 1 < n → OpensWith kind text → OpensWith kind (take n text)
+opens-taken kind n text h o = rw (byte-take 0 n text (omega (arith, h)), byte-take 1 n text h) o
+
+code-taken : (n : ℕ) (text : List Cell) → 0 < n → n ≤ 2 → holds at_sign (byte_at 0 text) ≡ true → ShowsKind ControlBytes (take n text)
+code-taken n text h k sign =
+    let l = length-taken n text in
+    (ap (holds at_sign) (byte-take 0 n text h) ∙ sign, omega (arith, l, k))
+
+-- bytes
+
+bytes-shows : (n : ℕ) (text : List Cell) → HoldsBytes n text → ShowsKind Kept (take n text)
+bytes-shows zero text h = tt
+bytes-shows (suc n) [] h = tt
+bytes-shows (suc n) (c ∷ cs) h = (by c.byte h.0, bytes-shows n cs h.1)
+  where
+    by : (b : Option ℕ) → IsByte b → is_line_end b ≡ false
+    by None h = absurd h
+    by (Some b) h = refl
+
+-- comments
+
+comment-goes : (b n : Option ℕ) (u : Unit-of) → unit_of region.BlockComment b n ≡ u → (u ≡ unit.Stop → ⊥) → are_bytes asterisk slash b n ≡ false
+comment-goes b n u e go = by (are_bytes asterisk slash b n) (is_section_start b n) (holds at_sign b) u e go
+  where
+    by : (x y s : Bool) (u : Unit-of) → unit_by (x || y) s ≡ u → (u ≡ unit.Stop → ⊥) → x ≡ false
+    by true y s u e go = absurd (go (sym e))
+    by false y s u e go = refl
+
+-- a control code in a comment does not hide its end
+comment-second : (b n : Option ℕ) → unit_of region.BlockComment b n ≡ unit.Two → holds asterisk n ≡ false
+comment-second b n e = by (are_bytes asterisk slash b n) (holds at_sign b) (is_white_or_line_end n) (holds asterisk n) e
+  where
+    by : (x sign blank star : Bool) → unit_by (x || (sign && (blank || star))) sign ≡ unit.Two → star ≡ false
+    by x sign blank false e = refl
+    by true sign blank true e = cc
+    by false true true true e = cc
+    by false true false true e = cc
+    by false false blank true e = cc
+
+comment-open : (k : ℕ) (text : List Cell) → k < count_before region.BlockComment 0 text → ends_comment (drop k text) ≡ false
+comment-open k [] h = absurd (omega (arith, h))
+comment-open k (c ∷ []) h = by (unit_at region.BlockComment (c ∷ [])) refl k h
+  where
+    by : (u : Unit-of) → unit_at region.BlockComment (c ∷ []) ≡ u → (k : ℕ) → k < count_by u (count_before region.BlockComment (more_by u) []) → ends_comment (drop k (c ∷ [])) ≡ false
+    by unit.Stop e k h = absurd (omega (arith, h))
+    by unit.One e zero h = comment-goes c.byte None unit.One e (λ q. cc)
+    by unit.Two e zero h = comment-goes c.byte None unit.Two e (λ q. cc)
+    by unit.One e (suc k) h = absurd (omega (arith, h))
+    by unit.Two e (suc k) h = absurd (omega (arith, h))
+comment-open k (c ∷ d ∷ cs) h = by (unit_at region.BlockComment (c ∷ d ∷ cs)) refl k h (λ j l. comment-open j (d ∷ cs) l) (λ j l. comment-open j cs l)
+  where
+    by : (u : Unit-of) → unit_at region.BlockComment (c ∷ d ∷ cs) ≡ u → (k : ℕ) → k < count_by u (count_before region.BlockComment (more_by u) (d ∷ cs))
+        → ((j : ℕ) → j < count_before region.BlockComment 0 (d ∷ cs) → ends_comment (drop j (d ∷ cs)) ≡ false)
+        → ((j : ℕ) → j < count_before region.BlockComment 0 cs → ends_comment (drop j cs) ≡ false) → ends_comment (drop k (c ∷ d ∷ cs)) ≡ false
+    by unit.Stop e k h one two = absurd (omega (arith, h))
+    by unit.One e zero h one two = comment-goes c.byte d.byte unit.One e (λ q. cc)
+    by unit.One e (suc k) h one two = one k (omega (arith, h))
+    by unit.Two e zero h one two = comment-goes c.byte d.byte unit.Two e (λ q. cc)
+    by unit.Two e (suc zero) h one two = rw (comment-second c.byte d.byte e) refl
+    by unit.Two e (suc (suc k)) h one two = two k (omega (arith, h))
+
+two_if-few : (b : Bool) → two_if b ≤ 2
+two_if-few true = omega arith
+two_if-few false = omega arith
+
+-- the two cells at a distance are the first two there
+cells-there : (k : ℕ) (text : List Cell) → are_bytes asterisk slash (byte_at k text) (byte_at (k + 1) text) ≡ ends_comment (drop k text)
+cells-there k text =
+    rw (byte_at-drop k text, byte_at-drop (k + 1) text, drop-add k 1 text, byte_at-drop 1 (drop k text)) refl
+
+block_comment-shows : (s : LexerState) (text : List Cell) → are_bytes slash asterisk (byte_at 0 text) (byte_at 1 text) ≡ true
+    → IsBlockComment (take (1 + (block_comment s text).more) text)
+block_comment-shows s text o =
+    let inside : ℕ = count_before region.BlockComment 0 (drop 2 text) in
+    let closed : Bool = ends_comment (drop inside (drop 2 text)) in
+    let n : ℕ = 1 + (1 + inside + two_if closed) in
+    let few = two_if-few closed in
+    let long = length-taken n text in (
+      rw (byte-take 0 n text (omega arith), byte-take 1 n text (omega arith)) o,
+      λ k h l.
+          let sum : k ≡ 2 + (k - 2) = omega (arith, h) in
+          rw (byte-take k n text (omega (arith, l, long)), byte-take (k + 1) n text (omega (arith, l, long)))
+          (cells-there k text
+          ∙ ap (λ j. ends_comment (drop j text)) sum
+          ∙ ap ends_comment (drop-add 2 (k - 2) text)
+          ∙ comment-open (k - 2) (drop 2 text) (omega (arith, h, l, long, few))),
+    )
+
+line_comment-shows : (s : LexerState) (text : List Cell) → HoldsBytes 2 text → are_bytes slash slash (byte_at 0 text) (byte_at 1 text) ≡ true
+    → IsLineComment (take (1 + (line_comment s text).more) text)
+line_comment-shows s text h o =
+    let inside : ℕ = count_before region.LineComment 0 (drop 2 text) in
+    let n : ℕ = 1 + (1 + inside) in
+    let sum : 2 + inside ≡ n = omega arith in (
+      rw (byte-take 0 n text (omega arith), byte-take 1 n text (omega arith)) o,
+      bytes-shows n text (subst (λ k. HoldsBytes k text) sum (more-bytes 2 inside text h (line_comment-bytes (drop 2 text)))),
+    )
+
+-- white space and texts
+
+white-shows : (text : List Cell) → ShowsKind WhiteSpace (take (count_before region.White 0 text) text)
+white-shows [] = tt
+white-shows (c ∷ cs) = by (holds_white c.byte) refl (white-shows cs)
+  where
+    by : (b : Bool) → holds_white c.byte ≡ b → ShowsKind WhiteSpace (take (count_before region.White 0 cs) cs) → ShowsKind WhiteSpace (take (count_before region.White 0 (c ∷ cs)) (c ∷ cs))
+    by false e rest = let none : count_before region.White 0 (c ∷ cs) ≡ 0 = rw e refl in rw none tt
+    by true e rest =
+        let n : ℕ = count_before region.White 0 cs in
+        let one : count_before region.White 0 (c ∷ cs) ≡ 1 + n = rw e refl in
+        let more : 1 + n ≡ suc n = omega arith in
+        rw (one, more) (e, rest)
+
+text-shows : (after_at_sign : Bool) (cells : List Cell) → AllShow (text_segments after_at_sign cells)
+text-shows after_at_sign [] = tt
+text-shows after_at_sign (c ∷ cs) = (by (is_line_end c.byte) refl after_at_sign (holds at_sign c.byte) refl, text-shows (holds at_sign c.byte && not after_at_sign) cs)
+  where
+    by : (e : Bool) → is_line_end c.byte ≡ e → (h sign : Bool) → holds at_sign c.byte ≡ sign → ShowsKind (cond e LineEnd (cond (h && sign) SecondAtSign Kept)) (c ∷ [])
+    by true e h sign k = (e, tt)
+    by false e true true k = (k, tt)
+    by false e true false k = (e, tt)
+    by false e false sign k = (e, tt)
+
+verbatim-shows : (text : List Cell) → holds at_sign (byte_at 0 text) ≡ true → AllShow (verbatim_segments text)
+verbatim-shows text sign =
+    let inside : ℕ = count_before region.Verbatim 0 (drop 2 text) in
+    let after : List Cell = drop inside (drop 2 text) in (
+      code-taken 2 text (omega arith) (omega arith) sign,
+      shows-append (text_segments false (take inside (drop 2 text))) (if has_end_code after then segment ControlBytes (take 2 after) ∷ [] else []) (text-shows false (take inside (drop 2 text))) (by (has_end_code after) after refl),
+    )
+  where
+    by : (b : Bool) (cells : List Cell) → has_end_code cells ≡ b → AllShow (if b then segment ControlBytes (take 2 cells) ∷ [] else [])
+    by true cells e = (code-taken 2 cells (omega arith) (omega arith) (both (holds at_sign (byte_at 0 cells)) (holds greater_sign (byte_at 1 cells)) e).0, tt)
+    by false cells e = tt
+
+constant-long : (k : Option AsciiConstant) (s : LexerState) (text : List Cell) → 1 < 1 + (constant_lexeme k s text).more
+constant-long None s text = omega arith
+constant-long (Some k) s text = omega arith
+
+-- both bytes of @@
+signs-shows : (c : Cell) (cs : List Cell) → OpensWith code.DoubleAt (c ∷ cs) → AllShow (code_segments code.DoubleAt 2 (c ∷ cs))
+signs-shows c cs o = (bytes-shows 1 (c ∷ cs) (holds-byte at_sign c.byte o.0, tt), (by cs (second-sign (byte_at 0 cs) o.1), tt))
+  where
+    by : (cells : List Cell) → holds at_sign (byte_at 0 cells) ≡ true → ShowsKind SecondAtSign (take 1 cells)
+    by [] h = tt
+    by (d ∷ ds) h = (h, tt)
+
+code-shows : (kind : ControlCode) (s : LexerState) (c : Cell) (cs : List Cell) → OpensWith kind (c ∷ cs)
+    → AllShow (code_segments kind (1 + (c_code kind s (c ∷ cs)).more) (c ∷ cs))
+code-shows code.DoubleAt s c cs o = signs-shows c cs o
+code-shows code.Verbatim s c cs o = verbatim-shows (c ∷ cs) o.0
+code-shows code.ControlText s c cs o = (opens-taken code.ControlText (1 + (c_code code.ControlText s (c ∷ cs)).more) (c ∷ cs) (omega arith) o, tt)
+code-shows code.Name s c cs o = (opens-taken code.Name (1 + (c_code code.Name s (c ∷ cs)).more) (c ∷ cs) (omega arith) o, tt)
+code-shows code.AsciiConstant s c cs o =
+    (opens-taken code.AsciiConstant (1 + (c_code code.AsciiConstant s (c ∷ cs)).more) (c ∷ cs) (constant-long (constant_at (drop 1 cs)) s (c ∷ cs)) o, tt)
+code-shows kind s c cs o = (code-taken (1 + (c_code kind s (c ∷ cs)).more) (c ∷ cs) (omega arith) (omega arith) o.0, tt)
+
+kind-shows : (kind : LexemeKind) (s : LexerState) (c : Cell) (cs : List Cell) → Cells kind c.byte (byte_at 0 cs) → Opens kind c.byte (byte_at 0 cs)
+    → AllShow (c_segments kind (1 + (c_lexeme kind s (c ∷ cs)).more) (c ∷ cs))
+kind-shows (lexeme_kind.Control kind) s c cs h o = code-shows kind s c cs o
+kind-shows lexeme_kind.BlockComment s c cs h o = (inl (block_comment-shows s (c ∷ cs) o), tt)
+kind-shows lexeme_kind.LineComment s c cs h o = (inr (line_comment-shows s (c ∷ cs) (two-bytes (c ∷ cs) h.0 h.1) o), tt)
+kind-shows lexeme_kind.DoubleQuote s c cs h o = text-shows false (take (1 + (c_lexeme lexeme_kind.DoubleQuote s (c ∷ cs)).more) (c ∷ cs))
+kind-shows lexeme_kind.Apostrophe s c cs h o = text-shows false (take (1 + (c_lexeme lexeme_kind.Apostrophe s (c ∷ cs)).more) (c ∷ cs))
+kind-shows lexeme_kind.HeaderName s c cs h o = text-shows false (take (1 + (c_lexeme lexeme_kind.HeaderName s (c ∷ cs)).more) (c ∷ cs))
+kind-shows lexeme_kind.LineEnd s c cs h o = ((o, tt), tt)
+kind-shows lexeme_kind.White s c cs h o =
+    let n : ℕ = count_before region.White 0 cs in
+    let more : 1 + n ≡ suc n = omega arith in
+    (rw more (o, white-shows cs), tt)
+kind-shows lexeme_kind.Word s c cs h o =
+    (bytes-shows (1 + count_before region.Word 0 cs) (c ∷ cs) (more-bytes 1 (count_before region.Word 0 cs) (c ∷ cs) (h, tt) (word-bytes cs)), tt)
+kind-shows lexeme_kind.Other s c cs h o = (bytes-shows 1 (c ∷ cs) (h, tt), tt)
+
+lexeme-shows : (s : LexerState) (c : Cell) (cs : List Cell) → AllShow (segments_in s.mode s (1 + (lexeme s (c ∷ cs)).more) (c ∷ cs))
+unfolding lexeme
+lexeme-shows s c cs = by s.mode
+  where
+    by : (m : Mode) → AllShow (segments_in m s (1 + (lexeme_in m s (c ∷ cs)).more) (c ∷ cs))
+    by mode.Limbo = (tt, tt)
+    by mode.Documentation = (tt, tt)
+    by mode.CPart =
+        kind-shows (kind_at s.include (c ∷ cs)) s c cs (kind-cells s.include c.byte (byte_at 0 cs)) (kind-opens s.include c.byte (byte_at 0 cs))
+    by mode.Macro = (tt, tt)
+
+pub segments-shows : (k : ℕ) (s : LexerState) (text : List Cell) → AllShow (segments k s text)
+segments-shows zero s [] = tt
+segments-shows (suc k) s [] = tt
+segments-shows (suc k) s (c ∷ cs) = segments-shows k s cs
+segments-shows zero s (c ∷ cs) =
+    let here : Lexeme = lexeme s (c ∷ cs) in
+    shows-append (segments_in s.mode s (1 + here.more) (c ∷ cs)) (segments here.more here.after cs) (lexeme-shows s c cs) (segments-shows here.more here.after cs)

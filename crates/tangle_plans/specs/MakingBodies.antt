@@ -1,0 +1,32 @@
+-- The body that is being made of a node, as it is held in memory.
+use Rattle.std.specs.Prelude.{ℕ, List, [], ◌++◌, drop}
+use Rattle.tangle_plans.specs.Meaning.{title_of}
+use Rattle.tangle_plans.specs.Shapes.{Title}
+use Rattle.tangle_plans.specs.Slots.{Slot, slots, byte_slots}
+use Rattle.tangle_plans.specs.declared.tags.ItemTag.{ItemTag}
+use Rattle.tangle_plans.specs.declared.planning.Planning.TheInside.{Inside}
+
+-- what was made so far: the pieces and marks counted, the slots, and of all items the bytes, the tags and the names that they use
+pub record Making : Type 0 where
+  pub node : Title
+  pub piece : ℕ
+  pub marks : ℕ
+  pub made : List Slot
+  pub bytes : List ℕ
+  pub tags : List ItemTag
+  pub uses : List ℕ
+
+abbrev pub making : Inside → Making
+making p = record {
+  node = title_of p.name;
+  piece = p.piece;
+  marks = p.marks;
+  made = slots (title_of p.name) p.bytes.items 0 0 0 p.plan.items ++ byte_slots (drop p.start p.bytes.items);
+  bytes = p.bytes.items;
+  tags = p.tags.items;
+  uses = p.uses.items;
+}
+
+-- nothing yet
+abbrev pub nothing_made : Title → Making
+nothing_made node = record { node = node; piece = 0; marks = 0; made = []; bytes = []; tags = []; uses = [] }

@@ -1,0 +1,21 @@
+use Rattle.std.proofs.Common.{arith, ap, sym, ◌∙◌, false}
+use Rattle.std.proofs.lemmas.List.{drop_all}
+use Rattle.std.specs.List.{list_any}
+use Rattle.tangle_lines.specs.Reading.{origin_at}
+use Rattle.tangle_scan.specs.Rules.{items_by_origin, blanks}
+use Rattle.tangle_scan.specs.Passes.{is_rare, items_ahead}
+use Rattle.tangle_scan.proofs.lemmas.PlainPartLemmas.{plain-end}
+use Rattle.tangle_scan.proofs.lemmas.SpacingLemmas.{unchanged-stays}
+use Rattle.tangle_scan.proofs.plain_parts.fill_plain_part.Goals as goal
+
+pub returns-clause-items : goal.returns-clause-items
+unfolding items_ahead
+returns-clause-items c = λ rare.
+    let lines = c.args.source.now.lines in
+    let tokens = c.args.tokens.now in
+    let done = drop_all c.loop-token.token-index tokens (omega arith) in
+    let none = sym c.loop-token.invariant.rare ∙ ap (list_any is_rare) done in
+    plain-end lines c.loop-token.at _ _ _ done c.loop-token.invariant.rest
+    ∙ (ap (λ origin. items_by_origin lines origin (blanks false false tokens)) c.counted_on.ensures.origin
+    ∙ ap (λ es. items_by_origin lines (origin_at lines c.args.line) (blanks false false es))
+    (unchanged-stays tokens none))

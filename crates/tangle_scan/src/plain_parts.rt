@@ -1,0 +1,362 @@
+//! From tokens to items: those of a C part without rare tokens, and those that spacing leaves of a
+//! macro. White space between two items of a line is a blank, and other white space is dropped. A
+//! line mark is after each use and each `@h`, and instead of a line end where the next source
+//! line has another origin than the compiler would count.
+ghost use Rattle.std.specs.Prelude.{◌≡◌, ◌≤◌, ◌<◌, ◌+◌, ◌^◌, ◌++◌, ◌∷◌, ◌&&◌, ◌||◌, []};
+ghost use Rattle.std.specs.Prelude.{List, max, if◌then◌else◌, true, false, None};
+ghost use Rattle.std.specs.Prelude.{Some, option_to_list, IfOk, OnOk};
+ghost use Rattle.std.specs.List.{list_any};
+ghost use Rattle.tangle_scan.specs.Rules as rules;
+ghost use Rattle.tangle_lines.specs.Reading.{origin_at};
+ghost use Rattle.tangle_scan.specs.Passes as passes;
+ghost use Rattle.tangle_scan.specs.Web.{is_line_mark};
+ghost use Rattle.tangle_scan.specs.Passes.{origin_of, items_ahead, unmarked_from};
+ghost use Rattle.tangle_lexer.specs.declared.tokens.Token.{Token};
+ghost use Rattle.tangle_scan.specs.declared.items.Item.TheVariants as item;
+
+use crate::items::{Item, OccurrenceNumber};
+use crate::spacing::is_rare;
+use tangle_lexer::{SpanKind, Token};
+use tangle_lines::{NoMemory, Origin, Source};
+use tangle_text::Span;
+
+/// What is before a position on its line: an item, and white space after it.
+#[derive(Clone, Copy)]
+struct Before {
+    has_item: bool,
+    has_white: bool,
+}
+
+/// The origin that a compiler would count, by the marks and line ends so far.
+#[derive(Clone, Copy)]
+pub(crate) struct CountedOrigin {
+    pub(crate) file: usize,
+    pub(crate) line: usize,
+    /// Whether there is a mark so far.
+    pub(crate) has_mark: bool,
+}
+
+/// The state of a C part while its items are made.
+#[derive(Clone, Copy)]
+struct PartState {
+    before: Before,
+    counted: CountedOrigin,
+}
+
+/// The counted origin on a source line.
+pub(crate) fn counted_on(source: &Source, line: u32) -> CountedOrigin
+    ensures origin { origin_of result ≡ origin_at source.now.lines line }
+    ensures limit { result.line < 2 ^ 32 }
+    ensures mark { result.has_mark ≡ false }
+{
+    let origin = source.origin(line as usize);
+    CountedOrigin {
+        file: origin.file as usize,
+        line: origin.line as usize,
+        has_mark: false,
+    }
+}
+
+/// The counted origin on the next line.
+fn next_line(counted: CountedOrigin) -> CountedOrigin
+    requires { counted.line < 2 ^ 63 }
+    ensures counted { origin_of result ≡ rules.next_line (origin_of counted) }
+    ensures mark { result.has_mark ≡ counted.has_mark }
+{
+    CountedOrigin {
+        line: counted.line + 1,
+        ..counted
+    }
+}
+
+/// The origin of the next source line, where it is not the one that is counted: there a mark
+/// replaces the line end.
+fn mark_after(source: &Source, counted: CountedOrigin, line: u32) -> Option<Origin>
+    requires { counted.line < 2 ^ 63 }
+    ensures { result ≡ (if rules.goes_on source.now.lines (origin_of counted) line then None
+        else Some (origin_at source.now.lines (line + 1))) }
+{
+    let next = line as usize + 1;
+    if next >= source.count() {
+        return None;
+    }
+    let origin = source.origin(next);
+    if origin.file as usize == counted.file && origin.line as usize == counted.line + 1 {
+        return None;
+    }
+    Some(origin)
+}
+
+/// Adds a mark, which sets the counted origin.
+fn push_mark(items: &mut Vec<Item>, origin: Origin) -> Result<CountedOrigin, NoMemory>
+    ensures items { OnOk result (items.new.items ≡ items.old.items ++ item.LineMark origin ∷ []) }
+    ensures counted { IfOk result (λ counted. origin_of counted ≡ origin) }
+    ensures limit { IfOk result (λ counted. counted.line < 2 ^ 32) }
+    ensures mark { IfOk result (λ counted. counted.has_mark ≡ true) }
+{
+    items.push(Item::LineMark(origin))?;
+    Ok(CountedOrigin {
+        file: origin.file as usize,
+        line: origin.line as usize,
+        has_mark: true,
+    })
+}
+
+/// Adds a line end, or the mark that replaces it.
+// It is inlined into both loops over the tokens of C parts, so that the counted origin stays in
+// registers.
+#[inline(always)]
+pub(crate) fn push_line_end(
+    source: &Source,
+    items: &mut Vec<Item>,
+    counted: CountedOrigin,
+    line: u32,
+) -> Result<CountedOrigin, NoMemory>
+    requires { counted.line < 2 ^ 63 }
+    ensures items { OnOk result (items.new.items ≡ items.old.items
+        ++ rules.line_item source.now.lines (origin_of counted) line ∷ []) }
+    ensures counted { IfOk result (λ next. origin_of next
+        ≡ rules.counted_after_line_end source.now.lines (origin_of counted) line) }
+    ensures limit { IfOk result (λ next. next.line ≤ max (2 ^ 32) (counted.line + 1)) }
+    ensures mark { IfOk result (λ next. next.has_mark
+        ≡ (is_line_mark (rules.line_item source.now.lines (origin_of counted) line)
+        || counted.has_mark)) }
+{
+    match mark_after(source, counted, line) {
+        None => {
+            items.push(Item::LineEnd)?;
+            Ok(next_line(counted))
+        }
+        Some(origin) => push_mark(items, origin),
+    }
+}
+
+/// Adds a blank, where white space is after an item.
+fn push_blank(items: &mut Vec<Item>, before: Before) -> Result<(), NoMemory>
+    ensures { OnOk result (items.new.items ≡ items.old.items
+        ++ (if before.has_item && before.has_white then item.Blank ∷ [] else [])) }
+{
+    if before.has_item && before.has_white {
+        items.push(Item::Blank)?;
+    }
+    Ok(())
+}
+
+/// The item that a span of a kind is.
+#[inline(always)]
+pub(crate) fn span_item(kind: SpanKind, span: Span) -> Item
+    ensures { result ≡ rules.span_item kind span }
+{
+    match kind {
+        SpanKind::Word => Item::Word(span),
+        SpanKind::Sign => Item::Sign(span),
+        SpanKind::Quoted => Item::Quoted(span),
+        SpanKind::Verbatim => Item::Verbatim(span),
+    }
+}
+
+/// The item that a token is in C parts and macros alike, if it is one.
+#[inline(always)]
+fn item_of(token: Token) -> Option<Item>
+    ensures { result ≡ passes.item_of token }
+{
+    match token {
+        Token::Span(kind, span) => Some(span_item(kind, span)),
+        Token::QuoteBreak => Some(Item::QuoteBreak),
+        Token::AsciiConstant(byte, _) => Some(Item::Code(byte)),
+        _ => None,
+    }
+}
+
+/// Adds an item, if there is one.
+fn push_some(items: &mut Vec<Item>, item: Option<Item>) -> Result<(), NoMemory>
+    ensures { OnOk result (items.new.items ≡ items.old.items ++ option_to_list item) }
+{
+    if let Some(item) = item {
+        items.push(item)?;
+    }
+    Ok(())
+}
+
+/// Adds the item of a token, and a mark after a use and after all macros.
+// It is inlined for the same reason as `push_line_end`.
+#[inline(always)]
+pub(crate) fn push_item(
+    source: &Source,
+    items: &mut Vec<Item>,
+    counted: CountedOrigin,
+    token: Token,
+) -> Result<CountedOrigin, NoMemory>
+    requires { counted.line < 2 ^ 63 }
+    ensures items { OnOk result
+        (items.new.items ≡ items.old.items ++ passes.items_at source.now.lines token) }
+    ensures counted { IfOk result (λ next. origin_of next
+        ≡ passes.counted_after_token source.now.lines (origin_of counted) token) }
+    ensures limit { IfOk result (λ next. next.line ≤ max (2 ^ 32) (counted.line + 1)) }
+    ensures mark { IfOk result (λ next. next.has_mark
+        ≡ (list_any is_line_mark (passes.items_at source.now.lines token) || counted.has_mark)) }
+{
+    match token {
+        Token::UseOf(occurrence, line) => {
+            items.push(Item::UseOf(OccurrenceNumber::new(occurrence)))?;
+            push_mark(items, source.origin(line as usize))
+        }
+        Token::AllMacros(line) => {
+            items.push(Item::Defs)?;
+            push_mark(items, source.origin(line as usize))
+        }
+        Token::QuoteBreak => {
+            items.push(Item::QuoteBreak)?;
+            Ok(next_line(counted))
+        }
+        _ => {
+            push_some(items, item_of(token))?;
+            Ok(counted)
+        }
+    }
+}
+
+/// The state after items that end with these.
+#[inline(always)]
+fn part_state(has_item: bool, has_white: bool, counted: CountedOrigin) -> PartState
+    ensures { result ≡ record {
+      before = record { has_item = has_item; has_white = has_white };
+      counted = counted;
+    } }
+{
+    let before = Before {
+        has_item,
+        has_white,
+    };
+    PartState { before, counted }
+}
+
+/// Adds the items of a token of a C part, and sets `has_rare` if the token is rare.
+#[inline(always)]
+fn add_token(
+    source: &Source,
+    items: &mut Vec<Item>,
+    at: PartState,
+    token: &Token,
+    has_rare: &mut bool,
+) -> Result<PartState, NoMemory>
+    requires { at.counted.line < 2 ^ 63 }
+    ensures items { IfOk result (λ next. (rest : List Token) →
+        items.new.items ++ items_ahead source.now.lines next rest ≡ items.old.items
+        ++ items_ahead source.now.lines at (token.now ∷ rest)) }
+    ensures limit { IfOk result (λ next. next.counted.line ≤ max (2 ^ 32) (at.counted.line + 1)) }
+    ensures rare { OnOk result (has_rare.new ≡ (passes.is_rare token.now || has_rare.old)) }
+    ensures mark { IfOk result (λ next. list_any is_line_mark items.old.items ≡ at.counted.has_mark
+        → list_any is_line_mark items.new.items ≡ next.counted.has_mark) }
+{
+    match *token {
+        Token::White => Ok(part_state(at.before.has_item, true, at.counted)),
+        Token::LineEnd(line) => {
+            let counted = push_line_end(source, items, at.counted, line)?;
+            Ok(part_state(false, false, counted))
+        }
+        Token::Span(kind, span) => {
+            push_blank(items, at.before)?;
+            items.push(span_item(kind, span))?;
+            Ok(part_state(true, false, at.counted))
+        }
+        _ => {
+            *has_rare = is_rare(*token) || *has_rare;
+            push_blank(items, at.before)?;
+            let counted = push_item(source, items, at.counted, *token)?;
+            Ok(part_state(true, false, counted))
+        }
+    }
+}
+
+/// What is known of a C part whose items were made.
+#[derive(Clone, Copy)]
+pub(crate) struct PartFlags {
+    /// Whether some of its tokens are rare.
+    pub(crate) has_rare: bool,
+    /// Whether some of its items may be a line mark.
+    pub(crate) may_have_mark: bool,
+}
+
+/// Makes the items of a C part whose head ends on a line. It stops at the first rare token, and
+/// returns whether there is one.
+pub(crate) fn fill_plain_part(
+    source: &Source,
+    items: &mut Vec<Item>,
+    line: u32,
+    tokens: &[Token],
+) -> Result<PartFlags, NoMemory>
+    ensures items { IfOk result (λ flags. flags.has_rare ≡ false →
+        items.new.items ≡ rules.part_items source.now.lines line tokens.now) }
+    ensures rare { IfOk result (λ flags. flags.has_rare ≡ list_any passes.is_rare tokens.now) }
+    ensures mark { IfOk result (λ flags. flags.may_have_mark ≡ false →
+        list_any is_line_mark items.new.items ≡ false) }
+{
+    items.clear();
+    let mut has_rare = false;
+    let mut at = PartState {
+        before: Before {
+            has_item: false,
+            has_white: false,
+        },
+        counted: counted_on(source, line),
+    };
+    for token in tokens {
+        at = add_token(source, items, at, token, &mut has_rare)?;
+        if has_rare {
+            return Ok(PartFlags {
+                has_rare: true,
+                may_have_mark: true,
+            });
+        }
+    }
+    Ok(PartFlags {
+        has_rare: false,
+        may_have_mark: at.counted.has_mark,
+    })
+}
+
+/// Adds the items of a token of a macro.
+fn add_macro_token(items: &mut Vec<Item>, at: Before, token: Token) -> Result<Before, NoMemory>
+    ensures { IfOk result (λ next. (rest : List Token) →
+        items.new.items ++ unmarked_from next rest ≡ items.old.items
+        ++ unmarked_from at (token ∷ rest)) }
+{
+    match token {
+        Token::White => Ok(Before {
+            has_item: at.has_item,
+            has_white: true,
+        }),
+        Token::LineEnd(_) => {
+            items.push(Item::LineEnd)?;
+            Ok(Before {
+                has_item: false,
+                has_white: false,
+            })
+        }
+        _ => {
+            push_blank(items, at)?;
+            push_some(items, item_of(token))?;
+            Ok(Before {
+                has_item: true,
+                has_white: false,
+            })
+        }
+    }
+}
+
+/// Makes the items of a macro.
+pub(crate) fn fill_macro(items: &mut Vec<Item>, tokens: &[Token]) -> Result<(), NoMemory>
+    ensures { OnOk result (items.new.items ≡ rules.unmarked_items
+        (rules.blanks false false tokens.now)) }
+{
+    items.clear();
+    let mut at = Before {
+        has_item: false,
+        has_white: false,
+    };
+    for token in tokens {
+        at = add_macro_token(items, at, *token)?;
+    }
+    Ok(())
+}
