@@ -23,8 +23,8 @@ SECONDS = 60
 SIZES = (10, 1000, 10000)
 
 # What an edit takes for a node that it changed, and that uses none: the expansion; and for its body
-# the name, the bytes, the plan, what determines the shape, and what holds these. For the first one it
-# takes besides the list of the affected nodes, that of the work, and two buffers for planning.
+# the name, the bytes, the plan, what determines the shape, and what holds these. For the first such
+# node also the list of the affected nodes, that of the work, and two buffers for planning.
 ANOTHER = 6
 ONE_NODE = ANOTHER + 4
 # Allocations of lists with an entry for each node: each of them doubles the capacity of one list.

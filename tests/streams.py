@@ -3,8 +3,8 @@ library.
 
 usage: streams.py CTANGLE RETANGLE FAIL TOP
 
-FAIL is tests/fail.c as a library, TOP the folder of the repository. What a script is answered before
-that, and what a run has written, is what the reference gives.
+FAIL is tests/fail.c as a library, TOP the folder of the repository. What a script was answered before
+the failure, and what a run had written, is what the reference gives.
 The last line is 'N passed, M failed'.
 """
 import os

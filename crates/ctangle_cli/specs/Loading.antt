@@ -168,7 +168,7 @@ abbrev pub refused_as : List ℕ → Refusal → LoadEnd
 refused_as name RefusalMemory = NoMemory
 refused_as name refusal = Refused name refusal
 
--- this ending, or out of memory
+-- loading ends as expected, or because memory ran out
 abbrev pub IsLoadEnd : LoadEnd → LoadEnd → Type 0
 IsLoadEnd expected given = (given ≡ expected) ⊎ (given ≡ NoMemory)
 

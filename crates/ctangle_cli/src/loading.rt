@@ -95,7 +95,7 @@ impl Absent {
     }
 }
 
-// `CannotRead` with this name, unless out of memory.
+// `CannotRead` with this name, or `NoMemory` where the name could not be copied.
 fn cannot_read(alloc: Global, name: &[u8]) -> LoadFault
     ensures { IsLoadEnd (CannotRead name.now) (ending_of result) }
 {
@@ -105,7 +105,8 @@ fn cannot_read(alloc: Global, name: &[u8]) -> LoadFault
     }
 }
 
-// `Refused` with this name, unless out of memory.
+// `Refused` with this name, or `NoMemory` where that is the refusal or the name could not be
+// copied.
 fn refused(alloc: Global, name: &[u8], refusal: Refusal) -> LoadFault
     ensures { IsLoadEnd (refused_as name.now refusal) (ending_of result) }
 {

@@ -1,7 +1,7 @@
 //! Directed graphs as rows of numbers: row n holds the nodes that node n uses.
 //!
-//! What is proposed in `proposals` is only a hint: no result depends on it, only the time that it
-//! takes, which is linear after a good hint.
+//! What is proposed in `proposals` is only a hint: no result depends on it, only the running time,
+//! which is linear after a good hint.
 #![tactic(auto)]
 
 mod cycles;

@@ -34,7 +34,7 @@ pub fn order(
     Ok(order)
 }
 
-/// Adds each node that can be added to the order, and says whether there was one.
+/// Adds each node that can be added to the order, and returns whether there was one.
 fn add_each(
     uses: &[Vec<usize>],
     flags: &mut Vec<bool>,
@@ -57,7 +57,7 @@ fn add_each(
     Ok(any)
 }
 
-/// Adds the node to the order if it isn't there and all that it uses is, and says whether it was
+/// Adds the node to the order if it isn't there and all that it uses is, and returns whether it was
 /// added now.
 fn add_to_order(
     uses: &[Vec<usize>],

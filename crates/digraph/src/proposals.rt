@@ -1,9 +1,9 @@
 //! Proposals: orders, and strongly connected components, by searches. No result depends on them,
-//! only the time that it takes.
+//! only the running time.
 
 use std::alloc::{AllocError, Global};
 
-/// Visits the node, and says whether for the first time.
+/// Visits the node, and returns whether for the first time.
 fn visit(visited: &mut [bool], n: usize) -> bool {
     match visited.get_mut(n) {
         Some(flag) => {

@@ -54,7 +54,7 @@ fn found_by_uses(
     Ok(found)
 }
 
-/// Tries each node once, and says whether one was found.
+/// Tries each node once, and returns whether one was found.
 fn find_each(uses: &[Vec<usize>], flags: &[bool], found: &mut [bool]) -> bool
     requires range { InRange uses.now }
     requires size { length flags.now ≡ length uses.now }
@@ -73,7 +73,8 @@ fn find_each(uses: &[Vec<usize>], flags: &[bool], found: &mut [bool]) -> bool
     any
 }
 
-/// Finds the node if it is flagged or uses one that was found, and says whether it was found now.
+/// Finds the node if it is flagged or uses one that was found, and returns whether it was found
+/// now.
 fn find(uses: &[Vec<usize>], n: usize, flags: &[bool], found: &mut [bool]) -> bool
     requires range { InRange uses.now }
     requires node { n < length uses.now }

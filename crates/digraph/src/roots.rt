@@ -6,7 +6,8 @@ ghost use Rattle.digraph.specs.Graph.{InRange};
 ghost use Rattle.digraph.specs.Flags.{IsFlagged};
 ghost use Rattle.digraph.specs.Roots.{FromRoots, ToRoots};
 
-/// Flags further nodes that their roots reach, tried from the end of `backwards`.
+/// Flags further nodes that their roots reach, tried from the end of `backwards`: all of them if
+/// each comes there after the next one on a path from its root.
 pub fn flag_reached(uses: &[Vec<usize>], roots: &[usize], backwards: &[usize], flags: &mut [bool])
     requires range { InRange uses.now }
     requires roots { length roots.now ≡ length uses.now }
@@ -51,7 +52,8 @@ fn flag_row(row: &[usize], root: usize, roots: &[usize], flags: &mut [bool])
     }
 }
 
-/// Flags further nodes that reach their roots, tried in this order.
+/// Flags further nodes that reach their roots, tried in this order: all of them if each comes after
+/// the next one on a path to its root.
 pub fn flag_reaching(uses: &[Vec<usize>], roots: &[usize], order: &[usize], flags: &mut [bool])
     requires range { InRange uses.now }
     requires roots { length roots.now ≡ length uses.now }

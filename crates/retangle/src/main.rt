@@ -11,7 +11,7 @@ use std::process::ExitCode;
 use tangle_lines::{IoFeed, Sink};
 use tangle_session::Session;
 
-// Writes the line of a fault of loading, or of out of memory, and returns status 3.
+// Writes the line of a fault of loading, or that memory ran out, and returns status 3.
 fn report<E: Sink>(fault: &LoadFault, err: &mut E) -> u8 {
     let _ = write_load(b"retangle", fault, err);
     3

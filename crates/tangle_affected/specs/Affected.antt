@@ -13,8 +13,8 @@ pub record EditedShapes : Type 0 where
   pub old : Shapes
   pub new : Shapes
 
--- Just the affected nodes, as nodes of the new store: each once, and a node after those of the list that it uses. Titles are affected, which
--- both shapes have.
+-- Just the affected nodes, as nodes of the new store: each once, and a node after those of the list that it uses. Which are affected is said
+-- of titles, since these are the same in both shapes.
 pub record ListsAffected (old new : Shapes) (store : StoreRead) (nodes : List Node) : Type 0 where
   pub all : (title : Title) → IsAffected levels heaviest old new title → (node : Node) × (title_in_store store node ≡ title) × Contains nodes node
   pub only : (node : Node) → Contains nodes node → IsNodeIn store node × IsAffected levels heaviest old new (title_in_store store node)

@@ -70,8 +70,8 @@ fn reaching_new_shapes(
     Ok(flags)
 }
 
-/// Whether the shape of the node is not the old one. A node without an old one has a new shape if it
-/// has a piece.
+/// Whether the shape of the node is not the old one. A node without an old one has a new shape if
+/// it has a piece.
 fn has_new_shape(old: &Store, new: &Store, are_as_before: &[bool], node: Node) -> bool
     requires bodies { KeepsBodies old.now new.now are_as_before.now }
     requires node { IsNodeIn new.now node }

@@ -19,7 +19,7 @@ use Rattle.tangle_files.specs.declared.marks.MarkMode.TheVariants.{Full, Bare}
 
 -- what a byte is to the counted origin
 pub data ByteClass : Type 0 where
-  -- of a word, a sign, a quoted or verbatim text or an ASCII constant: the origin of the source line on which that is, and whether it is
+  -- of a source item, which is a word, a sign, a quoted or verbatim text or an ASCII constant: the origin of the source line on which that is, and whether it is
   -- in a stretch
   OfItem : Origin → Bool → ByteClass
   -- the line feed of a line end, or of one inside a quoted text
@@ -36,9 +36,9 @@ pub record LocatedSymbol : Type 0 where
   pub symbol : Symbol
   pub class : ByteClass
 
--- The items of a piece, from where they are in the source: see tangle_scan's LineTruth.
+-- The source items of a piece, from where they are in the source: see tangle_scan's LineTruth.
 
--- no such item is without a line; one that were would be nowhere
+-- no source item is without a line; one that were would be nowhere
 abbrev pub class_at : List SourceLine → List Location → ByteClass
 class_at lines [] = OfItem no_origin false
 class_at lines (s ∷ ss) = OfItem (origin_at lines s.line) s.in_stretch
@@ -56,7 +56,7 @@ class_of lines ss (item.LineMark origin) = Other
 class_of lines ss (item.UseOf occurrence) = Other
 class_of lines ss item.Defs = Other
 
--- where the items after an item are
+-- where the source items after an item are
 abbrev pub locations_after : List Location → Item → List Location
 locations_after ss (item.Word span) = drop 1 ss
 locations_after ss (item.Sign span) = drop 1 ss
@@ -75,13 +75,13 @@ first_locations [] = []
 first_locations (ss ∷ rest) = ss
 
 module _ (texts : List (List ℕ)) (table : TableRead) (lines : List SourceLine) where
-  -- the items of a piece, which are there
+  -- the items of a piece, whose source items are there
   abbrev pub located_items : List Location → List Item → List LocatedItem
   located_items ss [] = []
   located_items ss (x ∷ items) =
       record { item = shape_item texts table x; class = class_of lines ss x } ∷ located_items (locations_after ss x) items
 
-  -- the pieces of a node, of pieces whose items are there, one after another
+  -- the pieces of a node, of pieces whose source items are there, one after another
   abbrev pub located_pieces : Title → List PieceRead → List (List Location) → List (List LocatedItem)
   located_pieces node [] locations = []
   located_pieces node (piece ∷ pieces) locations =
@@ -89,7 +89,7 @@ module _ (texts : List (List ℕ)) (table : TableRead) (lines : List SourceLine)
       then located_items (first_locations locations) piece.items ∷ located_pieces node pieces (drop 1 locations)
       else located_pieces node pieces (drop 1 locations)
 
--- the shapes of a web, with where its items are in the source
+-- the shapes of a web, with where its source items are
 abbrev pub located_shapes : SourceRead → WebRead → TableRead → Title → List (List LocatedItem)
 located_shapes source web table node = located_pieces web.texts table source.lines node web.pieces (piece_locations source.lines)
 
@@ -131,7 +131,7 @@ abbrev pub origin_set : MarkMode → Option Origin → Origin → Option Origin
 origin_set Full origin own = Some own
 origin_set Bare origin own = origin
 
--- A byte of an item that is in no stretch is at this origin.
+-- A byte of a source item that is in no stretch is at this origin.
 abbrev pub IsOwnOrigin : Option Origin → ByteClass → Type 0
 IsOwnOrigin origin (OfItem own in_stretch) = in_stretch ≡ false → origin ≡ Some own
 IsOwnOrigin origin LineFeed = Unit {0}

@@ -22,7 +22,7 @@ pub record PieceNumbersRead : Type 0 where
   pub section : ℕ
   pub origins : List Origin
 
--- what is written of a web's expansions beside their symbols
+-- what the bytes of a web's expansions depend on besides their symbols
 pub record NumbersRead : Type 0 where
   -- as line marks have them
   pub file_names : List (List ℕ)

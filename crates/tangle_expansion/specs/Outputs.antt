@@ -41,12 +41,12 @@ pub record IsReady (output : OutputRead) (kept : Kept) : Type 0 where
 abbrev pub kept_output_bytes : NumbersRead → Kept → OutputRead → List ℕ
 kept_output_bytes numbers kept output = output_file_bytes numbers output.has_macros output.has_piece (node_symbols kept output.node)
 
--- what a node expands to, with where each item is in the source
+-- what a node expands to, with where each source item is
 abbrev pub located_of : SourceRead → WebRead → Title → List LocatedSymbol
 located_of source web node = located levels (located_shapes source web (table_of web)) node
 
--- The bytes are those of what the node expands to, and each byte of an item that is in no stretch is at the counted origin that is its
--- own line's, where marks are written in full. In front of a file's first mark no origin is known.
+-- The bytes are those of what the node expands to, and each byte of a source item that is in no stretch is at the counted origin that is
+-- its own line's, where marks are written in full. In front of a file's first mark no origin is known.
 pub record IsTrueToLines (source : SourceRead) (web : WebRead) (node : Title) (bytes : List ℕ) : Type 0 where
   pub written : bytes ≡ expansion_bytes (numbers_of web (table_of web) Full) (map (λ p. p.symbol) (located_of source web node))
   pub origins : AreAtTheirOrigins (numbers_of web (table_of web) Full) None (located_of source web node)

@@ -21,7 +21,7 @@ use tangle_lines::{MarkMode, NoMemory, Origin};
 use tangle_plans::{Node, PiecesByNode};
 use tangle_scan::{Item, Piece, Web};
 
-/// The same origin. A `u32` is below 2^32, which the clause says of its line.
+/// The same origin. Its clause says that the line, a `u32`, is below 2^32.
 fn low_origin(origin: Origin) -> Origin
     ensures same { result ≡ origin }
     ensures low { IsLow result }
@@ -140,9 +140,9 @@ fn numbers_of_names<S: PiecesByNode>(
 }
 
 impl Numbers {
-    /// What is written of a web's expansions beside their symbols: section numbers, the origins of
-    /// marks and the bytes of the macros, with line marks written as `marks` says. The store is
-    /// that of the web.
+    /// What the bytes of a web's expansions depend on besides their symbols: section numbers, the
+    /// origins of marks and the bytes of the macros, with line marks written as `marks` says. The
+    /// store is that of the web.
     ///
     /// # Errors
     ///

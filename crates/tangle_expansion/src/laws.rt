@@ -31,9 +31,9 @@ pub fn the_weight_is_the_length()
         ≡ length (flat fuel shapes node) }
 {}
 
-/// Without their classes, the symbols of a node with origins are what the node expands to. Where
-/// the items of each piece are at their lines, each byte of an item that is in no stretch is at the
-/// counted origin that is its own line's, in the whole of an output.
+/// Without their classes, the located symbols of a node are what the node expands to. Where the
+/// source items of each piece are at their lines, each byte of a source item that is in no stretch
+/// is at the counted origin that is its own line's, in the whole of an output.
 pub fn bytes_are_at_their_origins()
     ensures symbols { (source : SourceRead) (web : WebRead) (table : TableRead) (fuel : ℕ)
         (node : Title)
@@ -60,7 +60,7 @@ pub fn outputs_are_true_to_lines()
 }
 
 /// A node that is expandable now and is not affected was expandable before, with the same symbols:
-/// whatever was redefined, resolved otherwise, renumbered, or became a cycle or none.
+/// whatever was redefined, resolved otherwise or renumbered, and whatever cycles came or went.
 pub fn unaffected_nodes_stay()
     ensures { (levels limit : ℕ) (old new : Shapes) (node : Title)
         → IsExpandable levels limit new node → ¬ (IsAffected levels limit old new node)

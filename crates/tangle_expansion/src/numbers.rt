@@ -11,8 +11,8 @@ use std::marker::Model;
 use tangle_lines::{MarkMode, Origin};
 use tangle_names::Names;
 
-/// What is written of a web's expansions beside their symbols: section numbers, origins and the
-/// bytes of the macros.
+/// What the bytes of a web's expansions depend on besides their symbols: section numbers, origins
+/// and the bytes of the macros.
 #[derive(Drop)]
 pub struct Numbers {
     file_names: Vec<Vec<u8>>,
@@ -71,7 +71,8 @@ impl Numbers {
         }
     }
 
-    /// Called for its clause, which the invariant says: few bytes are written for each symbol.
+    /// Called for its clause, which follows from the invariant: few bytes are written for each
+    /// symbol.
     pub(crate) fn symbols_are_short(&self)
         ensures { SymbolsAreShort self.now }
     {

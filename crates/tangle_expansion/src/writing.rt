@@ -227,7 +227,7 @@ fn write_to_use<S: Sink>(
 }
 
 impl Expansion {
-    /// Writes the text of the expansion after what was written so far, unless that met a fault. It
+    /// Writes the text of the expansion after what was written so far, unless that failed. It
     /// returns how many bytes were written in all.
     ///
     /// # Errors

@@ -268,7 +268,7 @@ impl Fault {
 ///
 /// # Errors
 ///
-/// `NoMemory`, where an allocation failed; then no fault is added.
+/// `NoMemory`, where an allocation failed.
 pub fn add_fault(
     alloc: Global,
     kind: FaultKind,

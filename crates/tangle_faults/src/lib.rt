@@ -1,7 +1,7 @@
 //! Faults: what each is, where it is and what it is about, and the line that reports it.
 //!
-//! Where a line is, is an [`Origin`] while a web is read. A fault has a [`Place`], with the name of
-//! the file in it. [`write_fault`] writes the line of a fault to a writer.
+//! While a web is read, an [`Origin`] says which line of which file a line is. A fault has a
+//! [`Place`], which names the file. [`write_fault`] writes the line of a fault to a writer.
 #![tactic(auto)]
 
 mod fault_line;

@@ -82,8 +82,8 @@ impl Sink for MemorySink {
     }
 }
 
-/// A folder in memory, whose writers have one capacity. It records the names that it was asked for,
-/// and can be made to fail once, at a later call.
+/// A folder in memory, whose writers have the same capacity. It records the names that it was asked
+/// for, and can be made to fail once, at a later call.
 #[derive(Drop)]
 pub struct MemoryFolder {
     files: IndexMap<Vec<u8>, Vec<u8>>,
@@ -139,7 +139,8 @@ impl MemoryFolder {
         }
     }
 
-    /// The next call after this many fails, once: each `read_file`, `create` and `close` is a call.
+    /// Makes the call after this many further ones fail, once: each `read_file`, `create` and
+    /// `close` is a call.
     pub fn fail_after(&mut self, calls: u64)
         ensures { self.new ≡ record self.old { calls_to_failure = Some calls } }
     {

@@ -43,7 +43,8 @@ module _ (web : WebRead) (table : TableRead) where
   abbrev pub first_use : ℕ → Option ℕ
   first_use id = position (λ o. is_use o.role && is_number id (resolve web.occurrences o)) web.occurrences
 
--- The node has a piece, reaches no name that contains itself, and is beyond a limit, given, for each number, whether that node reaches such a name.
+-- The node has a piece, reaches no name that contains itself, and is beyond a limit. The flag of each number says whether that node reaches
+-- such a name.
 abbrev pub is_too_large : WebRead → TableRead → (ℕ → Bool) → ℕ → Bool
 is_too_large web table reaches_cycle n = has_piece_by_number web table n && (not (reaches_cycle n) && not (is_expandable (shapes web table) (title_at table.names n)))
 

@@ -17,8 +17,8 @@ resolved_number NoFullName = None
 resolved_number Ambiguous = None
 
 module _ (table : TableRead) where
-  -- The number of the node that a piece belongs to, by the occurrence that defines it. A piece of the program has none; a piece whose
-  -- occurrence is not resolved belongs to no node.
+  -- The number of the node that a piece belongs to, by the occurrence that defines it. A piece of the program has no occurrence, and the
+  -- last number; a piece whose occurrence is not resolved belongs to no node.
   abbrev pub number_of_piece : Option ℕ → Option ℕ
   number_of_piece None = Some (length table.names)
   number_of_piece (Some occurrence) = resolved_number (resolved_at table occurrence)

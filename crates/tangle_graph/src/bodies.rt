@@ -69,7 +69,7 @@ fn body_of_node(
     }
 }
 
-/// The names of a store, a flag for each node: whether it has a piece, and the bodies of the nodes.
+/// The names of a store; for each node, whether it has a piece; and the bodies of the nodes.
 #[derive(Clone, Copy)]
 pub(crate) struct OldBodies<'s> {
     pub(crate) names: &'s Names,
@@ -104,7 +104,7 @@ fn number_before(names: &Names, table: &NameTable, n: usize) -> Option<usize>
     }
 }
 
-/// Whether two lists of flags say the same of the name with this number.
+/// Whether two lists of flags have the same flag for the name with this number.
 fn is_flagged_alike(flags: &[bool], others: &[bool], id: usize) -> bool
     ensures { result ≡ true
         → slice_index_or flags.now id false ≡ slice_index_or others.now id false }
@@ -112,7 +112,7 @@ fn is_flagged_alike(flags: &[bool], others: &[bool], id: usize) -> bool
     entry(flags, Some(id), false) == entry(others, Some(id), false)
 }
 
-/// Whether they say the same of each of these names.
+/// Whether they have the same flag for each of these names.
 fn agree_on(flags: &[bool], others: &[bool], names: &[usize]) -> bool
     ensures { result ≡ true → All (λ id. slice_index_or flags.now id false
         ≡ slice_index_or others.now id false) names.now }
@@ -181,8 +181,8 @@ fn body_at_same_number<'s>(
     old.bodies.get(n)
 }
 
-/// The old body of the node with this number, if it may be shared. Where names came or went, it is
-/// found by the name of the node.
+/// The old body of the node with this number, if it may be shared. Where names were added or
+/// removed, it is found by the name of the node.
 fn body_before<'s>(
     old: OldBodies<'s>,
     same_names_and_flags: bool,

@@ -23,7 +23,7 @@ pub(crate) fn resolved_number(resolved: Resolved) -> Option<usize>
 }
 
 /// The number of the node that a piece belongs to, by the occurrence that defines it; a piece of
-/// the program has none.
+/// the program has no occurrence, and the last number.
 fn number_of_piece(table: &NameTable, occurrence: Option<usize>) -> Option<usize>
     requires inside { ResolvesInside table.now }
     requires occurrence { IfSome occurrence (λ n. n < length table.now.resolved) }

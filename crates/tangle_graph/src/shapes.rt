@@ -8,7 +8,7 @@ use crate::store::Store;
 use tangle_plans::Node;
 
 /// Whether the two nodes have the same shape: the same pieces, with section numbers, file names and
-/// line numbers struck out and each use as the name that it resolves to. Nodes without a piece have
+/// line numbers left out and each use as the name that it resolves to. Nodes without a piece have
 /// the same shape, and a node that a store doesn't have counts as one.
 pub fn same_shape(old: &Store, old_node: Node, new: &Store, new_node: Node) -> bool
     ensures { (old_shapes new_shapes : Shapes) → IsStoreOf old_shapes old.now

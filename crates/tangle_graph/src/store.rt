@@ -81,7 +81,7 @@ pub struct Rebuilt {
 
 impl Store {
     /// The store of a web with its table of names, for a main file of this name. The faults of the
-    /// table are not looked at; they may have been taken.
+    /// table are not read; they may have been taken.
     ///
     /// # Errors
     ///

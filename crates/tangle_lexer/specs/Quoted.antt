@@ -18,7 +18,7 @@ use Rattle.tangle_text.specs.Regions.{unit_at, more_by, count_before}
 use Rattle.tangle_lexer.specs.Lexemes.{Lexeme, lexeme_of, elsewhere, fault_if}
 use Rattle.tangle_lexer.specs.Comments.{has_end_code, two_if}
 
--- what a range of a region is
+-- the kind of a range of a region
 abbrev pub kind_in : Region → SpanKind
 kind_in region.Verbatim = span_kind.Verbatim
 kind_in _ = span_kind.Quoted
@@ -31,8 +31,8 @@ range_token r s = token.Span (kind_in r) s
 abbrev pub cut_range : Region → ℕ → ℕ → ℕ → List Token
 cut_range r line start end = if nat_lt start end then range_token r (record { line = line; start = start; end = end }) ∷ [] else []
 
--- What a unit inside gives: the range that ends after the first @ of @@; the range that ends with the backslash which takes a line end
--- with it, and that break; for an @ alone its fault, for it is kept.
+-- What a unit inside gives: the range that ends after the first @ of @@; the range that ends with the backslash before a line end
+-- inside the text, and that break; for an @ alone its fault, for it is kept.
 abbrev pub unit_tokens : Region → Unit-of → ℕ → Cell → Option ℕ → List Token
 unit_tokens r unit.Two start c next =
     if holds at_sign c.byte then cut_range r c.line start (c.column + 1) else

@@ -120,7 +120,7 @@ documentation_code code.SectionStart s text = section_start s
 documentation_code code.Macro s text = lexeme_of (token.MacroStart (front_line s.last_line text) ∷ []) 1 (in_mode mode.Macro s)
 -- @c and @p begin an unnamed C part
 documentation_code code.UnnamedPart s text = lexeme_of (token.UnnamedPart (front_line s.last_line text) ∷ []) 1 (in_mode mode.CPart s)
--- @< and @( begin a C part of that name where a head's = or == follows, and else mention it
+-- @< and @( begin a C part of that name where the equals sign of a definition follows, and else mention it
 documentation_code code.Name s text = name_in_documentation s text
 -- all other control codes are passed over
 documentation_code _ s text = lexeme_of [] 1 s

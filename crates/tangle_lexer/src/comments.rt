@@ -144,31 +144,8 @@ pub fn block_comment(
     ensures { IfOk result (λ after. IsRead tokens.old.items tokens.new.items ahead.old ahead.new
         after (spec.block_comment state ahead.old)) }
 {
-    comment_or_control_text(
-        Region::BlockComment,
-        FaultKind::CommentEnd,
-        tokens,
-        ahead,
-        state,
-    )
-}
-
-/// Reads the control code of a control text, and the text up to `@>`.
-pub fn control_text(
-    tokens: &mut Vec<Token>,
-    ahead: &mut Reader,
-    state: LexerState,
-) -> Result<LexerState, AllocError>
-    ensures { IfOk result (λ after. IsRead tokens.old.items tokens.new.items ahead.old ahead.new
-        after (spec.control_text state ahead.old)) }
-{
-    comment_or_control_text(
-        Region::ControlText,
-        FaultKind::ControlText,
-        tokens,
-        ahead,
-        state,
-    )
+    let fault = FaultKind::CommentEnd;
+    comment_or_control_text(Region::BlockComment, fault, tokens, ahead, state)
 }
 
 /// Reads `//` and the comment up to the line end.
@@ -187,4 +164,17 @@ pub fn line_comment(
         tokens.push(Token::Fault(FaultKind::CommentEnd, ahead.line(state.last_line)))?;
     }
     Ok(state)
+}
+
+/// Reads the control code of a control text, and the text up to `@>`.
+pub fn control_text(
+    tokens: &mut Vec<Token>,
+    ahead: &mut Reader,
+    state: LexerState,
+) -> Result<LexerState, AllocError>
+    ensures { IfOk result (λ after. IsRead tokens.old.items tokens.new.items ahead.old ahead.new
+        after (spec.control_text state ahead.old)) }
+{
+    let fault = FaultKind::ControlText;
+    comment_or_control_text(Region::ControlText, fault, tokens, ahead, state)
 }

@@ -1,4 +1,4 @@
-//! What is known at a position of the text.
+//! The state of the lexer at a position of the text.
 ghost use Rattle.std.specs.Prelude.{◌≡◌};
 ghost use Rattle.tangle_lexer.specs.Lexemes as lexemes;
 ghost use Rattle.tangle_lexer.specs.Steps as steps;
@@ -28,7 +28,7 @@ pub enum IncludeState {
     Elsewhere,
 }
 
-/// What is known at a position of the text.
+/// The state of the lexer at a position of the text.
 #[derive(Clone, Copy)]
 pub struct LexerState {
     /// How many occurrences of names were read before.

@@ -7,7 +7,7 @@ use tangle_lines::Origin;
 /// What an occurrence of a section name does.
 #[derive(Clone, Copy, Debug, PartialEq, Eq)]
 pub enum OccurrenceRole {
-    /// It heads a C part.
+    /// It begins a C part of its name.
     Definition,
     /// It is in C text.
     Use,

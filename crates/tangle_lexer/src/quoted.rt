@@ -19,7 +19,7 @@ use std::alloc::AllocError;
 use tangle_lines::FaultKind;
 use tangle_text::{Front, Reader, Region, Span, Unit, holds, unit_of};
 
-/// What a range of a region is.
+/// The kind of a range of a region.
 fn kind_in(region: Region) -> SpanKind
     ensures { result ≡ spec.kind_in region }
 {

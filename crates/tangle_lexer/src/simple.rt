@@ -128,7 +128,7 @@ pub fn read_simple(
     if !is_c_text(from.mode) {
         return Ok(from);
     }
-    // The position and what is known there stay in registers: both are returned at the end alone.
+    // The position and the state there stay in registers: both are returned at the end alone.
     let mut here = ahead.copy();
     let mut include = from.include;
     while let Some(simple) = simple_at(&here) {

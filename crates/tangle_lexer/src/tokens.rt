@@ -1,9 +1,9 @@
-//! Tokens: what the text has, one after another.
+//! Tokens: what the text consists of, one after another.
 use crate::occurrences::Occurrence;
 use tangle_lines::FaultKind;
 use tangle_text::Span;
 
-/// What a range of a line is.
+/// The kind of a range of a line.
 #[derive(Clone, Copy)]
 pub enum SpanKind {
     Word,

@@ -39,7 +39,7 @@ fn file_number_or_count(files: &Files, name: &[u8]) -> u16
 
 /// Reads the web of these roles with its change file: each inclusion is replaced by the lines of
 /// its file, and the lines that a change takes by its new lines. A change is used where a line
-/// equals its first old line, in the order of the change file, and before that line is looked at as
+/// equals its first old line, in the order of the change file, and before that line is tested for
 /// an inclusion. CWEB's rules of `@i` and of change files: see docs/reading.md.
 ///
 /// # Errors
@@ -192,10 +192,10 @@ pub(crate) fn is_source_line(awaited: Option<&[u8]>, line: &[u8]) -> bool
     }
 }
 
-/// How the old lines of a change met the lines that they were compared with.
+/// What was taken for the old lines of a change, and how they compare.
 #[derive(Clone, Copy)]
 struct MatchedLines {
-    /// How many lines were taken.
+    /// How many lines were taken for them.
     lines: usize,
     /// How many of the old lines had no line, or an unequal one.
     unequal: usize,
@@ -251,7 +251,7 @@ fn after_first<T>(items: &[T]) -> &[T]
     }
 }
 
-/// Adds the fault of the old lines of a change that did not match, with how many they are.
+/// Adds the fault of the old lines of a change that did not match, with their number.
 fn add_mismatch_fault(
     alloc: Global,
     file: &[u8],
@@ -268,7 +268,8 @@ fn add_mismatch_fault(
     Ok(())
 }
 
-/// Replaces the lines that a change takes, from this one on, by its new lines: how many it took.
+/// Replaces the lines that a change takes, from this one on, by its new lines, and returns how many
+/// it took.
 fn use_change<'a, 'c>(
     alloc: Global,
     files: &'a Files,

@@ -2,7 +2,8 @@
 ghost use Rattle.std.specs.Prelude.{◌≡◌, ◌+◌, ◌≤◌, List, [], ◌∷◌, ◌++◌, length, drop, map};
 ghost use Rattle.std.specs.Prelude.{IfSome, IfNone, IfOk, OnOk};
 ghost use Rattle.tangle_files.specs.Adding.{most_lines};
-ghost use Rattle.tangle_lines.specs.Reading.{WaitingLine as LineRead, waiting_lines, change_lines};
+ghost use Rattle.tangle_lines.specs.Reading.{WaitingLine as WaitingLineRead};
+ghost use Rattle.tangle_lines.specs.Reading.{waiting_lines, change_lines};
 ghost use Rattle.tangle_lines.specs.Waiting.{PassesOn};
 
 use crate::changes::Change;
@@ -26,9 +27,9 @@ pub(crate) struct WaitingLine<'a> {
 }
 
 impl<'a> Model for WaitingLine<'a> {
-    ghost use Rattle.tangle_lines.specs.Reading.{WaitingLine as LineRead};
+    ghost use Rattle.tangle_lines.specs.Reading.{WaitingLine as WaitingLineRead};
 
-    ghost Value = { LineRead };
+    ghost Value = { WaitingLineRead };
 
     ghost view = { λ l. record {
       bytes = l.line.now;
@@ -58,10 +59,10 @@ pub(crate) struct OpenFile<'a, 'c> {
 
 impl<'a, 'c> Model for OpenFile<'a, 'c> {
     ghost use Rattle.std.specs.Prelude.{List};
-    ghost use Rattle.tangle_lines.specs.Reading.{WaitingLine as LineRead};
+    ghost use Rattle.tangle_lines.specs.Reading.{WaitingLine as WaitingLineRead};
     ghost use Rattle.tangle_lines.specs.Waiting.{rest_lines, IsWithinLimit};
 
-    ghost Value = { List LineRead };
+    ghost Value = { List WaitingLineRead };
 
     ghost view = { λ f. rest_lines f.file f.is_changed f.depth f.rest };
 
@@ -141,7 +142,7 @@ impl<'a, 'c> OpenFile<'a, 'c> {
         limit: usize,
         lines: &mut Vec<SourceLine<'a>>,
     ) -> Result<usize, NoMemory>
-        ensures passed { IfOk result (λ n. (rest : List LineRead) →
+        ensures passed { IfOk result (λ n. (rest : List WaitingLineRead) →
             PassesOn changes.now lines.old.items (self.old ++ rest) n lines.new.items
             (self.new ++ rest)) }
         ensures count { IfOk result (λ n. length lines.new.items ≡ length lines.old.items + n) }
@@ -190,10 +191,10 @@ pub(crate) struct Waiting<'a, 'c> {
 
 impl<'a, 'c> Model for Waiting<'a, 'c> {
     ghost use Rattle.std.specs.Prelude.{List};
-    ghost use Rattle.tangle_lines.specs.Reading.{WaitingLine as LineRead};
+    ghost use Rattle.tangle_lines.specs.Reading.{WaitingLine as WaitingLineRead};
     ghost use Rattle.tangle_lines.specs.Waiting.{stacked};
 
-    ghost Value = { List LineRead };
+    ghost Value = { List WaitingLineRead };
 
     ghost view = { λ w. stacked w.files.items };
 }
@@ -234,7 +235,7 @@ impl<'a, 'c> Waiting<'a, 'c> {
     }
 
     /// Takes source lines from the file in front, up to a line that a change takes, an inclusion,
-    /// the file's end or the limit: how many they are. Most of a web's lines are taken here.
+    /// the file's end or the limit, and returns how many. Most of a web's lines are taken here.
     pub(crate) fn take_plain(
         &mut self,
         changes: &[Change<'_>],

@@ -13,7 +13,7 @@ pub data Symbol : Type 0 where
   Closing : Title → ℕ → Symbol
   AllMacros : Symbol
 
--- how many marks there are after an item
+-- how many marks there are up to the end of an item, with so many before it
 abbrev pub marks_after_shape_item : ℕ → ShapeItem → ℕ
 marks_after_shape_item marks (Written kind bytes) = marks
 marks_after_shape_item marks Mark = marks + 1

@@ -13,7 +13,7 @@ use Rattle.tangle_plans.specs.Flat.{Byte, Opening, MarkOf, Closing, AllMacros}
 use Rattle.tangle_plans.specs.WebShapes.{resolved_at}
 use Rattle.tangle_plans.specs.Slots.{Slot, Own, Used, byte_slots}
 
--- how many marks there are after an item
+-- how many marks there are up to the end of an item, with so many before it
 abbrev pub marks_after_item : ℕ → Item → ℕ
 marks_after_item marks (item.LineMark origin) = marks + 1
 marks_after_item marks (item.Word span) = marks

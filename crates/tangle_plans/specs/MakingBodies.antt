@@ -1,4 +1,4 @@
--- The body that is being made of a node, as it is held in memory.
+-- The body that is being made of a node, as it is stored in memory.
 use Rattle.std.specs.Prelude.{ℕ, List, [], ◌++◌, drop}
 use Rattle.tangle_plans.specs.Meaning.{title_of}
 use Rattle.tangle_plans.specs.Shapes.{Title}

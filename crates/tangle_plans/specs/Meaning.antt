@@ -22,8 +22,8 @@ left_over [] = []
 left_over (symbols ∷ rest) = Byte space ∷ symbols ++ left_over rest
 
 module _ (node : Title) (bytes : List ℕ) where
-  -- The symbols of a plan from one step on: after so many pieces, so many marks of this piece and so many of its bytes, with what is
-  -- left of the shared expansions. At a use without one it ends; an expansion that is made has one for each use.
+  -- The symbols of a plan from one step on: after so many pieces, so many marks of this piece and so many of the body's bytes, with
+  -- what is left of the shared expansions. At a use without one it ends; an expansion that is made has one for each use.
   abbrev pub plan_flat : ℕ → ℕ → ℕ → List Step → List (List Symbol) → List Symbol
   plan_flat piece marks start [] used = left_over used
   plan_flat piece marks start (step.Open ∷ plan) used = Opening node piece ∷ MarkOf node piece 0 ∷ plan_flat piece 0 start plan used

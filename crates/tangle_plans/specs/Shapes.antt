@@ -1,4 +1,4 @@
--- The shapes of a web: of each node its pieces, with section numbers and origins struck out and each use resolved.
+-- The shapes of a web: of each node its pieces, with section numbers and origins left out and each use resolved.
 use Rattle.std.specs.Prelude.{◌⊎◌, ◌≡◌, ℕ, Bool, true, false, List, [], ◌∷◌}
 use Rattle.std.specs.Str.{bytes_eq}
 
@@ -28,7 +28,7 @@ pub data Kind : Type 0 where
 pub data ShapeItem : Type 0 where
   -- of this kind, with the bytes that are written
   Written : Kind → List ℕ → ShapeItem
-  -- a line mark, whose origin is struck out
+  -- a line mark, without its origin
   Mark : ShapeItem
   -- all macros of the web
   AllMacros : ShapeItem

@@ -87,7 +87,7 @@ is_run step.Close = false
 abbrev pub last_run : ℕ → ℕ → List Step
 last_run start end = if nat_lt start end then step.Run end ∷ [] else []
 
--- bytes and a plan that are being made: all runs end where the last one does, which is within the bytes
+-- bytes and a plan that are being made: start is the end of the last run, and each run ends within the bytes
 pub record IsMade (bytes : List ℕ) (plan : List Step) (piece marks start : ℕ) : Type 0 where
   pub pieces : piece ≡ pieces_after_plan 0 plan
   pub marks_of_piece : marks ≡ marks_after_plan 0 plan

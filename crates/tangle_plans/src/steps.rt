@@ -1,4 +1,4 @@
-//! How many pieces, marks and bytes of a plan are after a step.
+//! How many pieces, marks and bytes of a plan there are up to the end of a step.
 ghost use Rattle.std.specs.Prelude.{◌≡◌, ◌+◌, ◌^◌, ◌<◌};
 ghost use Rattle.tangle_plans.specs.Meaning.{pieces_after_step, marks_after_step, bytes_after_step};
 
@@ -21,7 +21,7 @@ pub enum Step {
     Close,
 }
 
-/// How many pieces have ended after a step, with so many before it.
+/// How many pieces have ended at the end of a step, with so many before it.
 pub fn pieces_after_step(piece: usize, step: Step) -> usize
     requires { piece + 1 < 2 ^ 64 }
     ensures { result ≡ pieces_after_step piece step }
@@ -33,8 +33,8 @@ pub fn pieces_after_step(piece: usize, step: Step) -> usize
     }
 }
 
-/// How many marks of its piece are after a step, with so many before it. The opening mark is none
-/// of them.
+/// How many marks of its piece there are up to the end of a step, with so many before it. The
+/// opening mark is not counted.
 pub fn marks_after_step(marks: usize, step: Step) -> usize
     requires { marks + 1 < 2 ^ 64 }
     ensures { result ≡ marks_after_step marks step }
@@ -46,7 +46,7 @@ pub fn marks_after_step(marks: usize, step: Step) -> usize
     }
 }
 
-/// How many bytes of the body are after a step, with so many before it.
+/// How many bytes of the body there are up to the end of a step, with so many before it.
 pub fn bytes_after_step(start: usize, step: Step) -> usize
     ensures { result ≡ bytes_after_step start step }
 {

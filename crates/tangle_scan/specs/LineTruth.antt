@@ -46,14 +46,14 @@ pub record Location : Type 0 where
   pub line : ℕ
   pub in_stretch : Bool
 
--- whether a stretch is on after a run of joins, white space and line ends: a run with a line end begins one, if a join removes it,
--- and else ends it
+-- Whether what follows a run of joins, white space and line ends is in a stretch: a run with a line end begins one, if a join removes
+-- it, and else ends it.
 abbrev pub stretch_after_run : Bool → Bool → Bool → Bool
 stretch_after_run stretch has_join has_line_end = if has_line_end then has_join else stretch
 
 -- The source items of tokens, and where they are. A stretch begins at a line end inside a quoted text, and where a run with a line
--- end is removed; it ends at a line end that stays and at a mark. The flags say whether a stretch is on before the run that is
--- directly before, and whether this run has a join and a line end.
+-- end is removed; it ends at a line end that stays and at a mark. The flags say, of the run directly before, whether what is
+-- before it is in a stretch, and whether it has a join and a line end.
 abbrev pub locations : Bool → Bool → Bool → List Token → List Location
 locations stretch has_join has_line_end [] = []
 locations stretch has_join has_line_end (token.Join ∷ es) = locations stretch true has_line_end es

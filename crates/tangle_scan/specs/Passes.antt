@@ -49,7 +49,7 @@ with_white_space texts at before [] = []
 with_white_space texts at before (e ∷ es) =
     (if needs_space texts at before e then token.White ∷ [] else []) ++ e ∷ with_white_space texts (stage_after at e) e es
 
--- what is taken out first: faults, and the white space and line ends at the front of a macro
+-- what is removed first: faults, and the white space and line ends at the front of a macro
 abbrev pub without_skipped : Stage → List Token → List Token
 without_skipped stage.Front es = without_front_gaps (without_faults es)
 without_skipped _ es = without_faults es
@@ -63,7 +63,7 @@ is_skipped stage.Front token.White = true
 is_skipped stage.Front (token.LineEnd line) = true
 is_skipped at e = false
 
--- a token that rules 1 and 2 may change, or that is taken out, or that is all macros
+-- a token that rules 1 and 2 may change, or that is removed, or that is all macros
 abbrev pub is_rare : Token → Bool
 is_rare (token.Fault kind line) = true
 is_rare token.Join = true
@@ -167,7 +167,7 @@ rare_items_ahead lines at counted (e ∷ es) =
     (if needs_blank at e then item.Blank ∷ [] else [])
     ++ (items_at lines e ++ rare_items_ahead lines (last_of e) (counted_after_token lines counted e) es)
 
--- whether line ends were added that a join to come takes back
+-- whether line ends were added that a join to come removes
 abbrev pub takes_back : Last → List Token → Bool
 takes_back last.Front es = joins_ahead es
 takes_back _ es = false

@@ -201,7 +201,7 @@ impl Model for Gathering {
 }
 
 impl Gathering {
-    /// Of a web of which nothing was gathered yet.
+    /// The gathering of a web before its first block.
     pub(crate) fn new(alloc: Global) -> Self
         ensures { result ≡ nothing }
     {

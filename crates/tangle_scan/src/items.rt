@@ -8,7 +8,7 @@ use tangle_text::Span;
 /// How many numbers the low half of an occurrence's number distinguishes.
 const LOW_NUMBERS: usize = 4_294_967_296;
 
-/// The number of an occurrence, from 0. It is held in two halves, so that an item takes 12 bytes,
+/// The number of an occurrence, from 0. It is stored in two halves, so that an item takes 12 bytes,
 /// not 16.
 #[derive(Clone, Copy, Debug, PartialEq, Eq)]
 pub struct OccurrenceNumber {

@@ -1,6 +1,6 @@
-//! The items of a C part that has rare tokens, in one pass. A join takes away the white space and
-//! the line ends around it, and a blank is between a word and an ASCII constant, or two
-//! constants, that touch. Line ends are added as they come, and a join takes back those of its run.
+//! The items of a C part that has rare tokens, in one pass. A join removes the white space and
+//! the line ends around it, and a blank is put between a word and an ASCII constant, or two
+//! constants, that touch. Line ends are added as they come, and a join removes those of its run.
 ghost use Rattle.std.specs.Prelude.{◌≡◌, ◌≤◌, ◌<◌, ◌+◌, ◌^◌, max, if◌then◌else◌, IfOk, OnOk};
 ghost use Rattle.std.specs.Prelude.{List, [], ◌∷◌, ◌++◌, length};
 ghost use Rattle.tangle_lines.specs.Reading.{SourceLine};
@@ -64,7 +64,7 @@ fn is_word(token: Token) -> bool
     matches!(token, Token::Span(SpanKind::Word, _))
 }
 
-/// Whether a blank is before a token that is an item.
+/// Whether a blank is needed before a token that is an item.
 #[inline(always)]
 fn needs_blank(last: Last, token: Token) -> bool
     ensures { result ≡ passes.needs_blank last token }
@@ -158,7 +158,7 @@ fn add_line_end(
     }
 }
 
-/// Applies a join: it takes back the line ends of its run.
+/// Applies a join: it removes the line ends of its run.
 fn apply_join(items: &mut Vec<Item>, at: RarePartState) -> RarePartState
     requires { at.start.items ≤ length items.old.items }
     ensures items { (lines : List SourceLine) (rest : List Token) →

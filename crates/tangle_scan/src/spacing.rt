@@ -1,6 +1,6 @@
 //! White space between the tokens of a macro. It is put between a word and an ASCII constant, or
 //! two constants, that touch, and after the name. Each run of joins, white space and line ends
-//! that has a join is taken out.
+//! that has a join is removed.
 ghost use Rattle.std.specs.Prelude.{◌≡◌, ◌++◌, ◌∷◌, [], List, take, get_or, if◌then◌else◌};
 ghost use Rattle.std.specs.Prelude.{IfOk, OnOk};
 ghost use Rattle.std.specs.List.{list_any};

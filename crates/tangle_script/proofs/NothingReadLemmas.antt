@@ -1,4 +1,4 @@
--- A run that ends with status 3 though no byte was read and nothing failed is none.
+-- No run in which no byte was read and nothing failed ends with status 3.
 use Rattle.std.proofs.Common.{◌≡◌, inl, inr, ℕ, ◌<◌, Bool, true, false, List, [], ◌∷◌, ◌++◌, Option, Some, subst, ap, length, length-append, arith}
 use Rattle.std.specs.Io.KnownBytes.{Consumes}
 use Rattle.tangle_script.specs.Requests.{Request}
@@ -12,7 +12,7 @@ pub small : (b : Bool) → status_by b < 3
 small true = omega arith
 small false = omega arith
 
--- bytes in front of a script that are none of it
+-- no byte was read where the same script is left
 none_read : (script read : List ℕ) → Consumes (Some script) (Some script) read → length read ≡ 0
 none_read script read given = omega (arith, ap length given, length-append read script)
 

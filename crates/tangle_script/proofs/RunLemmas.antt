@@ -174,7 +174,7 @@ module _ {State : Type 0} (answers : State → Request → List ℕ → State �
             h.is_answered h.no_quit cut),
       )) refl
 
-  -- no memory was left for more of one command than is short
+  -- memory ran out while a command was read that is longer than a short one
   pub ends_out_of_memory : n ≤ script_limit → short_command < length p
       → ConversationEnds answers has_error old (at a remaining failures) 3
   ends_out_of_memory short long =

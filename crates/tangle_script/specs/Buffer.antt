@@ -7,6 +7,6 @@ use Rattle.tangle_script.specs.declared.buffer.Buffer.{Buffer}
 abbrev pub bytes : Buffer → List ℕ
 bytes b = take b.len (in_use b.short b.long.items)
 
--- how many bytes the space has
+-- the capacity of the space
 abbrev pub size : Buffer → ℕ
 size b = length (in_use b.short b.long.items)

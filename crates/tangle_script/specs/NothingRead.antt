@@ -13,7 +13,7 @@ pub record NothingIsReadAndNothingFails {State : Type 0} (old new : Conversation
   pub no_reader_failure : Failed old.reader_failures new.reader_failures → ⊥
   pub no_writer_failure : Failed old.exchange.stream.failures new.exchange.stream.failures → ⊥
 
--- status 3 is no end of such a run
+-- such a run does not end with status 3
 abbrev pub Status3NeedsFailure : {State : Type 0} → (State → Request → List ℕ → State → Type 0)
     → (State → Bool → Type 0) → Type 0
 Status3NeedsFailure {State} answers has_error =

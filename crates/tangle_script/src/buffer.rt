@@ -25,8 +25,8 @@ pub struct Buffer {
     ghost large: { stack_size ≤ length (in_use short long.items) },
 }
 
-// Reads so many bytes at most into the space, after the first ones: how many were read, 0 at the
-// end; `None` where the reader failed.
+// Reads so many bytes at most into the space, after the first ones, and returns how many: 0 at the
+// end, `None` where the reader failed.
 fn fill_after<R: Feed>(feed: &mut R, space: &mut [u8], len: usize, most: usize) -> Option<usize>
     requires some { 0 < most }
     requires within { len + most ≤ length space.old }
@@ -98,7 +98,7 @@ impl Buffer {
         self.long.resize(self.len + CHUNK, 0)
     }
 
-    /// Reads so many bytes at most, after the others: how many were read, 0 at the end; `None`
+    /// Reads so many bytes at most, after the others, and returns how many: 0 at the end, `None`
     /// where the reader failed.
     pub fn read<R: Feed>(&mut self, feed: &mut R, most: usize) -> Option<usize>
         requires some { 0 < most }

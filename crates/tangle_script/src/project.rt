@@ -19,13 +19,13 @@ pub trait Project {
     /// What a run keeps besides, and drops at its end: the list of edits that is open, if one is.
     type Draft;
 
-    // What is known of a session and its draft.
+    // What clauses say of a session with its draft.
     ghost State: { Type 0 };
 
-    // What is known of these.
+    // The state of a session with its draft.
     ghost state: { Self.Session → Self.Draft → State };
 
-    // This output answers the request in the one state, and the other state comes after it.
+    // In the first state the request is answered by these bytes, and the second state follows.
     ghost answers: { State → Request → List ℕ → State → Type 0 };
 
     // Whether an error is among the faults.

@@ -161,8 +161,8 @@ EachCycleIsReported web table faults =
     (name : List ℕ) → ContainsItself (shapes web table) (Named name)
     → IsReportedSelfContaining web name faults
 
--- A session was asked everything, and for the output file of this name, whatever the name, with a
--- writer that was in the state old and then in the state new.
+-- A session was asked for everything that it shows, and for the output file of this name, whatever
+-- the name, with a writer that was in the state old and then in the state new.
 pub record ShowsPlainTangling (files : FileTable) (roles : RolesRead) (name : List ℕ)
     (old new : Stream) (shown : Shown) : Type 0 where
   pub files_are : shown.files.now ≡ files

@@ -25,7 +25,7 @@ pub(crate) struct Analysis {
     pub(crate) occurrences: Vec<Occurrence>,
     pub(crate) table: NameTable,
     pub(crate) store: Store,
-    /// Of each node, whether it has the body of before, and uses names as before.
+    /// Of each node, whether it has its old body, and uses names as before.
     pub(crate) are_as_before: Vec<bool>,
     pub(crate) numbers: Numbers,
     pub(crate) faults: Vec<Fault>,

@@ -104,9 +104,9 @@ pub fn start_and_edit(
     Ok((session, answers))
 }
 
-/// Asks a session everything, and writes the output file of this name. What is shown is what plain
-/// tangling gives for the files and roles of the start with just the accepted edits made, whatever
-/// edits brought the session here.
+/// Asks a session for everything that it shows, and writes the output file of this name. What is
+/// shown is what plain tangling gives for the files and roles of the start with just the accepted
+/// edits made, whatever edits brought the session here.
 pub fn ask_all<'a, S: Sink>(session: &'a Session, name: &[u8], sink: &mut S) -> Shown<'a>
     ensures state { (files : FileTable) (roles : RolesRead) (calls : List Call)
         → History files roles calls session.now

@@ -224,7 +224,7 @@ impl Session {
 
     /// Writes the output file of this name as [`Session::write_output`] does. The output at this
     /// index of [`Session::output_names`] is compared first, and the others only where it has
-    /// another name: so a caller that goes over the names has no search for each.
+    /// another name: so a caller that iterates over the names needs no search for each.
     ///
     /// # Errors
     ///

@@ -54,7 +54,7 @@ impl SessionState {
     }
 }
 
-/// How line marks are written after a list of edits: as the last edit that sets them says.
+/// How line marks are written after a list of edits: as the last edit of them sets it, if any does.
 pub(crate) fn marks_after(roles: &Roles, edits: &[Edit]) -> MarkMode
     ensures { record roles.now { marks = result } ≡ roles_after roles.now edits.now }
 {

@@ -16,7 +16,7 @@ one_more_failure n = min (n + 1) (2 ^ 64 - 1)
 abbrev pub Failed : ℕ → ℕ → Type 0
 Failed old new = (old < new) ⊎ (new ≡ 2 ^ 64 - 1)
 
--- to take no byte of some is a failure, and so is `None`
+-- it is a failure to take none of some bytes, and so is `None`
 abbrev pub is_failure : List ℕ → Option ℕ → Bool
 is_failure bytes None = true
 is_failure bytes (Some n) = (n == 0) && nat_lt 0 (length bytes)

@@ -1,4 +1,4 @@
-//! Why a call may fail whose arguments are right.
+//! Why a call whose arguments are right may fail.
 use std::alloc::{AllocError, AllocFailed};
 use thiserror::Error;
 

@@ -12,8 +12,8 @@ pub trait Feed {
     // How often it failed; at its last value the count stays.
     ghost failures: { Self → ℕ };
 
-    /// Fills the front of the buffer: how many bytes it gave. No byte, where the buffer is not
-    /// empty, is the end. `None` is a failure.
+    /// Fills the front of the buffer, and returns how many bytes it gave. No byte, where the buffer
+    /// is not empty, is the end. `None` is a failure.
     fn fill(&mut self, buffer: &mut [u8]) -> Option<usize>
         ensures within { IfSome result (λ n. n ≤ length buffer.old) }
         ensures reported { Gives (remaining self.old) (remaining self.new) buffer.new result }

@@ -8,8 +8,8 @@ pub trait Sink {
     // value the count stays.
     ghost stream: { Self → Stream };
 
-    /// Takes bytes from the front: how many it took. `None`, or 0 where there are bytes, is a
-    /// failure.
+    /// Takes bytes from the front, and returns how many it took. `None`, or 0 where there are
+    /// bytes, is a failure.
     fn take(&mut self, bytes: &[u8]) -> Option<usize>
         ensures within { IfSome result (λ n. n ≤ length bytes.now) }
         ensures reported { Takes (stream self.old).taken (stream self.new).taken bytes.now result }

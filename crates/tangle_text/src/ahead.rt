@@ -389,7 +389,7 @@ impl<'s, 'a> Reader<'s, 'a> {
         }
     }
 
-    /// Goes on after the white space that begins here.
+    /// Skips the white space that begins here.
     #[inline(always)]
     pub fn skip_white(&mut self)
         requires { IsSome (byte_at 0 self.old) }
