@@ -4,7 +4,7 @@ use Rattle.std.specs.Prelude.{IfNone, IfSome, IsOkUnless, OnErr, OnOk, is_some}
 use Rattle.std.specs.Global.{Global}
 use Rattle.std.specs.Option.{option_map}
 use Rattle.std.specs.declared.vec.Vec.{Vec}
-use Rattle.tangle_streams.specs.Streams.{Stream}
+use Rattle.tangle_streams.specs.Streams.{Stream, TakesAll, TakesPrefix}
 use Rattle.tangle_files.specs.Edited.{edited_all, roles_after}
 use Rattle.tangle_files.specs.declared.edits.Edit.{Edit}
 use Rattle.tangle_files.specs.declared.edits.Edit.TheVariants.{Insert, Replace, Remove, Create, Discard, Marks}
@@ -24,7 +24,6 @@ use Rattle.ctangle_cli.specs.Conversation.{AnswersIn, AnswersList, SessionAndDra
 use Rattle.ctangle_cli.specs.Conversation.{refused_line, request_for, shown}
 use Rattle.ctangle_cli.specs.Conversation.AnswersEdit.{IsRefused}
 use Rattle.ctangle_cli.specs.Conversation.AnswersList.{IsListMade, IsListRefused, IsListOutOfMemory}
-use Rattle.ctangle_cli.specs.Messages.{TakesAll, TakesPrefix}
 use Rattle.ctangle_cli.proofs.RunLemmas.{whole_then_cut, whole_then_whole}
 
 -- bytes after the output so far

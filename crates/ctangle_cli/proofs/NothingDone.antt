@@ -2,14 +2,14 @@
 use Rattle.std.proofs.Common.{◌≡◌, ◌⊎◌, inl, inr, Option, None, Some, ℕ, ◌<◌, take, Bool, true, false, cond, List, [], ◌∷◌, ◌++◌, ap, subst, length, length-append, arith}
 use Rattle.std.specs.Prelude.{codes}
 use Rattle.std.specs.Io.KnownBytes.{Appends}
-use Rattle.tangle_streams.specs.Streams.{Stream, Failed}
+use Rattle.tangle_streams.specs.Streams.{Stream, Failed, TakesAll, TakesPrefix}
 use Rattle.tangle_faults.specs.Faults.{FaultRead, is_error}
 use Rattle.tangle_files.specs.Roles.{RolesRead}
 use Rattle.tangle_folders.specs.declared.folder.FolderFault.{FolderFault}
 use Rattle.tangle_folders.specs.declared.folder.FolderFault.TheVariants.{Missing, TooBig, Failed as IsFailed, NoMemory as FolderMemory}
 use Rattle.ctangle_cli.specs.Loading.{LoadEnd}
 use Rattle.ctangle_cli.specs.Loading.LoadEnd.{CannotRead, Refused, NoMemory}
-use Rattle.ctangle_cli.specs.Messages.{TakesAll, TakesPrefix, ending_line, fault_lines, no_memory_line, faults_status, unwritten_line}
+use Rattle.ctangle_cli.specs.Messages.{ending_line, fault_lines, no_memory_line, faults_status, unwritten_line}
 use Rattle.tangle_session.specs.Tangle.{Tangling}
 use Rattle.ctangle_cli.specs.Run.{Moment, NamedEnds, RunEnds, TangledEnds, nothing_done}
 use Rattle.ctangle_cli.specs.Run.RunEnds.{IsMisused, IsCutAtUsage, IsUnnamed, IsNamed}

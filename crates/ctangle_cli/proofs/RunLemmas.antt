@@ -2,7 +2,7 @@
 use Rattle.std.proofs.Common.{◌≡◌, ◌∙◌, ◌⊎◌, inl, inr, ℕ, ◌+◌, ◌<◌, ◌≤◌, List, [], ◌∷◌, ◌++◌, Result, Ok, Err, ap, subst, sym, refl, length, take, suc, length-append, arith, append_assoc, append-nil}
 use Rattle.std.proofs.lemmas.List.{take-append-le}
 use Rattle.tangle_streams.proofs.StreamLemmas.{Appends-append, Appends-none}
-use Rattle.tangle_streams.specs.Streams.{Stream, Failed, IsWritten}
+use Rattle.tangle_streams.specs.Streams.{Stream, Failed, IsWritten, TakesAll, TakesPrefix}
 use Rattle.tangle_streams.specs.declared.failures.WriteFault.{WriteFault}
 use Rattle.std.proofs.Common.{zero, ◌≢◌, slice_index_or, drop}
 use Rattle.std.proofs.lemmas.List.{take-append-drop}
@@ -15,7 +15,7 @@ use Rattle.tangle_folders.specs.declared.folder.FolderFault.TheVariants.{NoMemor
 use Rattle.tangle_session.specs.Tangle.{Tangling, AreFaultsOf, outputs_of}
 use Rattle.ctangle_cli.specs.Run.{AsksNothing, Moment, SessionEnds, StopsAt, TangledEnds}
 use Rattle.ctangle_cli.specs.Run.TangledEnds.{IsUnwritten}
-use Rattle.ctangle_cli.specs.Messages.{TakesPrefix, TakesAll, fault_lines, unwritten_line}
+use Rattle.ctangle_cli.specs.Messages.{fault_lines, unwritten_line}
 
 take_past : (xs ys : List ℕ) (n : ℕ) → take (length xs + n) (xs ++ ys) ≡ xs ++ take n ys
 take_past [] ys n = ap (λ k. take k ys) (omega arith)

@@ -1,11 +1,9 @@
 -- The lines that the programs write on the error stream.
-use Rattle.std.specs.Prelude.{◌≡◌, ◌<◌, length, take, ℕ, List, [], ◌∷◌, ◌++◌, codes, if◌then◌else◌}
-use Rattle.std.specs.Io.KnownBytes.{Appends}
+use Rattle.std.specs.Prelude.{ℕ, List, [], ◌∷◌, ◌++◌, codes, if◌then◌else◌}
 use Rattle.tangle_files.specs.declared.refusal.Refusal.{Refusal}
 use Rattle.tangle_files.specs.declared.refusal.Refusal.TheVariants.{BadName, FileExists, TooManyFiles, LineTooLong, TooManyLines, NoMemory, UnknownFile, NoSuchLine, BadLine, NoWeb, NoChange, RoleFile, NoOutput, WriteFault}
 use Rattle.tangle_faults.specs.Faults.{FaultRead, is_error}
 use Rattle.tangle_faults.specs.FaultLine.{fault_line}
-use Rattle.tangle_streams.specs.Streams.{Stream, Failed}
 use Rattle.tangle_folders.specs.declared.folder.FolderFault.{FolderFault}
 use Rattle.tangle_folders.specs.declared.folder.FolderFault.TheVariants.{Missing, TooBig, Failed as IsFailed, NoMemory as FolderMemory}
 use Rattle.ctangle_cli.specs.Loading.{LoadEnd}
@@ -48,14 +46,6 @@ unwritten_line FolderMemory name = no_memory_line
 unwritten_line Missing name = cannot_write_line name
 unwritten_line IsFailed name = cannot_write_line name
 unwritten_line TooBig name = cannot_write_line name
-
--- the stream took all of these bytes, and did not fail
-abbrev pub TakesAll : Stream → Stream → List ℕ → Type 0
-TakesAll old new bytes = Appends old.taken new.taken bytes × (new.failures ≡ old.failures)
-
--- it took a prefix of them, and failed
-abbrev pub TakesPrefix : Stream → Stream → List ℕ → Type 0
-TakesPrefix old new bytes = (n : ℕ) × (n < length bytes) × Appends old.taken new.taken (take n bytes) × Failed old.failures new.failures
 
 -- the lines of the faults
 abbrev pub fault_lines : List FaultRead → List ℕ

@@ -1,6 +1,6 @@
 -- How a run of ctangle ends, by what the folder and the error stream report before and after it.
 use Rattle.std.specs.Prelude.{◌≡◌, ◌≢◌, ◌⊎◌, ℕ, List, [], ◌∷◌, ◌++◌, codes, Option, None, Some}
-use Rattle.tangle_streams.specs.Streams.{Stream, Failed}
+use Rattle.tangle_streams.specs.Streams.{Stream, Failed, TakesAll, TakesPrefix}
 use Rattle.tangle_files.specs.Lines.{FileTable}
 use Rattle.tangle_files.specs.Roles.{RolesRead}
 use Rattle.tangle_session.specs.Tangle.{Tangling, IsTanglingOf}
@@ -11,7 +11,7 @@ use Rattle.ctangle_cli.specs.Writing.{IsPrefixOf}
 use Rattle.ctangle_cli.specs.Arguments.{names_by_arguments}
 use Rattle.ctangle_cli.specs.Loading.{LoadEnd, LoadsTo, StopsFor, NamesLastAsked, load_of}
 use Rattle.ctangle_cli.specs.AskedNames.{AsksByRounds, AsksUntil, FailsLast}
-use Rattle.ctangle_cli.specs.Messages.{TakesAll, TakesPrefix, usage_line, ending_line, no_memory_line, unwritten_line, fault_lines, faults_status}
+use Rattle.ctangle_cli.specs.Messages.{usage_line, ending_line, no_memory_line, unwritten_line, fault_lines, faults_status}
 
 -- what is known of the folder and of the error stream at a moment
 pub record Moment : Type 0 where

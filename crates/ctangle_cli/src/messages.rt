@@ -1,9 +1,9 @@
 //! The lines that the programs write on the error stream.
 ghost use Rattle.std.specs.Prelude.{◌≡◌, OnOk, OnErr};
-ghost use Rattle.tangle_streams.specs.Streams.{IsWritten};
+ghost use Rattle.tangle_streams.specs.Streams.{IsWritten, TakesAll, TakesPrefix};
 ghost use Rattle.ctangle_cli.specs.Loading.{ending_of};
 ghost use Rattle.ctangle_cli.specs.Loading.LoadEnd.{CannotRead, NoMemory, Refused};
-ghost use Rattle.ctangle_cli.specs.Messages.{TakesAll, TakesPrefix, cannot_write_line, ending_line};
+ghost use Rattle.ctangle_cli.specs.Messages.{cannot_write_line, ending_line};
 ghost use Rattle.ctangle_cli.specs.Messages.{fault_lines, refusal_name, unwritten_line, usage_line};
 
 use crate::loading::LoadFault;

@@ -2,7 +2,7 @@
 use Rattle.std.specs.Prelude.{◌≡◌, ◌<◌, ◌⊎◌, ℕ, Bool, true, false, List, [], ◌∷◌, ◌++◌, codes, length, take, Option, Result, Ok, Err}
 use Rattle.std.specs.List.{list_any}
 use Rattle.std.specs.Io.KnownBytes.{Appends}
-use Rattle.tangle_streams.specs.Streams.{Failed, Stream}
+use Rattle.tangle_streams.specs.Streams.{Failed, Stream, TakesAll, TakesPrefix}
 use Rattle.tangle_script.specs.Requests.{Command, Request, is_edit, is_quit, request_of}
 
 -- a project and a writer at a moment
@@ -28,10 +28,8 @@ conversation state stream remaining reader_failures = record {
 
 -- An answer was written: the writer has all of it and did not fail, or has a prefix of it and failed.
 abbrev pub WritesAnswer : {T E : Type 0} → Stream → Stream → List ℕ → Result T E → Type 0
-WritesAnswer old new output (Ok done) = Appends old.taken new.taken output × (new.failures ≡ old.failures)
-WritesAnswer old new output (Err fault) =
-    (n : ℕ) × (n < length output) × Appends old.taken new.taken (take n output)
-    × Failed old.failures new.failures
+WritesAnswer old new output (Ok done) = TakesAll old new output
+WritesAnswer old new output (Err fault) = TakesPrefix old new output
 
 -- some command ends the run
 abbrev pub has_quit : List Command → Bool

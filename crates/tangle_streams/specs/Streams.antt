@@ -30,8 +30,16 @@ abbrev pub Takes : Option (List ℕ) → Option (List ℕ) → List ℕ → Opti
 Takes old new bytes None = Keeps old new
 Takes old new bytes (Some n) = Appends old new (take n bytes)
 
--- An output was written. At Ok the writer has all of it and did not fail, and the number is its length. At a fault
--- the writer has exactly a prefix of it, of so many bytes as the number says, and it failed.
+-- the writer took all of these bytes, and did not fail
+abbrev pub TakesAll : Stream → Stream → List ℕ → Type 0
+TakesAll old new bytes = Appends old.taken new.taken bytes × (new.failures ≡ old.failures)
+
+-- the writer took a prefix of them that is not the whole, and failed
+abbrev pub TakesPrefix : Stream → Stream → List ℕ → Type 0
+TakesPrefix old new bytes = (n : ℕ) × (n < length bytes) × Appends old.taken new.taken (take n bytes) × Failed old.failures new.failures
+
+-- An output was written, and how many bytes of it. At Ok the writer took all of it, and the number is its length. At a fault it took
+-- exactly a prefix of it, of so many bytes as the number says, and failed.
 abbrev pub IsWritten : Stream → Stream → List ℕ → Result ℕ WriteFault → Type 0
 IsWritten old new output (Ok n) = (n ≡ length output) × Appends old.taken new.taken output × (new.failures ≡ old.failures)
 IsWritten old new output (Err e) = (e.0 < length output) × Appends old.taken new.taken (take e.0 output) × Failed old.failures new.failures

@@ -1,5 +1,6 @@
 use Rattle.std.proofs.Common.{take}
-use Rattle.ctangle_cli.specs.Messages.{TakesAll, fault_lines}
+use Rattle.tangle_streams.specs.Streams.{TakesAll}
+use Rattle.ctangle_cli.specs.Messages.{fault_lines}
 use Rattle.ctangle_cli.proofs.messages.write_faults.Given as goal
 
 abbrev pub invariant-loop-fault : goal.invariant-loop-fault
