@@ -1,6 +1,6 @@
 -- The web and the change file are there after an edit that is not refused.
-use Rattle.std.proofs.Common.{◌+◌, ◌≡◌, ◌∙◌, ◌||◌, ℕ, Bool, true, false, cond, List, [], ◌∷◌, ◌++◌, Option, None, Some, refl, ap, sym, arith}
-use Rattle.std.specs.Prelude.{is_some, IfSome, IfNone}
+use Rattle.std.proofs.Common.{◌+◌, ◌≡◌, ◌∙◌, ◌||◌, inl, inr, ℕ, Bool, true, false, cond, List, [], ◌∷◌, ◌++◌, Option, None, Some, Result, Err, refl, ap, subst, sym, arith}
+use Rattle.std.specs.Prelude.{◌⊎◌, is_some, IfSome, IfNone, IsOkUnless}
 use Rattle.std.specs.Map.{lookup, set_value, remove_entry}
 use Rattle.std.specs.Option.{option_map, option_map_or}
 use Rattle.std.specs.Str.{bytes_eq}
@@ -15,8 +15,8 @@ use Rattle.tangle_files.specs.declared.edits.Edit.{Edit}
 use Rattle.tangle_files.specs.declared.edits.Edit.TheVariants.{Insert, Remove, Replace, Create, Discard, Marks}
 use Rattle.tangle_files.specs.declared.marks.MarkMode.{MarkMode}
 use Rattle.tangle_files.specs.declared.refusal.Refusal.{Refusal}
-use Rattle.tangle_files.specs.declared.refusal.Refusal.TheVariants.{RoleFile}
-use Rattle.tangle_session.specs.Edits.{first_refused, has_role, list_refusal, of_first, role_refusal, session_refusal}
+use Rattle.tangle_files.specs.declared.refusal.Refusal.TheVariants.{NoMemory, RoleFile}
+use Rattle.tangle_session.specs.Edits.{first_refused, has_role, list_memory, list_refusal, numbered, of_first, role_refusal, session_refusal}
 use Rattle.tangle_session.specs.declared.refusing.ListRefusal.{ListRefusal}
 
 -- where neither of two refusals applies
@@ -216,3 +216,36 @@ of_none (Some e) P h = absurd (cc)
 pub none_or : (o : Option Refusal) (P : Type 0) → P → IfNone o P
 none_or None P h = h
 none_or (Some e) P h = tt
+
+abbrev failed : {T : Type 0} → Refusal → Result T Refusal
+failed refusal = Err refusal
+
+-- An edit of the files failed: it is refused in a session with a role, or memory ran out.
+pub refused_in_session : (T : Type 0) (of_files of_role : Option Refusal) (refusal : Refusal)
+    → IfSome of_files (λ e. failed {T = T} refusal ≡ Err e) → IfNone of_files (IsOkUnless (failed {T = T} refusal) NoMemory)
+    → IfSome (or_else of_files of_role) (λ e. (failed {T = T} refusal ≡ Err e) ⊎ (failed {T = T} refusal ≡ Err NoMemory))
+refused_in_session T None None refusal some none = tt
+refused_in_session T None (Some e) refusal some none = inr (ap (λ r. failed {T = T} r) none)
+refused_in_session T (Some e) of_role refusal some none = inl some
+
+pub only_memory : (T : Type 0) (of_files of_role : Option Refusal) (refusal : Refusal)
+    → IfSome of_files (λ e. failed {T = T} refusal ≡ Err e) → IfNone of_files (IsOkUnless (failed {T = T} refusal) NoMemory)
+    → IfNone (or_else of_files of_role) (IsOkUnless (failed {T = T} refusal) NoMemory)
+only_memory T None None refusal some none = none
+only_memory T None (Some e) refusal some none = tt
+only_memory T (Some e) of_role refusal some none = tt
+
+own_number : (at : ℕ) (refusal : Refusal) → (Some (record { at = at; refusal = refusal }) ≡ Some (numbered at refusal)) ⊎ (numbered at refusal ≡ list_memory)
+own_number at NoMemory = inr refl
+own_number at refusal = inl refl
+
+-- the first edit that is left was not made: the list is refused for it, or memory ran out
+pub numbered_refusal : (T : Type 0) (at : ℕ) (of_edit : Option Refusal) (after : Option ListRefusal) (refusal : Refusal)
+    → IfSome of_edit (λ e. (failed {T = T} refusal ≡ Err e) ⊎ (failed {T = T} refusal ≡ Err NoMemory)) → IfNone of_edit (IsOkUnless (failed {T = T} refusal) NoMemory)
+    → (refused_at at of_edit after ≡ Some (numbered at refusal)) ⊎ (numbered at refusal ≡ list_memory)
+numbered_refusal T at None after refusal some none = inr (ap (numbered at) none)
+numbered_refusal T at (Some e) after refusal (inl same) none =
+    let equal : refusal ≡ e = cc in
+    subst (λ r. (Some (record { at = at; refusal = r }) ≡ Some (numbered at refusal)) ⊎ (numbered at refusal ≡ list_memory)) equal (own_number at refusal)
+numbered_refusal T at (Some e) after refusal (inr same) none =
+    let equal : refusal ≡ NoMemory = cc in inr (ap (numbered at) equal)

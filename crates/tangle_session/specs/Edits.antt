@@ -53,3 +53,8 @@ list_refusal files roles (edit ∷ edits) =
 -- out of memory is no edit's own refusal: it has the number 0
 abbrev pub list_memory : ListRefusal
 list_memory = of_first NoMemory
+
+-- the refusal of the edit with this number, or out of memory
+abbrev pub numbered : ℕ → Refusal → ListRefusal
+numbered at NoMemory = list_memory
+numbered at refusal = record { at = at; refusal = refusal }

@@ -1,6 +1,6 @@
 //! Why an edit is refused in a session.
 ghost use Rattle.std.specs.Prelude.{◌≡◌};
-ghost use Rattle.tangle_session.specs.Edits.{has_role, list_memory, role_refusal, session_refusal};
+ghost use Rattle.tangle_session.specs.Edits.{has_role, numbered, role_refusal, session_refusal};
 
 use tangle_lines::{Edit, Files, NoMemory, Refusal, Roles};
 
@@ -12,6 +12,18 @@ pub struct ListRefusal {
     pub at: usize,
     /// Why it is refused.
     pub refusal: Refusal,
+}
+
+impl ListRefusal {
+    /// Why a list is refused where the edit with this number is.
+    pub(crate) fn of_edit(at: usize, refusal: Refusal) -> Self
+        ensures { result ≡ numbered at refusal }
+    {
+        match refusal {
+            Refusal::NoMemory => ListRefusal::from(NoMemory),
+            _ => ListRefusal { at, refusal },
+        }
+    }
 }
 
 impl From<NoMemory> for ListRefusal {
@@ -42,7 +54,7 @@ fn has_role(roles: &Roles, name: &[u8]) -> bool
 }
 
 /// Why an edit is refused for the role of its file.
-fn refusal_of_role(roles: &Roles, edit: &Edit) -> Option<Refusal>
+pub(crate) fn refusal_of_role(roles: &Roles, edit: &Edit) -> Option<Refusal>
     ensures { result ≡ role_refusal roles.now edit.now }
 {
     match edit {

@@ -1,21 +1,23 @@
 //! The state of a session: files with what tangling makes of them.
-ghost use Rattle.std.specs.Prelude.{◌≡◌, ◌⊎◌, [], true, None, Some, find, map, IfErr, IfOk, OnOk};
+ghost use Rattle.std.specs.Prelude.{◌≡◌, ◌⊎◌, [], true, None, Some, Err, find, map};
+ghost use Rattle.std.specs.Prelude.{IfErr, IfNone, IfOk, IfSome, IsOkUnless, OnOk};
 ghost use Rattle.std.specs.List.{IsDistinct};
 ghost use Rattle.std.specs.Option.{option_copied};
 ghost use Rattle.std.specs.Str.{bytes_eq};
-ghost use Rattle.tangle_files.specs.Edited.{edited_all, roles_after};
+ghost use Rattle.tangle_files.specs.Edited.{edited, edited_all, roles_after};
+ghost use Rattle.tangle_files.specs.declared.refusal.Refusal.TheVariants.{NoMemory as no_memory};
 ghost use Rattle.tangle_files.specs.Roles.{RolesRead, fits};
 ghost use Rattle.tangle_graph.specs.Stores.{KeepsBodies};
-ghost use Rattle.tangle_session.specs.Edits.{list_memory, list_refusal};
+ghost use Rattle.tangle_session.specs.Edits.{list_memory, list_refusal, session_refusal};
 ghost use Rattle.tangle_session.specs.Files.{web_at};
 ghost use Rattle.tangle_session.specs.Sessions.{AgreesWithFiles, IsAnalysisAt, ListsAffectedOfWebs};
 
 use crate::analysis::Analysis;
-use crate::refusing::{ListRefusal, refusal_to_apply};
+use crate::refusing::{ListRefusal, refusal_of_role};
 use std::alloc::Global;
 use tangle_affected::expand_again;
 use tangle_expansion::{Kept, Output, Work};
-use tangle_lines::{Edit, Files, MarkMode, NoMemory, Roles};
+use tangle_lines::{Edit, Files, MarkMode, NoMemory, Refusal, Roles};
 
 /// Files that are tangled: their analysis, the expansions, and which nodes were expanded for them.
 #[derive(Drop)]
@@ -67,6 +69,22 @@ pub(crate) fn marks_after(roles: &Roles, edits: &[Edit]) -> MarkMode
     marks
 }
 
+/// Makes an edit in a copy of the files. An edit that is refused for the role of its file is made
+/// too, and the copy is then of no use.
+fn edit_copy(copy: &mut Files, roles: &Roles, edit: &Edit) -> Result<(), Refusal>
+    ensures made { OnOk result (copy.new ≡ edited copy.old edit.now) }
+    ensures refused { IfSome (session_refusal copy.old roles.now edit.now)
+        (λ refusal. (result ≡ Err refusal) ⊎ (result ≡ Err no_memory)) }
+    ensures only { IfNone (session_refusal copy.old roles.now edit.now)
+        (IsOkUnless result no_memory) }
+{
+    copy.edit(edit)?;
+    match refusal_of_role(roles, edit) {
+        Some(refusal) => Err(refusal),
+        None => Ok(()),
+    }
+}
+
 /// A copy of the files in which the edits are made, each on what the earlier ones left.
 fn edited_copy(files: &Files, roles: &Roles, edits: &[Edit]) -> Result<Files, ListRefusal>
     ensures made { IfOk result (λ copy. copy ≡ edited_all files.now edits.now) }
@@ -76,11 +94,8 @@ fn edited_copy(files: &Files, roles: &Roles, edits: &[Edit]) -> Result<Files, Li
 {
     let mut copy = files.copy()?;
     for (at, edit) in edits.iter().enumerate() {
-        if let Some(refusal) = refusal_to_apply(&copy, roles, edit) {
-            return Err(ListRefusal { at, refusal });
-        }
-        if copy.edit(edit).is_err() {
-            return Err(ListRefusal::from(NoMemory));
+        if let Err(refusal) = edit_copy(&mut copy, roles, edit) {
+            return Err(ListRefusal::of_edit(at, refusal));
         }
     }
     Ok(copy)
