@@ -43,7 +43,21 @@ def tangled(arguments, folder):
     except programs.LoadFault as fault:
         return 3, fault.line(b'ctangle'), {}
     faults = b''.join(map(fault_line, tangling.faults))
-    return status_of(tangling.faults), faults, dict(tangling.files())
+    created = {}
+    for name, text in tangling.files():
+        if not is_utf_8(name):
+            return 3, faults + b'ctangle: cannot write %s\n' % name, created
+        created[name] = text
+    return status_of(tangling.faults), faults, created
+
+
+def is_utf_8(name):
+    """Whether a file can be created with this name."""
+    try:
+        name.decode()
+    except UnicodeDecodeError:
+        return False
+    return True
 
 
 def make_folder(folder, files):

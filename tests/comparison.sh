@@ -1,5 +1,5 @@
-# 4,000 generated webs (and two that are too large), short webs, webs cut after every byte, in a
-# folder and by the edits of a session, and 4,000 projects with scripts (and two that are too
+# 4,000 generated webs (and one that is too large), short webs, webs cut after every byte, in a
+# folder and by the edits of a session, and 4,000 projects with scripts (and one that is too
 # large), each of which sets the marks and has a list of edits, against the reference tangler
 # (tests/compare.py).
 
@@ -11,7 +11,7 @@ compare() { # NAME ARGUMENT..
 }
 
 test_comparison() {
-    compare 'generated webs' generated "$temporary/ctangle" 0 4002
+    compare 'generated webs' generated "$temporary/ctangle" 0 4001
     compare 'short webs' short "$temporary/ctangle" 50
 }
 
@@ -24,5 +24,5 @@ test_cuts() {
 }
 
 test_scripts() {
-    compare 'scripts' scripts "${RETANGLE:-$top/bin/retangle}" 0 4002
+    compare 'scripts' scripts "${RETANGLE:-$top/bin/retangle}" 0 4001
 }

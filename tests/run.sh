@@ -5,9 +5,9 @@
 #
 # usage: tests/run.sh [PART..]
 #
-# The parts are documents, users, example, cases, conversations, machine, streams, limits, sizes,
-# memory, comparison, cuts and scripts; without one all are run. Several run side by side, as many at
-# a time as there are processors; what each says is shown when all have ended.
+# The parts are documents, users, example, cases, compiler, conversations, machine, streams, limits,
+# sizes, memory, comparison, cuts and scripts; without one all are run. Several run side by side, as
+# many at a time as there are processors; what each says is shown when all have ended.
 #
 # CTANGLE=PATH and RETANGLE=PATH take other programs.
 # The last line is 'N passed, M failed'.
@@ -30,7 +30,7 @@ chmod 755 "$temporary"
 . "$top/tests/lib.sh"
 
 # The longest parts come first.
-[ $# -gt 0 ] || set -- scripts comparison limits sizes cuts memory conversations streams cases machine users \
+[ $# -gt 0 ] || set -- scripts comparison limits sizes cuts memory conversations compiler streams cases machine users \
     example documents
 if [ $# -gt 1 ]; then
     printf '%s\n' "$@" | xargs -P "$(nproc)" -I PART sh -c '"$0" "$1" >"$2/$1" 2>&1' "$0" PART "$temporary"
@@ -49,6 +49,7 @@ chmod 755 "$temporary/ctangle"
 . "$top/tests/users.sh"
 . "$top/tests/example.sh"
 . "$top/tests/cases.sh"
+. "$top/tests/compiler.sh"
 . "$top/tests/conversations.sh"
 . "$top/tests/machine.sh"
 . "$top/tests/streams.sh"

@@ -7,6 +7,7 @@ import random
 import sys
 
 from files import Roles, add
+from line_ends import continued_lines, continuing, macro_over_lines, with_other_front
 from reading import Reading
 from tangling import Tangling
 
@@ -112,11 +113,13 @@ def section(chance, is_wild):
             if chance.random() < .4:
                 lines.append(chance.choice([b'doc line', b'', b'@f x int', b'@s y z', b'text @<B@> t']))
         for _ in range(chance.choice([0, 0, 0, 1, 2])):
-            lines += macro(chance, is_wild)
+            lines += macro_over_lines(chance) if chance.random() < .4 else macro(chance, is_wild)
         if chance.random() < .85:
             lines.append(head(chance, is_wild))
     for _ in range(chance.randint(0, 5)):
         lines.append(wild_text(chance, 7) if is_wild else tame_text(chance, 6))
+        if chance.random() < .1:
+            lines += continued_lines(chance)
     return lines
 
 
@@ -143,8 +146,9 @@ def web_lines(chance, included):
 
 
 def one_change(chance, lines, start):
-    """A change of lines from there on, and where the next one may begin."""
-    start = chance.randint(start, len(lines) - 1)
+    """A change of lines from there on, and where the next one may begin. Some are in the middle of continued lines."""
+    middles = [at for at in continuing(lines) if at >= start] if chance.random() < .4 else []
+    start = chance.choice(middles) if middles else chance.randint(start, len(lines) - 1)
     end = min(len(lines), start + chance.choice([1, 1, 1, 2, 3]))
     old = lines[start:end]
     if chance.random() < .15 and len(old) > 1:
@@ -158,7 +162,7 @@ def one_change(chance, lines, start):
     if chance.random() < .94:
         made.append(chance.choice([b'@y', b'@Y']))
     for _ in range(chance.choice([0, 1, 1, 2])):
-        made.append(chance.choice([b'int z;', b'@i b.w', b'@ New.', b'@c', wild_text(chance, 4),
+        made.append(chance.choice([b'int z;', b'@i b.w', b'@ New.', b'@c', b' q \\', wild_text(chance, 4),
                                    lines[chance.randrange(len(lines))]]))
     if chance.random() < .94:
         made.append(chance.choice([b'@z', b'@Z end']))
@@ -195,6 +199,12 @@ def one_edit(chance, names):
     return 'marks', chance.choice(['full', 'bare'])
 
 
+def front_edit(chance, lines):
+    """An edit of the white space at the front of a line of the web, if no edit before it has moved that line."""
+    at = chance.choice(continuing(lines) or range(len(lines)))
+    return 'replace', b'a.w', at + 1, clean(with_other_front(chance, lines[at]))
+
+
 class Project:
     """Files as (name, lines), the roles, and so many edits."""
 
@@ -216,7 +226,8 @@ class Project:
             self.files.append((self.change, change_lines(chance, changed)))
         self.out = b'a.c' if chance.random() < .9 else b'h.h'
         names = [name for name, _ in self.files] + [b'zz', b'b.w', b'none.w', b'']
-        self.edits = [one_edit(chance, names) for _ in range(edits)]
+        self.edits = [front_edit(chance, web) if chance.random() < .1 else one_edit(chance, names)
+                      for _ in range(edits)]
 
     def loaded(self):
         """The files as a table, and the roles."""

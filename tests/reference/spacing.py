@@ -6,14 +6,37 @@ from parts import Token
 Item = namedtuple('Item', 'kind value')
 
 SPACE = ('White', 'LineEnd')
+NAMING = ('Word', 'Code', 'Verbatim')           # items like these at the front of a macro are its name
+
+# Signs that make no longer C token with any item next to them, and signs that make one with other signs alone.
+SEPARATORS = b'()[]{};,~'
+OPERATORS = b'!#%&*+-/:<=>?^|'
+
+
+def kind_in_c(token):
+    if token.kind == 'Sign':
+        return 'separator' if token.value in SEPARATORS else 'operator' if token.value in OPERATORS else 'other'
+    is_name = token.kind == 'Word' and not token.value[:1].isdigit()
+    return 'plain' if is_name or token.kind == 'Quoted' else 'other'
+
+
+def may_touch(one, other):
+    """Whether a C compiler makes the same tokens of two items without white space between them as with it."""
+    kinds = {kind_in_c(one), kind_in_c(other)}
+    return 'separator' in kinds or kinds == {'operator', 'plain'}
+
+
+def continues(token):
+    """Whether a C compiler takes a line end after this item away, with the backslash before it."""
+    return token.kind in ('Sign', 'Verbatim') and token.value.endswith(b'\\')
 
 
 def macro_items(tokens):
-    return [Item(token.kind, token.value) for token in spaced(with_spaces(tokens, True))]
+    return [Item(token.kind, token.value) for token in spaced(with_spaces(tokens, True), True)]
 
 
 def part_items(tokens, web, opening):
-    return counted(with_marks(spaced(with_spaces(tokens, False))), web, opening)
+    return counted(with_marks(spaced(with_spaces(tokens, False), False)), web, opening)
 
 
 def with_spaces(tokens, is_macro):
@@ -33,36 +56,43 @@ def with_spaces(tokens, is_macro):
 
 
 def runs(tokens, kinds):
-    """The longest runs of tokens that are of these kinds, and the other tokens alone, each with whether it is such a run."""
+    """The longest runs of tokens that are of these kinds, and the other tokens alone, each with whether it is such a
+    run, and with the token after it."""
     run = []
-    for token in tokens:
-        if token.kind in kinds:
-            run.append(token)
-            continue
-        if run:
-            yield True, run
+    for token, after in zip(tokens, list(tokens[1:]) + [None]):
+        run.append(token)
+        is_run = token.kind in kinds
+        if not (is_run and after is not None and after.kind in kinds):
+            yield is_run, run, after
             run = []
-        yield False, [token]
-    if run:
-        yield True, run
 
 
-def spaced(tokens):
-    """Without the runs that hold a join; then with blanks for white space between two items on a line."""
+def spaced(tokens, is_macro):
+    """Without the runs that hold a join; then with blanks, and without other white space."""
     kept = []
-    for is_run, run in runs(tokens, SPACE + ('Join',)):
+    for is_run, run, _ in runs(tokens, SPACE + ('Join',)):
         if not is_run or all(token.kind != 'Join' for token in run):
             kept += run
     made = []
-    for is_run, run in runs(kept, SPACE):
-        ends = [token for token in run if token.kind == 'LineEnd']
-        if not is_run:
-            made += run
-        elif ends:
-            made += ends
-        elif made and run[-1] is not kept[-1]:
-            made.append(Token('Blank', None, run[0].at))
+    for is_run, run, after in runs(kept, SPACE):
+        made += with_blank(made, run, after, is_macro) if is_run else run
     return made
+
+
+def with_blank(made, run, after, is_macro):
+    """A run of white space and line ends, after these tokens and before this one: its line ends, and a blank where one
+    has to be between the two."""
+    ends = [token for token in run if token.kind == 'LineEnd']
+    blank = [Token('Blank', None, run[0].at)]
+    if not made or after is None:
+        return ends
+    if not ends:
+        return blank
+    if is_macro:
+        is_name = all(token.kind in NAMING for token in made)
+        return (blank if is_name or not may_touch(made[-1], after) else []) + ends
+    is_indented = len(ends) == 1 and run[-1].kind == 'White'
+    return ends + (blank if continues(made[-1]) and is_indented else [])
 
 
 def with_marks(tokens):
@@ -75,11 +105,12 @@ def with_marks(tokens):
 
 
 def counted(tokens, web, opening):
-    """Each line end as such, or as a line mark where the next line is not the one that a compiler counts."""
+    """Each line end as such, or as a line mark where the next line is not the one that a compiler counts. In a line
+    that continues there is no mark, since the compiler would read it as a part of that line."""
     (file, line), items = opening, []
     for token in tokens:
         kind, value = token.kind, token.value
-        if kind == 'LineEnd':
+        if kind == 'LineEnd' and not (items and continues(items[-1])):
             next_row = web.row(token.at) + 1
             if next_row < len(web.source) and web.source[next_row].place != (file, line + 1):
                 kind, value = 'LineMark', web.source[next_row].place

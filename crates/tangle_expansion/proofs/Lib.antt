@@ -2,9 +2,10 @@ mod WorkedWebs
 mod Weights
 mod WithoutClasses
 pub mod LineTruth
+mod PieceLemmas
 pub mod NumberLemmas
 pub mod LookupLemmas
-pub mod EndBlankLemmas
+pub mod MacroEndLemmas
 mod EscapeLemmas
 pub mod FileLemmas
 pub mod BuildLemmas

@@ -54,7 +54,7 @@ module _ (numbers : NumbersRead) where
   use_is_located table used node piece marks items all h q Ambiguous = (tt, h q)
 
 -- the next mark of a piece
-next_mark : (marks : List Origin) (k : ℕ) (origin : Origin) (origins : List Origin) → drop k marks ≡ origin ∷ origins → (get_or marks k no_origin ≡ origin) × (drop (k + 1) marks ≡ origins)
+pub next_mark : (marks : List Origin) (k : ℕ) (origin : Origin) (origins : List Origin) → drop k marks ≡ origin ∷ origins → (get_or marks k no_origin ≡ origin) × (drop (k + 1) marks ≡ origins)
 next_mark [] zero origin origins e = absurd (cc)
 next_mark [] (suc k) origin origins e = absurd (cc)
 next_mark (m ∷ marks) zero origin origins e = (cc, cc)
@@ -63,7 +63,7 @@ next_mark (m ∷ marks) (suc k) origin origins e =
     let more : suc k + 1 ≡ suc (k + 1) = omega arith in
     (rest.0, ap (λ j. drop j (m ∷ marks)) more ∙ rest.1)
 
-next_numbers : (numbers : List PieceNumbersRead) (k : ℕ) (first : PieceNumbersRead) (rest : List PieceNumbersRead) → drop k numbers ≡ first ∷ rest → (get_or numbers k no_numbers ≡ first) × (drop (k + 1) numbers ≡ rest)
+pub next_numbers : (numbers : List PieceNumbersRead) (k : ℕ) (first : PieceNumbersRead) (rest : List PieceNumbersRead) → drop k numbers ≡ first ∷ rest → (get_or numbers k no_numbers ≡ first) × (drop (k + 1) numbers ≡ rest)
 next_numbers [] zero first rest e = absurd (cc)
 next_numbers [] (suc k) first rest e = absurd (cc)
 next_numbers (n ∷ numbers) zero first rest e = (cc, cc)

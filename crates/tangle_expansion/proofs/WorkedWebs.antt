@@ -194,6 +194,14 @@ long_macro_bytes : (numbers_of (web long_macro) (table_of (web long_macro)) Full
 unfolding lexeme tokens_from occurrences_from digits
 long_macro_bytes = refl
 
+-- a macro that ends in a backslash
+abbrev ended_macro : List (List ℕ)
+ended_macro = codes "@ A." ∷ codes "@d N 1 \\" ∷ codes "@d M 2" ∷ codes "@c" ∷ codes "y" ∷ []
+
+ended_macro_bytes : (numbers_of (web ended_macro) (table_of (web ended_macro)) Full).macros ≡ codes "#define N 1\n#define M 2\n"
+unfolding lexeme tokens_from occurrences_from digits
+ended_macro_bytes = refl
+
 -- where the joined lines are: the b and the sign after it are in a stretch, and after the mark it is over
 abbrev class_byte : ByteClass → ℕ
 class_byte (OfItem origin false) = 48 + origin.line

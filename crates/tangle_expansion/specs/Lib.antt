@@ -8,5 +8,5 @@ pub mod NumbersKept
 pub mod SymbolLimits
 pub mod Kept
 pub mod Outputs
-pub mod MacroBytes
+pub mod PieceBytes
 pub mod NumberRows

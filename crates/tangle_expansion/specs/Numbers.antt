@@ -15,7 +15,7 @@ use Rattle.tangle_plans.specs.Flat.{Symbol, Byte, Opening, MarkOf, Closing, AllM
 use Rattle.tangle_plans.specs.WebShapes.{pieces_of}
 use Rattle.tangle_files.specs.declared.marks.MarkMode.{MarkMode}
 use Rattle.tangle_files.specs.declared.marks.MarkMode.TheVariants.{Full, Bare}
-use Rattle.tangle_expansion.specs.MacroBytes.{macro_bytes}
+use Rattle.tangle_scan.specs.MacroBytes.{macro_bytes}
 
 -- of a piece the number of its section and the origins of its marks, the opening mark's first
 pub record PieceNumbersRead : Type 0 where

@@ -1,11 +1,12 @@
 //! Laws of the definitions.
 ghost use Rattle.std.specs.Prelude.{◌*◌, Bool, List, [], if◌then◌else◌, slice_index_or, ◌≡◌, ◌≢◌};
-ghost use Rattle.std.specs.Prelude.{◌<◌, ◌≤◌, ℕ, min, length, map, Option};
+ghost use Rattle.std.specs.Prelude.{◌<◌, ◌≤◌, ℕ, min, length, map, flat_map, Option};
 ghost use Rattle.tangle_faults.specs.declared.faults.Origin.{Origin};
 ghost use Rattle.tangle_lines.specs.Reading.{SourceRead};
-ghost use Rattle.tangle_scan.specs.Web.{WebRead};
+ghost use Rattle.tangle_scan.specs.Web.{WebRead, web_of};
 ghost use Rattle.tangle_scan.specs.LineTruth.{PiecesAreAtTheirLines};
 ghost use Rattle.tangle_names.specs.NameTable.{TableRead, table_of};
+ghost use Rattle.tangle_files.specs.declared.marks.MarkMode.{MarkMode};
 ghost use Rattle.tangle_files.specs.declared.marks.MarkMode.TheVariants.{Full};
 ghost use Rattle.tangle_plans.specs.Shapes.{Title, Named, Shapes, Uses, Reaches};
 ghost use Rattle.tangle_plans.specs.Shapes.{ContainsItself};
@@ -20,10 +21,12 @@ ghost use Rattle.tangle_expansion.specs.Numbers.{expansion_bytes};
 ghost use Rattle.std.specs.List.{AllByRecursion};
 ghost use Rattle.tangle_expansion.specs.Limits.{flat_of, heaviest, IsExpandableNode};
 ghost use Rattle.tangle_expansion.specs.Outputs.{IsTrueToLines};
+ghost use Rattle.tangle_expansion.specs.PieceBytes.{piece_bytes, AreWrittenApart};
 ghost use Rattle.tangle_expansion.specs.Location.{LocatedSymbol, located, located_shapes};
 ghost use Rattle.tangle_expansion.specs.Location.{AreAtTheirOrigins};
 
 use tangle_plans::names_resolve_inside;
+use tangle_scan::what_is_apart_stays_apart;
 
 /// The weight of a node is the number of the symbols that it expands to.
 pub fn the_weight_is_the_length()
@@ -136,3 +139,36 @@ pub fn outputs_are_short()
         (λ symbol. length (symbol_bytes numbers symbol) ≤ most) (flat fuel shapes node)
         → length (expansion_bytes numbers (flat fuel shapes node)) ≤ limit * most }
 {}
+
+/// What is written for a node is written for its pieces, one after another: of each its opening,
+/// its mark, its items and its closing, where the items that are uses are written as what the names
+/// that they use expand to.
+pub fn nodes_are_written_by_pieces()
+    ensures pieces { (web : WebRead) (table : TableRead) (marks : MarkMode)
+        (used : List ℕ → List Symbol) (node : Title)
+        → ResolvesInside table
+        → expansion_bytes (numbers_of web table marks)
+        (pieces_flat used node 0 (shapes web table node))
+        ≡ flat_map (piece_bytes (numbers_of web table marks) table used web.texts)
+        (pieces_of web table node) }
+    ensures expandable { (web : WebRead) (marks : MarkMode) (node : Title)
+        → IsExpandableNode (shapes web (table_of web)) node
+        → expansion_bytes (numbers_of web (table_of web) marks)
+        (flat_of (shapes web (table_of web)) node)
+        ≡ flat_map (piece_bytes (numbers_of web (table_of web) marks) (table_of web)
+        (λ name. flat_of (shapes web (table_of web)) (Named name)) web.texts)
+        (pieces_of web (table_of web) node) }
+{
+    names_resolve_inside();
+    nodes_expand_by_uses();
+}
+
+/// Whatever the names that are used expand to, and however line marks are written: of two items of
+/// a macro or of a piece that the source keeps apart, a C compiler reads both in what is written.
+pub fn what_is_apart_is_written_apart()
+    ensures { (source : SourceRead) (marks : MarkMode) (used : List ℕ → List Symbol)
+        → AreWrittenApart source (web_of source) (table_of (web_of source)) used
+        (numbers_of (web_of source) (table_of (web_of source)) marks) }
+{
+    what_is_apart_stays_apart();
+}

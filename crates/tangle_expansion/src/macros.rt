@@ -1,15 +1,16 @@
 //! The bytes of the macros of a web.
 ghost use Rattle.std.specs.Prelude.{◌≡◌, ◌++◌, IfOk, OnOk, decimal, flat_map};
 ghost use Rattle.std.specs.List.{All};
+ghost use Rattle.tangle_scan.specs.Rules.{first_byte};
 ghost use Rattle.tangle_scan.specs.SourceOrder.{IsInRange};
-ghost use Rattle.tangle_plans.specs.ItemTags.{bytes_in};
-ghost use Rattle.tangle_expansion.specs.MacroBytes.{is_blank_or_line_end, without_end_blanks};
-ghost use Rattle.tangle_expansion.specs.MacroBytes.{macro_item_bytes, macro_bytes};
+ghost use Rattle.tangle_scan.specs.ItemBytes.{bytes_in};
+ghost use Rattle.tangle_scan.specs.MacroBytes.{is_dropped_at_end, without_end};
+ghost use Rattle.tangle_scan.specs.MacroBytes.{macro_item_bytes, macro_bytes};
 
 use itoa::Buffer;
 use std::alloc::Global;
 use tangle_lines::NoMemory;
-use tangle_scan::{Item, Web};
+use tangle_scan::{Item, Span, Web};
 
 /// Adds the value of an ASCII constant.
 fn push_value(bytes: &mut Vec<u8>, value: u8) -> Result<(), NoMemory>
@@ -49,20 +50,35 @@ fn push_macro_item(bytes: &mut Vec<u8>, web: &Web, item: Item) -> Result<(), NoM
     push_item(bytes, web, item)
 }
 
-/// Whether the item is a blank or a line end. At the end of a macro these are not written.
-fn is_blank_or_line_end(item: Item) -> bool
-    ensures { result ≡ is_blank_or_line_end item }
+/// The byte at the start of a span of the web, or 0.
+fn first_byte(web: &Web, span: Span) -> u8
+    ensures { result ≡ first_byte web.now.texts span }
 {
-    matches!(item, Item::Blank | Item::LineEnd)
+    match web.line(span.line).get(span.start as usize) {
+        Some(byte) => *byte,
+        None => 0,
+    }
 }
 
-/// The items without the blanks and line ends at their end.
-fn without_end_blanks(items: &[Item]) -> &[Item]
-    ensures { result.now ≡ without_end_blanks items.now }
+/// Whether the item is a blank, a line end or a backslash. At the end of a macro these are not
+/// written: a C compiler would read the next macro as a part of one that ends in a backslash.
+fn is_dropped_at_end(web: &Web, item: Item) -> bool
+    ensures { result ≡ is_dropped_at_end web.now.texts item }
+{
+    match item {
+        Item::Blank | Item::LineEnd => true,
+        Item::Sign(span) => first_byte(web, span) == b'\\',
+        _ => false,
+    }
+}
+
+/// The items without the blanks, line ends and backslashes at their end.
+fn without_end<'i>(web: &Web, items: &'i [Item]) -> &'i [Item]
+    ensures { result.now ≡ without_end web.now.texts items.now }
 {
     let mut end = items.len();
     while end > 0 {
-        if !is_blank_or_line_end(items[end - 1]) {
+        if !is_dropped_at_end(web, items[end - 1]) {
             return &items[..end];
         }
         end -= 1;
@@ -77,7 +93,7 @@ fn push_macro(bytes: &mut Vec<u8>, web: &Web, items: &[Item]) -> Result<(), NoMe
         ≡ bytes.old.items ++ macro_bytes web.now.texts items.now) }
 {
     bytes.extend_from_slice(b"#define ")?;
-    for item in without_end_blanks(items) {
+    for item in without_end(web, items) {
         push_macro_item(bytes, web, *item)?;
     }
     bytes.push(b'\n')?;

@@ -46,6 +46,7 @@ fn pass_line_ends(
         ≡ include_over (spec.line_ends region ahead.old) state.include) }
 {
     let mut include = state.include;
+    ahead.skip_ordinary();
     while let Some(front) = ahead.front() {
         let unit = unit_of(region, front.byte, front.next);
         if let Unit::Stop = unit {

@@ -48,6 +48,7 @@ struct Name {
 }
 
 /// Adds a byte to a name in normal form, and returns whether white space was read last.
+#[inline(always)]
 fn push_byte(name: &mut Vec<u8>, white: bool, byte: u8) -> Result<bool, AllocError>
     ensures { IfOk result (λ after. (bytes : List ℕ) →
         name.new.items ++ spec.with_single_spaces (spec.has_begun name.new.items) after bytes
@@ -122,7 +123,7 @@ fn read_text(alloc: Global, ahead: &mut Reader) -> Result<Vec<u8>, AllocError>
     ensures ahead { OnOk result (ahead.new ≡ region_end region.Name ahead.old) }
 {
     let mut name = Vec::with_capacity(alloc, NAME_CAPACITY)?;
-    let mut white = false;
+    let mut white = push_bytes(&mut name, false, ahead.take_name_bytes())?;
     while let Some(front) = ahead.front() {
         let unit = unit_of(Region::Name, front.byte, front.next);
         if let Unit::Stop = unit {

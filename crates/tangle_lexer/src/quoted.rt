@@ -101,6 +101,7 @@ fn cut(
         ≡ tokens.old.items ++ spec.cut_tokens ends region 0 first ahead.old) }
 {
     let mut start = first;
+    ahead.skip_ordinary();
     while let Some(front) = ahead.front() {
         let unit = unit_of(region, front.byte, front.next);
         if let Unit::Stop = unit {

@@ -10,7 +10,8 @@ use Rattle.tangle_scan.specs.SourceOrder.{IsInRange}
 use Rattle.tangle_scan.specs.Web.{PieceRead}
 use Rattle.tangle_names.specs.NameTable.{TableRead}
 use Rattle.tangle_plans.specs.Tags.{piece_end, shape_tags, shape_bytes}
-use Rattle.tangle_plans.specs.ItemTags.{bytes_in, tag_in, uses_in, piece_tags, pieces_tags, pieces_bytes, pieces_uses, shape_of}
+use Rattle.tangle_scan.specs.ItemBytes.{bytes_in}
+use Rattle.tangle_plans.specs.ItemTags.{tag_in, uses_in, piece_tags, pieces_tags, pieces_bytes, pieces_uses, shape_of}
 use Rattle.tangle_plans.specs.ItemSlots.{pieces_at, no_piece}
 use Rattle.tangle_plans.specs.NodeBodies.{HoldsShape, names_at}
 use Rattle.tangle_plans.specs.Ranges.{IsRangeOver, IsSpanOf, range_bytes}

@@ -14,7 +14,8 @@ use Rattle.tangle_names.specs.NameTable.{TableRead}
 use Rattle.tangle_plans.specs.WebShapes.{use_of, resolved_at, shape_item}
 use Rattle.tangle_plans.specs.Tags.{item_tag, piece_end, item_bytes, item_names, shape_tags, shape_bytes, shape_names}
 use Rattle.tangle_plans.specs.ItemSlots.{pieces_at, no_piece}
-use Rattle.tangle_plans.specs.ItemTags.{use_tag, uses_resolved, tag_in, pieces_tags, uses_in, pieces_uses, bytes_in, pieces_bytes, shape_of}
+use Rattle.tangle_scan.specs.ItemBytes.{bytes_in}
+use Rattle.tangle_plans.specs.ItemTags.{use_tag, uses_resolved, tag_in, pieces_tags, uses_in, pieces_uses, pieces_bytes, shape_of}
 use Rattle.tangle_plans.specs.NodeBodies.{names_at}
 use Rattle.tangle_plans.proofs.DropLemmas.{drop_all}
 use Rattle.tangle_plans.specs.declared.tags.ItemKind.{ItemKind}

@@ -15,7 +15,8 @@ use Rattle.tangle_plans.specs.Flat.{Byte}
 use Rattle.tangle_plans.specs.declared.tags.ItemKind.{ItemKind}
 use Rattle.tangle_plans.specs.MakingBodies.{Making}
 use Rattle.tangle_plans.specs.declared.tags.ItemTag.{ItemTag}
-use Rattle.tangle_plans.specs.ItemTags.{bytes_in, tag_in, uses_in, piece_tags}
+use Rattle.tangle_scan.specs.ItemBytes.{bytes_in}
+use Rattle.tangle_plans.specs.ItemTags.{tag_in, uses_in, piece_tags}
 use Rattle.tangle_plans.specs.ItemSlots.{marks_after_item, item_slots, items_slots, piece_slots}
 use Rattle.tangle_plans.specs.Tags.{blank_tag, piece_end}
 use Rattle.tangle_plans.specs.Ranges.{IsSpanOf, IsJoined, IsRangeOfSource, IsRangeWith, IsRangeOver, AddsItem, AddsSpan, range_bytes}

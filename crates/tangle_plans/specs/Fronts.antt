@@ -8,7 +8,8 @@ use Rattle.tangle_scan.specs.WellFormed.{IsUseBelow}
 use Rattle.tangle_scan.specs.Web.{PieceRead}
 use Rattle.tangle_names.specs.NameTable.{TableRead}
 use Rattle.tangle_plans.specs.Tags.{shape_tags, shape_bytes}
-use Rattle.tangle_plans.specs.ItemTags.{bytes_in, tag_in, uses_in, piece_tags, pieces_tags, pieces_bytes, pieces_uses, shape_of}
+use Rattle.tangle_scan.specs.ItemBytes.{bytes_in}
+use Rattle.tangle_plans.specs.ItemTags.{tag_in, uses_in, piece_tags, pieces_tags, pieces_bytes, pieces_uses, shape_of}
 use Rattle.tangle_plans.specs.NodeBodies.{body_bytes, body_tags, body_uses}
 use Rattle.tangle_plans.specs.Ranges.{IsRangeOfSource, range_bytes}
 use Rattle.tangle_plans.specs.declared.tags.ItemTag.{ItemTag}

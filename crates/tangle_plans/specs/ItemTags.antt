@@ -1,9 +1,8 @@
--- The tags of a web's items, their bytes and the numbers of the names that they use.
+-- The tags of a web's items, and the numbers of the names that they use.
 use Rattle.std.specs.Prelude.{ℕ, ◌-◌, List, [], ◌∷◌, ◌++◌, length, map, flat_map, decimal}
-use Rattle.tangle_files.specs.Bytes.{space, line_feed}
 use Rattle.tangle_scan.specs.declared.items.Item.{Item}
 use Rattle.tangle_scan.specs.declared.items.Item.TheVariants as item
-use Rattle.tangle_scan.specs.Rules.{span_text}
+use Rattle.tangle_scan.specs.ItemBytes.{bytes_in}
 use Rattle.tangle_scan.specs.Web.{PieceRead}
 use Rattle.tangle_names.specs.declared.Resolved.{Resolved}
 use Rattle.tangle_names.specs.declared.Resolved.TheVariants.{Name, NoFullName, Ambiguous}
@@ -54,22 +53,8 @@ module _ (table : TableRead) where
   pieces_uses pieces = flat_map (λ (p : PieceRead). flat_map uses_in p.items) pieces
 
 module _ (texts : List (List ℕ)) where
-  -- the bytes of an item; a use, a mark and the macros have none
-  abbrev pub bytes_in : Item → List ℕ
-  bytes_in (item.Word span) = span_text texts span
-  bytes_in (item.Sign span) = span_text texts span
-  bytes_in (item.Quoted span) = span_text texts span
-  bytes_in item.QuoteBreak = line_feed ∷ []
-  bytes_in (item.Verbatim span) = span_text texts span
-  bytes_in (item.Code value) = decimal value
-  bytes_in item.Blank = space ∷ []
-  bytes_in item.LineEnd = line_feed ∷ []
-  bytes_in (item.LineMark origin) = []
-  bytes_in (item.UseOf occurrence) = []
-  bytes_in item.Defs = []
-
   abbrev pub pieces_bytes : List PieceRead → List ℕ
-  pieces_bytes pieces = flat_map (λ (p : PieceRead). flat_map bytes_in p.items) pieces
+  pieces_bytes pieces = flat_map (λ (p : PieceRead). flat_map (bytes_in texts) p.items) pieces
 
 -- the shape of a node with these pieces
 abbrev pub shape_of : List (List ℕ) → TableRead → List PieceRead → Shape

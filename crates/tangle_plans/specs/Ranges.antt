@@ -6,7 +6,8 @@ use Rattle.tangle_scan.specs.Rules.{span_text}
 use Rattle.tangle_scan.specs.SourceOrder.{IsInRange, IsSpan}
 use Rattle.tangle_names.specs.NameTable.{TableRead}
 use Rattle.tangle_plans.specs.Shapes.{Title}
-use Rattle.tangle_plans.specs.ItemTags.{bytes_in, tag_in, uses_in}
+use Rattle.tangle_scan.specs.ItemBytes.{bytes_in}
+use Rattle.tangle_plans.specs.ItemTags.{tag_in, uses_in}
 use Rattle.tangle_plans.specs.ItemSlots.{marks_after_item, item_slots, items_slots}
 use Rattle.tangle_plans.specs.Slots.{byte_slots}
 use Rattle.tangle_plans.specs.MakingBodies.{Making}

@@ -10,7 +10,8 @@ ghost use Rattle.tangle_plans.specs.Fronts.{CanComeNext, GoesAfter, GoesAfterIte
 ghost use Rattle.tangle_plans.specs.Fronts.{IsNotAfter, LeavesAfter, lists_left, lists_at};
 ghost use Rattle.tangle_plans.specs.Fronts.{no_lists, with_range, with_tag};
 ghost use Rattle.tangle_plans.specs.Fronts.{with_span, with_items, with_shape};
-ghost use Rattle.tangle_plans.specs.ItemTags.{bytes_in, uses_in, uses_resolved, pieces_uses};
+ghost use Rattle.tangle_scan.specs.ItemBytes.{bytes_in};
+ghost use Rattle.tangle_plans.specs.ItemTags.{uses_in, uses_resolved, pieces_uses};
 ghost use Rattle.tangle_plans.specs.ItemTags.{shape_of};
 ghost use Rattle.tangle_plans.specs.Tags.{piece_end};
 ghost use Rattle.tangle_plans.specs.ItemSlots.{pieces_at, pieces_slots};

@@ -7,7 +7,8 @@ ghost use Rattle.tangle_plans.specs.Slots.{slots, byte_slots, step_slots, is_run
 ghost use Rattle.std.specs.List.{All};
 ghost use Rattle.tangle_scan.specs.SourceOrder.{IsInRange, IsSpan};
 ghost use Rattle.tangle_scan.specs.WellFormed.{IsUseBelow};
-ghost use Rattle.tangle_plans.specs.ItemTags.{bytes_in, tag_in, uses_in, piece_tags};
+ghost use Rattle.tangle_scan.specs.ItemBytes.{bytes_in};
+ghost use Rattle.tangle_plans.specs.ItemTags.{tag_in, uses_in, piece_tags};
 ghost use Rattle.tangle_plans.specs.ItemTags.{pieces_bytes, pieces_uses, shape_of};
 ghost use Rattle.tangle_plans.specs.Tags.{shape_tags};
 ghost use Rattle.tangle_plans.specs.MakingBodies.{nothing_made};

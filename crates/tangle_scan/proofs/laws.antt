@@ -1,7 +1,12 @@
+pub mod ApartMacros
+pub mod ApartPieces
+pub mod ApartReading
 pub mod BlockFlows
 pub mod ItemSpans
 pub mod LineTruthLemmas
+pub mod MacroEnds
 pub mod OccurrenceRange
 pub mod PieceBytes
 pub mod SpanOrder
 pub mod WebLaws
+pub mod WebsApart

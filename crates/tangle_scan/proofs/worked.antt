@@ -1,2 +1,3 @@
+pub mod WorkedApart
 pub mod WorkedLocations
 pub mod WorkedWebs

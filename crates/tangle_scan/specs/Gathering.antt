@@ -7,7 +7,8 @@ use Rattle.tangle_lines.specs.Reading.{SourceLine, SourceRead}
 use Rattle.tangle_scan.specs.declared.items.Item.{Item}
 use Rattle.tangle_lexer.specs.declared.tokens.Token.{Token}
 use Rattle.tangle_lexer.specs.declared.tokens.Token.TheVariants as token
-use Rattle.tangle_scan.specs.Web.{PieceRead, WebRead, texts_of, blocks, block_at, section_after, section_count, piece_of, macro_of, block_has_all_macros, scan_faults, faults_at, fault_on}
+use Rattle.tangle_scan.specs.Rules.{texts_of}
+use Rattle.tangle_scan.specs.Web.{PieceRead, WebRead, blocks, block_at, section_after, section_count, piece_of, macro_of, block_has_all_macros, scan_faults, faults_at, fault_on}
 use Rattle.tangle_lexer.specs.Occurrences.{OccurrenceRead}
 
 -- what was gathered so far

@@ -6,3 +6,6 @@ pub mod SourceOrder
 pub mod WellFormed
 pub mod LineTruth
 pub mod KeptBytes
+pub mod ItemBytes
+pub mod MacroBytes
+pub mod Apart

@@ -1,5 +1,6 @@
 -- The counted origin in a piece, and that the piece's source items are there on their own lines.
-use Rattle.std.specs.Prelude.{◌≡◌, ◌<◌, ℕ, length, Bool, true, false, List, [], ◌∷◌, flat_map, if◌then◌else◌, Option, Some, None}
+use Rattle.std.specs.Prelude.{◌≡◌, ◌<◌, ℕ, length, Bool, true, false, ◌&&◌, not, if◌then◌else◌}
+use Rattle.std.specs.Prelude.{List, [], ◌∷◌, flat_map, Option, Some, None}
 use Rattle.std.specs.List.{AllZip}
 use Rattle.tangle_faults.specs.declared.faults.Origin.{Origin}
 use Rattle.tangle_lexer.specs.declared.tokens.Token.{Token}
@@ -10,7 +11,8 @@ use Rattle.tangle_lines.specs.Reading.{SourceLine, SourceRead, origin_at}
 use Rattle.tangle_lexer.specs.Steps.{all_tokens}
 use Rattle.tangle_scan.specs.Web.{WebRead, BlockKind, blocks}
 use Rattle.tangle_scan.specs.Web.BlockKind.{OfMacro, OfPiece}
-use Rattle.tangle_scan.specs.Rules.{span_item, next_line, without_faults}
+use Rattle.tangle_scan.specs.Rules.{texts_of, without_faults, with_spaces, has_join, map_runs, is_continued, at_line_front}
+use Rattle.tangle_scan.specs.Rules.{next_line, is_expected, counted_after_line_end, span_item}
 
 -- A source item is a word, a sign, a quoted or verbatim text, or an ASCII constant.
 
@@ -39,34 +41,60 @@ counted_items origin (item.UseOf occurrence ∷ items) = counted_items None item
 counted_items origin (item.Defs ∷ items) = counted_items None items
 counted_items origin (item.Blank ∷ items) = counted_items origin items
 
--- A source item, the source line that it is on, and whether it is in a stretch, where the counted origin is another.
+-- A source item, the source line that it is on, and whether it is in a stretch, where the counted origin may be another.
 -- An item of an ASCII constant has no line, and a run that was removed has no item: so these come from the tokens of the part.
 pub record Location : Type 0 where
   pub item : Item
   pub line : ℕ
   pub in_stretch : Bool
 
--- Whether what follows a run of joins, white space and line ends is in a stretch: a run with a line end begins one, if a join removes
--- it, and else ends it.
-abbrev pub stretch_after_run : Bool → Bool → Bool → Bool
-stretch_after_run stretch has_join has_line_end = if has_line_end then has_join else stretch
+abbrev pub has_line_end : List Token → Bool
+has_line_end [] = false
+has_line_end (token.LineEnd line ∷ es) = true
+has_line_end (e ∷ es) = has_line_end es
 
--- The source items of tokens, and where they are. A stretch begins at a line end inside a quoted text, and where a run with a line
--- end is removed; it ends at a line end that stays and at a mark. The flags say, of the run directly before, whether what is
--- before it is in a stretch, and whether it has a join and a line end.
-abbrev pub locations : Bool → Bool → Bool → List Token → List Location
-locations stretch has_join has_line_end [] = []
-locations stretch has_join has_line_end (token.Join ∷ es) = locations stretch true has_line_end es
-locations stretch has_join has_line_end (token.White ∷ es) = locations stretch has_join has_line_end es
-locations stretch has_join has_line_end (token.LineEnd line ∷ es) = locations stretch has_join true es
-locations stretch has_join has_line_end (token.QuoteBreak ∷ es) = locations true false false es
-locations stretch has_join has_line_end (token.UseOf occurrence line ∷ es) = locations false false false es
-locations stretch has_join has_line_end (token.AllMacros line ∷ es) = locations false false false es
-locations stretch has_join has_line_end (token.Span kind s ∷ es) =
-    record { item = span_item kind s; line = s.line; in_stretch = stretch_after_run stretch has_join has_line_end } ∷ locations (stretch_after_run stretch has_join has_line_end) false false es
-locations stretch has_join has_line_end (token.AsciiConstant b line ∷ es) =
-    record { item = item.Code b; line = line; in_stretch = stretch_after_run stretch has_join has_line_end } ∷ locations (stretch_after_run stretch has_join has_line_end) false false es
-locations stretch has_join has_line_end (_ ∷ es) = locations (stretch_after_run stretch has_join has_line_end) false false es
+-- what rule 2 leaves of a run, but a join in place of one with a line end that it removes
+abbrev pub left_or_join : List Token → List Token
+left_or_join run = if has_join run then (if has_line_end run then token.Join ∷ [] else []) else run
+
+-- the tokens of a C part after rules 1 and 2, with a join where line ends are gone
+abbrev pub tokens_and_joins : List Token → List Token
+tokens_and_joins tokens = map_runs left_or_join [] (with_spaces (without_faults tokens))
+
+-- The source items of these tokens, and where they are, by the token before on the line, by the counted origin, and by whether a stretch has
+-- begun. One begins where line ends are gone, at a line end inside a quoted text, and at the end of a continued line, where the count
+-- does not expect the next source line. It ends at every other line end, and at a mark.
+module _ (lines : List SourceLine) where
+  abbrev pub locations : Option Token → Origin → Bool → List Token → List Location
+  locations before counted stretch [] = []
+  locations before counted stretch (token.Join ∷ es) = locations before counted true es
+  locations before counted stretch (token.White ∷ es) = locations before counted stretch es
+  locations before counted stretch (token.LineEnd line ∷ es) =
+      let continued : Bool = is_continued (texts_of lines) before in
+      locations (at_line_front (texts_of lines) before line) (counted_after_line_end lines continued counted line)
+      (continued && not (is_expected lines counted line)) es
+  locations before counted stretch (token.QuoteBreak ∷ es) = locations (Some token.QuoteBreak) (next_line counted) true es
+  locations before counted stretch (token.UseOf occurrence line ∷ es) =
+      locations (Some (token.UseOf occurrence line)) (origin_at lines line) false es
+  locations before counted stretch (token.AllMacros line ∷ es) =
+      locations (Some (token.AllMacros line)) (origin_at lines line) false es
+  locations before counted stretch (token.Span kind s ∷ es) =
+      record { item = span_item kind s; line = s.line; in_stretch = stretch } ∷ locations (Some (token.Span kind s)) counted stretch es
+  locations before counted stretch (token.AsciiConstant b line ∷ es) =
+      record { item = item.Code b; line = line; in_stretch = stretch } ∷ locations (Some (token.AsciiConstant b line)) counted stretch es
+  locations before counted stretch (e ∷ es) = locations (Some e) counted stretch es
+
+  -- where the source items of a C part are whose head ends on this line
+  abbrev pub part_locations : ℕ → List Token → List Location
+  part_locations line tokens = locations None (origin_at lines line) false (tokens_and_joins tokens)
+
+  abbrev pub kind_locations : BlockKind → List Token → List (List Location)
+  kind_locations (OfMacro line) tokens = []
+  kind_locations (OfPiece occurrence line) tokens = part_locations line tokens ∷ []
+
+  -- where the source items of each piece of the source are, in the order of the pieces
+  abbrev pub piece_locations : List (List Location)
+  piece_locations = flat_map (λ b. kind_locations b.kind b.tokens) (blocks 0 (all_tokens lines))
 
 -- Both are the same item, which is on a line of the source; outside a stretch the counted origin is that of this line.
 pub record IsOwn (lines : List SourceLine) (p : CountedItem) (s : Location) : Type 0 where
@@ -78,18 +106,6 @@ pub record IsOwn (lines : List SourceLine) (p : CountedItem) (s : Location) : Ty
 -- each is its own.
 abbrev pub IsAtItsLine : List SourceLine → Origin → List Item → List Location → Type 0
 IsAtItsLine lines mark items locations = AllZip (IsOwn lines) (counted_items (Some mark) items) locations
-
--- where the source items of a C part are
-abbrev pub part_locations : List Token → List Location
-part_locations tokens = locations false false false (without_faults tokens)
-
-abbrev pub kind_locations : BlockKind → List Token → List (List Location)
-kind_locations (OfMacro line) tokens = []
-kind_locations (OfPiece occurrence line) tokens = part_locations tokens ∷ []
-
--- where the source items of each piece of the source are, in the order of the pieces
-abbrev pub piece_locations : List SourceLine → List (List Location)
-piece_locations lines = flat_map (λ b. kind_locations b.kind b.tokens) (blocks 0 (all_tokens lines))
 
 -- the source items of each piece are at their lines
 abbrev pub PiecesAreAtTheirLines : SourceRead → WebRead → Type 0

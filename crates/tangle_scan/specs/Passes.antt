@@ -1,5 +1,5 @@
 -- What is still to come of the rules for items, where a pass over the tokens is.
-use Rattle.std.specs.Prelude.{◌≡◌, ◌≤◌, ℕ, max, Bool, true, false, ◌||◌, not, if◌then◌else◌}
+use Rattle.std.specs.Prelude.{◌≡◌, ◌≤◌, ℕ, max, Bool, true, false, ◌==◌, ◌&&◌, ◌||◌, not, if◌then◌else◌}
 use Rattle.std.specs.Prelude.{List, [], ◌∷◌, ◌++◌, length, take, drop}
 use Rattle.std.specs.Prelude.{Option, Some, None, option_to_list}
 use Rattle.tangle_faults.specs.declared.faults.Origin.{Origin}
@@ -10,7 +10,7 @@ use Rattle.tangle_scan.specs.declared.items.Item.TheVariants as item
 use Rattle.tangle_scan.specs.declared.spacing.Run.{Run}
 use Rattle.tangle_scan.specs.declared.spacing.Stage.{Stage}
 use Rattle.tangle_scan.specs.declared.spacing.Spacing.{Spacing}
-use Rattle.tangle_scan.specs.declared.plain_parts.Before.{Before}
+use Rattle.tangle_scan.specs.declared.macro_items.MacroState.{MacroState}
 use Rattle.tangle_scan.specs.declared.plain_parts.CountedOrigin.{CountedOrigin}
 use Rattle.tangle_scan.specs.declared.plain_parts.PartState.{PartState}
 use Rattle.tangle_scan.specs.declared.rare_parts.Last.{Last}
@@ -18,11 +18,13 @@ use Rattle.tangle_scan.specs.declared.rare_parts.Last.TheVariants as last
 use Rattle.tangle_scan.specs.declared.rare_parts.RarePartState.{RarePartState}
 use Rattle.tangle_lexer.specs.declared.tokens.SpanKind.TheVariants as span_kind
 use Rattle.tangle_scan.specs.declared.spacing.Stage.TheVariants as stage
+use Rattle.tangle_text.specs.Bytes.{backslash}
 use Rattle.tangle_lines.specs.Reading.{SourceLine, origin_at}
 use Rattle.tangle_scan.specs.Rules.{without_faults, without_front_gaps, may_follow_name, is_gap}
 use Rattle.tangle_scan.specs.Rules.{would_merge, is_constant, is_word_token, has_join, without_joins}
-use Rattle.tangle_scan.specs.Rules.{blanks, items_by_origin, span_item, next_line, line_item}
-use Rattle.tangle_scan.specs.Rules.{counted_after_line_end, unmarked_items}
+use Rattle.tangle_scan.specs.Rules.{texts_of, first_byte, last_byte, ends_in_backslash, span_item}
+use Rattle.tangle_scan.specs.Rules.{next_line, line_item, counted_after_line_end}
+use Rattle.tangle_scan.specs.Rules.{macro_blanks, unmarked_items}
 
 -- the run at the end of a list begins in it, and its flag says whether it has a join
 pub record IsRun (spaced : List Token) (run : Run) : Type 0 where
@@ -63,8 +65,12 @@ is_skipped stage.Front token.White = true
 is_skipped stage.Front (token.LineEnd line) = true
 is_skipped at e = false
 
--- a token that rules 1 and 2 may change, or that is removed, or that is all macros
+-- a token that rules 1 and 2 may change, or that is removed, or that is all macros, or a head
 abbrev pub is_rare : Token → Bool
+is_rare token.Section = true
+is_rare (token.MacroStart line) = true
+is_rare (token.UnnamedPart line) = true
+is_rare (token.NamedPart occurrence line) = true
 is_rare (token.Fault kind line) = true
 is_rare token.Join = true
 is_rare (token.AsciiConstant value line) = true
@@ -87,13 +93,10 @@ is_name_spaced texts [] = true
 is_name_spaced texts (e ∷ []) = true
 is_name_spaced texts (e ∷ f ∷ es) = may_follow_name texts f
 
--- rules 3 to 5, by whether an item and white space are before on the line, and by the counted origin
+-- rules 3 to 5 for a C part without rare tokens
 
 abbrev pub origin_of : CountedOrigin → Origin
 origin_of counted = record { file = counted.file; line = counted.line }
-
-unfoldable pub items_ahead : List SourceLine → PartState → List Token → List Item
-items_ahead lines at es = items_by_origin lines (origin_of at.counted) (blanks at.before.has_item at.before.has_white es)
 
 -- the item that a token is in C parts and macros alike
 abbrev pub item_of : Token → Option Item
@@ -115,6 +118,35 @@ counted_after_token lines counted (token.AllMacros line) = origin_at lines line
 counted_after_token lines counted token.QuoteBreak = next_line counted
 counted_after_token lines counted e = counted
 
+-- whether the next line continues a line that ends with an item, and with these items
+
+abbrev pub item_continues : List (List ℕ) → Item → Bool
+item_continues texts (item.Sign s) = first_byte texts s == backslash
+item_continues texts (item.Verbatim s) = last_byte texts s == backslash
+item_continues texts _ = false
+
+abbrev pub items_continue : List (List ℕ) → List Item → Bool
+items_continue texts [] = false
+items_continue texts (x ∷ []) = item_continues texts x
+items_continue texts (x ∷ y ∷ items) = items_continue texts (y ∷ items)
+
+-- The items for the tokens to come, by whether white space is a blank, if an item comes, whether the next line continues this one, whether
+-- white space is directly before, and by the counted origin.
+abbrev pub plain_items_ahead : List SourceLine → Bool → Bool → Bool → Origin → List Token → List Item
+plain_items_ahead lines keeps continues white counted [] = []
+plain_items_ahead lines keeps continues white counted (token.White ∷ es) = plain_items_ahead lines keeps continues true counted es
+plain_items_ahead lines keeps continues white counted (token.LineEnd line ∷ es) =
+    line_item lines continues counted line
+    ∷ plain_items_ahead lines continues false false (counted_after_line_end lines continues counted line) es
+plain_items_ahead lines keeps continues white counted (e ∷ es) =
+    (if keeps && white then item.Blank ∷ [] else [])
+    ++ (items_at lines e ++ plain_items_ahead lines true (ends_in_backslash (texts_of lines) e) false (counted_after_token lines counted e) es)
+
+-- the items to come, where these were made so far
+unfoldable pub items_ahead : List SourceLine → PartState → List Item → List Token → List Item
+items_ahead lines at items es =
+    plain_items_ahead lines at.keeps_white (items_continue (texts_of lines) items) at.has_white (origin_of at.counted) es
+
 -- all rules in one pass over a C part that has rare tokens
 
 -- the run of joins, white space and line ends that comes next has a join
@@ -135,14 +167,20 @@ touches _ e = false
 -- a blank is before the item of this token
 abbrev pub needs_blank : Last → Token → Bool
 needs_blank last.White e = true
+needs_blank last.ContinuedWhite e = true
 needs_blank at e = touches at e
 
--- what is last after white space, and after a token that is an item
+-- what is last after white space, after the end of a line and after a token that is an item
 
 abbrev pub last_after_white : Last → Last
 last_after_white last.Front = last.Front
 last_after_white last.Joined = last.Joined
+last_after_white last.Continued = last.ContinuedWhite
+last_after_white last.ContinuedWhite = last.ContinuedWhite
 last_after_white _ = last.White
+
+abbrev pub last_after_line_end : Bool → Last
+last_after_line_end continued = if continued then last.Continued else last.Front
 
 abbrev pub last_of : Token → Last
 last_of (token.Span span_kind.Word s) = last.Word
@@ -153,36 +191,60 @@ abbrev pub is_joined : Last → Bool
 is_joined last.Joined = true
 is_joined _ = false
 
--- the items that all rules give for the tokens to come, by what is last before them and by the
--- counted origin
-abbrev pub rare_items_ahead : List SourceLine → Last → Origin → List Token → List Item
-rare_items_ahead lines at counted [] = []
-rare_items_ahead lines at counted (token.Fault kind line ∷ es) = rare_items_ahead lines at counted es
-rare_items_ahead lines at counted (token.Join ∷ es) = rare_items_ahead lines last.Joined counted es
-rare_items_ahead lines at counted (token.White ∷ es) = rare_items_ahead lines (last_after_white at) counted es
-rare_items_ahead lines at counted (token.LineEnd line ∷ es) =
-    if is_joined at || joins_ahead es then rare_items_ahead lines last.Joined counted es
-    else line_item lines counted line ∷ rare_items_ahead lines last.Front (counted_after_line_end lines counted line) es
-rare_items_ahead lines at counted (e ∷ es) =
+-- a line end is last, white space after it aside
+abbrev pub is_after_line_end : Last → Bool
+is_after_line_end last.Front = true
+is_after_line_end last.Continued = true
+is_after_line_end last.ContinuedWhite = true
+is_after_line_end _ = false
+
+-- an item is last, white space after it aside
+abbrev pub is_after_item : Last → Bool
+is_after_item last.Other = true
+is_after_item last.Word = true
+is_after_item last.AsciiConstant = true
+is_after_item last.White = true
+is_after_item _ = false
+
+-- whether the next line continues a line that ends here, by the last item
+abbrev pub continues_after : List (List ℕ) → Last → Token → Bool
+continues_after texts at e = is_after_item at && ends_in_backslash texts e
+
+-- the items that all rules give for the tokens to come, by what is last before them, by the last item
+-- and by the counted origin
+abbrev pub rare_items_ahead : List SourceLine → Last → Token → Origin → List Token → List Item
+rare_items_ahead lines at before counted [] = []
+rare_items_ahead lines at before counted (token.Fault kind line ∷ es) = rare_items_ahead lines at before counted es
+rare_items_ahead lines at before counted (token.Join ∷ es) = rare_items_ahead lines last.Joined before counted es
+rare_items_ahead lines at before counted (token.White ∷ es) = rare_items_ahead lines (last_after_white at) before counted es
+rare_items_ahead lines at before counted (token.LineEnd line ∷ es) =
+    if is_joined at || joins_ahead es then rare_items_ahead lines last.Joined before counted es
+    else (let continued : Bool = continues_after (texts_of lines) at before in
+    line_item lines continued counted line
+    ∷ rare_items_ahead lines (last_after_line_end continued) before (counted_after_line_end lines continued counted line) es)
+rare_items_ahead lines at before counted (e ∷ es) =
     (if needs_blank at e then item.Blank ∷ [] else [])
-    ++ (items_at lines e ++ rare_items_ahead lines (last_of e) (counted_after_token lines counted e) es)
+    ++ (items_at lines e ++ rare_items_ahead lines (last_of e) e (counted_after_token lines counted e) es)
 
 -- whether line ends were added that a join to come removes
 abbrev pub takes_back : Last → List Token → Bool
-takes_back last.Front es = joins_ahead es
-takes_back _ es = false
+takes_back at es = is_after_line_end at && joins_ahead es
 
 -- all items, where these were made so far and these tokens are to come
 unfoldable pub all_items : List SourceLine → List Item → RarePartState → List Token → List Item
 all_items lines items at es =
     if takes_back at.last es
-    then take at.start.items items ++ rare_items_ahead lines last.Joined (origin_of at.start.counted) es
-    else items ++ rare_items_ahead lines at.last (origin_of at.counted) es
+    then take at.start.items items ++ rare_items_ahead lines last.Joined at.item.now (origin_of at.start.counted) es
+    else items ++ rare_items_ahead lines at.last at.item.now (origin_of at.counted) es
 
 -- the higher of the two counted lines
 abbrev pub highest : RarePartState → ℕ
 highest at = max at.counted.line at.start.counted.line
 
+-- the item before on the line, if there is one
+abbrev pub item_before : MacroState → Option Token
+item_before at = if at.has_item then Some at.item.now else None
+
 -- rule 3 and the items of a macro
-unfoldable pub unmarked_from : Before → List Token → List Item
-unmarked_from at es = unmarked_items (blanks at.has_item at.has_white es)
+unfoldable pub unmarked_from : List (List ℕ) → MacroState → List Token → List Item
+unmarked_from texts at es = unmarked_items (macro_blanks texts at.in_name (item_before at) at.has_white es)

@@ -1,17 +1,23 @@
 -- From the tokens of a C part or a macro to its items: five rules, each applied to the whole list in turn.
-use Rattle.std.specs.Prelude.{ℕ, ◌+◌, Bool, true, false, ◌==◌, nat_le, ◌&&◌, ◌||◌, not, ◌-◌, List, [], ◌∷◌, ◌++◌, length, take, drop, get_or, if◌then◌else◌}
+use Rattle.std.specs.Prelude.{ℕ, ◌+◌, Bool, true, false, ◌==◌, nat_le, ◌&&◌, ◌||◌, not, ◌-◌, if◌then◌else◌, codes, Option, None, Some, is_some}
+use Rattle.std.specs.Prelude.{List, [], ◌∷◌, ◌++◌, length, take, drop, get_or, map}
+use Rattle.std.specs.List.{list_any}
 use Rattle.tangle_faults.specs.declared.faults.Origin.{Origin}
 use Rattle.tangle_lines.specs.Reading.{SourceLine, origin_at}
 use Rattle.tangle_text.specs.declared.spans.Span.{Span}
 use Rattle.tangle_scan.specs.declared.items.Item.{Item}
 use Rattle.tangle_scan.specs.declared.items.Item.TheVariants as item
+use Rattle.tangle_scan.specs.declared.touching.TouchKind.{TouchKind}
+use Rattle.tangle_scan.specs.declared.touching.TouchKind.TheVariants.{Separator, Operator, Plain, Other}
 use Rattle.tangle_lexer.specs.declared.tokens.Token.{Token}
 use Rattle.tangle_lexer.specs.declared.tokens.SpanKind.{SpanKind}
 use Rattle.tangle_lexer.specs.declared.tokens.SpanKind.TheVariants as span_kind
 use Rattle.tangle_lexer.specs.declared.tokens.Token.TheVariants as token
-use Rattle.tangle_text.specs.Bytes.{left_parenthesis, is_digit}
+use Rattle.tangle_text.specs.Bytes.{left_parenthesis, backslash, is_digit}
 
--- the source lines
+-- the bytes of the source lines
+abbrev pub texts_of : List SourceLine → List (List ℕ)
+texts_of lines = map (λ l. l.bytes) lines
 
 -- the bytes of a span
 abbrev pub span_text : List (List ℕ) → Span → List ℕ
@@ -20,6 +26,10 @@ span_text texts s = take (s.end - s.start) (drop s.start (get_or texts s.line []
 -- its first byte
 abbrev pub first_byte : List (List ℕ) → Span → ℕ
 first_byte texts s = get_or (get_or texts s.line []) s.start 0
+
+-- its last byte, or 0 if it has none
+abbrev pub last_byte : List (List ℕ) → Span → ℕ
+last_byte texts s = if nat_le s.end s.start then 0 else get_or (get_or texts s.line []) (s.end - 1) 0
 
 -- faults are no items
 abbrev pub without_faults : List Token → List Token
@@ -82,28 +92,110 @@ has_join [] = false
 has_join (token.Join ∷ es) = true
 has_join (e ∷ es) = has_join es
 
+-- each run of joins, white space and line ends, made into what a function gives of it; the first list is the run that is before the second
+abbrev pub map_runs : (List Token → List Token) → List Token → List Token → List Token
+map_runs f run [] = f run
+map_runs f run (token.Join ∷ es) = map_runs f (run ++ token.Join ∷ []) es
+map_runs f run (token.White ∷ es) = map_runs f (run ++ token.White ∷ []) es
+map_runs f run (token.LineEnd line ∷ es) = map_runs f (run ++ token.LineEnd line ∷ []) es
+map_runs f run (e ∷ es) = f run ++ e ∷ map_runs f [] es
+
 abbrev pub left_of_run : List Token → List Token
 left_of_run run = if has_join run then [] else run
 
--- the first list is the run that is before the second
 abbrev pub without_joins : List Token → List Token → List Token
-without_joins run [] = left_of_run run
-without_joins run (token.Join ∷ es) = without_joins (run ++ token.Join ∷ []) es
-without_joins run (token.White ∷ es) = without_joins (run ++ token.White ∷ []) es
-without_joins run (token.LineEnd line ∷ es) = without_joins (run ++ token.LineEnd line ∷ []) es
-without_joins run (e ∷ es) = left_of_run run ++ e ∷ without_joins [] es
+without_joins run es = map_runs left_of_run run es
 
--- Rule 3: of a run of white space between two items with no line end in it one White is left, which is a blank; other white space is
--- dropped. The flags say whether an item is before with no line end after it, and whether white space is directly before.
+-- Lines that a C compiler joins. Before it reads tokens, it takes out each backslash with a line feed directly after it. So the next line
+-- continues a line whose last item, white space aside, ends in a backslash: a sign, or verbatim text.
 
-abbrev pub blanks : Bool → Bool → List Token → List Token
-blanks item white [] = []
-blanks item white (token.White ∷ es) = blanks item true es
-blanks item white (token.LineEnd line ∷ es) = token.LineEnd line ∷ blanks false false es
-blanks item white (e ∷ es) = (if item && white then token.White ∷ [] else []) ++ e ∷ blanks true false es
+abbrev pub ends_in_backslash : List (List ℕ) → Token → Bool
+ends_in_backslash texts (token.Span span_kind.Sign s) = first_byte texts s == backslash
+ends_in_backslash texts (token.Span span_kind.Verbatim s) = last_byte texts s == backslash
+ends_in_backslash texts _ = false
 
--- Rules 4 and 5: the origin that the compiler counts. A line end goes on by one line; it is a mark instead where the next source line has
--- another origin. A mark is after each use and each @h too, for the line on which it ends.
+-- whether a line that ends after this token, if there is one on it, is continued by the next line
+abbrev pub is_continued : List (List ℕ) → Option Token → Bool
+is_continued texts None = false
+is_continued texts (Some e) = ends_in_backslash texts e
+
+-- Rule 3: white space between two items of a line is a blank, for which one White is left; so is white space at the front of a line that
+-- continues another. Other white space is dropped.
+
+-- what is before the front of the next line, after this token: the end of this line, if the next one continues it
+abbrev pub at_line_front : List (List ℕ) → Option Token → ℕ → Option Token
+at_line_front texts before line = if is_continued texts before then Some (token.LineEnd line) else None
+
+-- Before is a token after which white space is a blank, if there is one: an item on the same line, or the end of the line that this line
+-- continues. The flag says whether white space is directly before.
+abbrev pub blanks : List (List ℕ) → Option Token → Bool → List Token → List Token
+blanks texts before white [] = []
+blanks texts before white (token.White ∷ es) = blanks texts before true es
+blanks texts before white (token.LineEnd line ∷ es) = token.LineEnd line ∷ blanks texts (at_line_front texts before line) false es
+blanks texts before white (e ∷ es) = (if is_some before && white then token.White ∷ [] else []) ++ e ∷ blanks texts (Some e) false es
+
+-- Rule 3 in a macro. Its line ends are written with a backslash before each, so a C compiler takes all of them out. Two items that only
+-- line ends would keep apart get a blank before these, unless they may touch.
+
+-- Two items may touch if a C compiler reads the same tokens without white space between them as with it. A separator is one token and
+-- part of no longer one. An operator may be a part of another one, as + is of ++, or of a number, as in 1e+5, but not of an identifier or a
+-- quoted text. Two words would be one; so would a number and what is after it, and L and "x" are a literal of wide characters.
+
+abbrev pub sign_kind : ℕ → TouchKind
+sign_kind b =
+    if list_any (λ c. b == c) (codes "()[]{};,~") then Separator else
+    if list_any (λ c. b == c) (codes "!#%&*+-/:<=>?^|") then Operator else Other
+
+abbrev pub touch_kind : List (List ℕ) → Token → TouchKind
+touch_kind texts (token.Span span_kind.Sign s) = sign_kind (first_byte texts s)
+touch_kind texts (token.Span span_kind.Word s) = if is_digit (first_byte texts s) then Other else Plain
+touch_kind texts (token.Span span_kind.Quoted s) = Plain
+touch_kind texts _ = Other
+
+abbrev pub kinds_may_touch : TouchKind → TouchKind → Bool
+kinds_may_touch Separator g = true
+kinds_may_touch k Separator = true
+kinds_may_touch Operator Plain = true
+kinds_may_touch Plain Operator = true
+kinds_may_touch k g = false
+
+abbrev pub may_touch : List (List ℕ) → Token → Token → Bool
+may_touch texts e f = kinds_may_touch (touch_kind texts e) (touch_kind texts f)
+
+-- The name of a macro is what is before all white space and line ends: a word, or several items that joins have made a name of.
+abbrev pub is_name_part : Token → Bool
+is_name_part (token.Span span_kind.Word s) = true
+is_name_part (token.Span span_kind.Verbatim s) = true
+is_name_part (token.AsciiConstant value line) = true
+is_name_part _ = false
+
+-- the next item, whatever white space and line ends are before it
+abbrev pub next_item : List Token → Option Token
+next_item [] = None
+next_item (token.White ∷ es) = next_item es
+next_item (token.LineEnd line ∷ es) = next_item es
+next_item (e ∷ es) = Some e
+
+-- whether a blank is before the line ends between these items; the flag says whether the first ends the name
+abbrev pub has_blank_at_line_end : List (List ℕ) → Bool → Option Token → Option Token → Bool
+has_blank_at_line_end texts in_name (Some e) (Some f) = in_name || not (may_touch texts e f)
+has_blank_at_line_end texts in_name before next = false
+
+-- The first flag says whether all so far is the name; the token is the item before on the line, if there is one; the second flag says
+-- whether white space is directly before.
+abbrev pub macro_blanks : List (List ℕ) → Bool → Option Token → Bool → List Token → List Token
+macro_blanks texts in_name before white [] = []
+macro_blanks texts in_name before white (token.White ∷ es) = macro_blanks texts in_name before true es
+macro_blanks texts in_name before white (token.LineEnd line ∷ es) =
+    (if has_blank_at_line_end texts in_name before (next_item es) then token.White ∷ [] else [])
+    ++ token.LineEnd line ∷ macro_blanks texts false None false es
+macro_blanks texts in_name before white (e ∷ es) =
+    (if is_some before && white then token.White ∷ [] else [])
+    ++ e ∷ macro_blanks texts (in_name && not white && is_name_part e) (Some e) false es
+
+-- Rules 4 and 5: the origin that the compiler counts. A line end adds one line; it is a mark instead where the next source line has
+-- another origin, but not in a line that the next one continues: there the compiler would read the mark as a part of the line. A mark is
+-- after each use and each @h too, for the line on which it ends.
 
 abbrev pub next_line : Origin → Origin
 next_line p = record { file = p.file; line = p.line + 1 }
@@ -111,18 +203,19 @@ next_line p = record { file = p.file; line = p.line + 1 }
 abbrev pub same_origin : Origin → Origin → Bool
 same_origin p q = p.file == q.file && p.line == q.line
 
--- after this line, with this counted origin, no mark is needed: it is the last line, or the next one has the origin that is counted
-abbrev pub goes_on : List SourceLine → Origin → ℕ → Bool
-goes_on lines counted line =
+-- the next source line is the one that the count expects, or there is none
+abbrev pub is_expected : List SourceLine → Origin → ℕ → Bool
+is_expected lines counted line =
     nat_le (length lines) (line + 1) || same_origin (origin_at lines (line + 1)) (next_line counted)
 
-abbrev pub counted_after_line_end : List SourceLine → Origin → ℕ → Origin
-counted_after_line_end lines counted line =
-    if goes_on lines counted line then next_line counted else origin_at lines (line + 1)
+-- at the end of a line that is continued, or is not
+abbrev pub counted_after_line_end : List SourceLine → Bool → Origin → ℕ → Origin
+counted_after_line_end lines continued counted line =
+    if continued || is_expected lines counted line then next_line counted else origin_at lines (line + 1)
 
-abbrev pub line_item : List SourceLine → Origin → ℕ → Item
-line_item lines counted line =
-    if goes_on lines counted line then item.LineEnd else item.LineMark (origin_at lines (line + 1))
+abbrev pub line_item : List SourceLine → Bool → Origin → ℕ → Item
+line_item lines continued counted line =
+    if continued || is_expected lines counted line then item.LineEnd else item.LineMark (origin_at lines (line + 1))
 
 -- the item that a span of a kind is
 abbrev pub span_item : SpanKind → Span → Item
@@ -131,26 +224,37 @@ span_item span_kind.Sign s = item.Sign s
 span_item span_kind.Quoted s = item.Quoted s
 span_item span_kind.Verbatim s = item.Verbatim s
 
--- the items of a C part, by the counted origin before them
-abbrev pub items_by_origin : List SourceLine → Origin → List Token → List Item
-items_by_origin lines counted [] = []
-items_by_origin lines counted (token.LineEnd line ∷ es) =
-    line_item lines counted line ∷ items_by_origin lines (counted_after_line_end lines counted line) es
-items_by_origin lines counted (token.QuoteBreak ∷ es) = item.QuoteBreak ∷ items_by_origin lines (next_line counted) es
-items_by_origin lines counted (token.Span kind s ∷ es) = span_item kind s ∷ items_by_origin lines counted es
-items_by_origin lines counted (token.AsciiConstant value line ∷ es) = item.Code value ∷ items_by_origin lines counted es
-items_by_origin lines counted (token.White ∷ es) = item.Blank ∷ items_by_origin lines counted es
-items_by_origin lines counted (token.UseOf occurrence line ∷ es) =
-    item.UseOf occurrence ∷ item.LineMark (origin_at lines line) ∷ items_by_origin lines (origin_at lines line) es
-items_by_origin lines counted (token.AllMacros line ∷ es) =
-    item.Defs ∷ item.LineMark (origin_at lines line) ∷ items_by_origin lines (origin_at lines line) es
+-- the items of a C part, by the token before them on the line and by the counted origin
+abbrev pub items_by_origin : List SourceLine → Option Token → Origin → List Token → List Item
+items_by_origin lines before counted [] = []
+items_by_origin lines before counted (token.LineEnd line ∷ es) =
+    let continued : Bool = is_continued (texts_of lines) before in
+    line_item lines continued counted line
+    ∷ items_by_origin lines (at_line_front (texts_of lines) before line) (counted_after_line_end lines continued counted line) es
+items_by_origin lines before counted (token.White ∷ es) = item.Blank ∷ items_by_origin lines before counted es
+items_by_origin lines before counted (token.QuoteBreak ∷ es) =
+    item.QuoteBreak ∷ items_by_origin lines (Some token.QuoteBreak) (next_line counted) es
+items_by_origin lines before counted (token.Span kind s ∷ es) =
+    span_item kind s ∷ items_by_origin lines (Some (token.Span kind s)) counted es
+items_by_origin lines before counted (token.AsciiConstant value line ∷ es) =
+    item.Code value ∷ items_by_origin lines (Some (token.AsciiConstant value line)) counted es
+items_by_origin lines before counted (token.UseOf occurrence line ∷ es) =
+    item.UseOf occurrence ∷ item.LineMark (origin_at lines line)
+    ∷ items_by_origin lines (Some (token.UseOf occurrence line)) (origin_at lines line) es
+items_by_origin lines before counted (token.AllMacros line ∷ es) =
+    item.Defs ∷ item.LineMark (origin_at lines line)
+    ∷ items_by_origin lines (Some (token.AllMacros line)) (origin_at lines line) es
 -- heads, joins and faults are no items
-items_by_origin lines counted (_ ∷ es) = items_by_origin lines counted es
+items_by_origin lines before counted (e ∷ es) = items_by_origin lines (Some e) counted es
+
+-- what rules 1 and 2 leave of a C part
+abbrev pub part_tokens : List Token → List Token
+part_tokens tokens = without_joins [] (with_spaces (without_faults tokens))
 
 -- the items of a C part whose head ends on this line
 abbrev pub part_items : List SourceLine → ℕ → List Token → List Item
 part_items lines line tokens =
-    items_by_origin lines (origin_at lines line) (blanks false false (without_joins [] (with_spaces (without_faults tokens))))
+    items_by_origin lines None (origin_at lines line) (blanks (texts_of lines) None false (part_tokens tokens))
 
 -- Macros have no marks, and white space and line ends after @d are skipped.
 
@@ -170,9 +274,12 @@ unmarked_items (token.White ∷ es) = item.Blank ∷ unmarked_items es
 -- uses and @h are not in macros; heads, joins and faults are no items
 unmarked_items (_ ∷ es) = unmarked_items es
 
+-- what rules 1 and 2 leave of a macro
+abbrev pub macro_tokens : List (List ℕ) → List Token → List Token
+macro_tokens texts tokens = without_joins [] (with_name_space texts (with_spaces (without_front_gaps (without_faults tokens))))
+
 abbrev pub macro_items : List (List ℕ) → List Token → List Item
-macro_items texts tokens =
-    unmarked_items (blanks false false (without_joins [] (with_name_space texts (with_spaces (without_front_gaps (without_faults tokens))))))
+macro_items texts tokens = unmarked_items (macro_blanks texts true None false (macro_tokens texts tokens))
 
 -- A macro is kept if its first item is a word that begins with a word byte other than a digit.
 abbrev pub is_macro : List (List ℕ) → List Item → Bool

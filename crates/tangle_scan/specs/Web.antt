@@ -15,7 +15,7 @@ use Rattle.tangle_lexer.specs.Lexemes.{OccurrenceOnLine}
 use Rattle.tangle_lexer.specs.Heads.{is_head}
 use Rattle.tangle_lexer.specs.Occurrences.{OccurrenceRead, occurrence_of}
 use Rattle.tangle_lexer.specs.Steps.{all_tokens, all_occurrences}
-use Rattle.tangle_scan.specs.Rules.{part_items, macro_items, is_macro}
+use Rattle.tangle_scan.specs.Rules.{texts_of, part_items, macro_items, is_macro}
 
 -- a piece: a C part, with the number of its section, the origin of its opening mark, the number of its name's occurrence if it has a name,
 -- and its items
@@ -95,9 +95,6 @@ block_has_all_macros b = kind_has_all_macros b.kind b.tokens
 -- from blocks to pieces and macros
 
 module _ (lines : List SourceLine) where
-  abbrev pub texts_of : List (List ℕ)
-  texts_of = map (λ l. l.bytes) lines
-
   abbrev pub kind_piece : BlockKind → Block → List PieceRead
   kind_piece (OfMacro line) b = []
   kind_piece (OfPiece occurrence line) b =
@@ -108,10 +105,10 @@ module _ (lines : List SourceLine) where
   piece_of b = kind_piece b.kind b
 
   abbrev pub kept_macro : List Item → List (List Item)
-  kept_macro items = if is_macro texts_of items then items ∷ [] else []
+  kept_macro items = if is_macro (texts_of lines) items then items ∷ [] else []
 
   abbrev pub kind_macro : BlockKind → Block → List (List Item)
-  kind_macro (OfMacro line) b = kept_macro (macro_items texts_of b.tokens)
+  kind_macro (OfMacro line) b = kept_macro (macro_items (texts_of lines) b.tokens)
   kind_macro (OfPiece occurrence line) b = []
 
   -- the macro that a block is, unless it is dropped

@@ -8,14 +8,17 @@ ghost use Rattle.tangle_scan.specs.Rules as rules;
 ghost use Rattle.tangle_lines.specs.Reading.{origin_at};
 ghost use Rattle.tangle_scan.specs.Web as web;
 ghost use Rattle.tangle_lexer.specs.Heads.{is_head};
-ghost use Rattle.tangle_scan.specs.Web.{texts_of, is_line_mark};
+ghost use Rattle.tangle_scan.specs.Rules.{texts_of};
+ghost use Rattle.tangle_scan.specs.Web.{is_line_mark};
 ghost use Rattle.tangle_scan.specs.Gathering.{own_fault, nothing, gathering_with, with_head};
 
 use crate::items::Item;
+use crate::macro_items::fill_macro;
 use crate::pieces::{Macro, Piece};
-use crate::plain_parts::{PartFlags, fill_macro, fill_plain_part};
+use crate::plain_parts::{PartFlags, fill_plain_part};
 use crate::rare_parts::fill_rare_part;
-use crate::spacing::{first_byte, has_rare, macro_tokens};
+use crate::spacing::{has_rare, macro_tokens};
+use crate::touching::first_byte;
 use std::alloc::Global;
 use std::marker::Model;
 use tangle_lexer::Token;
@@ -160,7 +163,7 @@ impl MacroBuffer {
     {
         let left = macro_tokens(source, &mut self.tokens, tokens, has_rare)?;
         let mut items = Vec::with_capacity(alloc, left.len())?;
-        fill_macro(&mut items, left)?;
+        fill_macro(source, &mut items, left)?;
         items.shrink_to_fit();
         Ok(items)
     }

@@ -1,17 +1,21 @@
 //! The scanner: from source lines to the pieces, macros and section names of a web.
 #![tactic(auto)]
 
+mod apart;
 mod gathering;
 mod items;
 mod kept_bytes;
 mod line_truth;
+mod macro_items;
 mod pieces;
 mod plain_parts;
 mod rare_parts;
 mod scanning;
 mod spacing;
+mod touching;
 mod webs;
 
+pub use apart::what_is_apart_stays_apart;
 pub use items::{Item, OccurrenceNumber};
 pub use kept_bytes::no_byte_is_lost;
 pub use line_truth::pieces_are_at_their_lines;

@@ -1,7 +1,8 @@
-//! From tokens to items: those of a C part without rare tokens, and those that spacing leaves of a
-//! macro. White space between two items of a line is a blank, and other white space is dropped. A
-//! line mark is after each use and each `@h`, and instead of a line end where the next source
-//! line has another origin than the compiler would count.
+//! The items of a C part without rare tokens. White space between two items of a line is a blank,
+//! and so is white space at the front of a line that continues another; other white space is
+//! dropped. A line mark is after each use and each `@h`, and instead of a line end where the next
+//! source line has another origin than the compiler would count, but not in a line that is
+//! continued.
 ghost use Rattle.std.specs.Prelude.{◌≡◌, ◌≤◌, ◌<◌, ◌+◌, ◌^◌, ◌++◌, ◌∷◌, ◌&&◌, ◌||◌, []};
 ghost use Rattle.std.specs.Prelude.{List, max, if◌then◌else◌, true, false, None};
 ghost use Rattle.std.specs.Prelude.{Some, option_to_list, IfOk, OnOk};
@@ -9,23 +10,18 @@ ghost use Rattle.std.specs.List.{list_any};
 ghost use Rattle.tangle_scan.specs.Rules as rules;
 ghost use Rattle.tangle_lines.specs.Reading.{origin_at};
 ghost use Rattle.tangle_scan.specs.Passes as passes;
+ghost use Rattle.tangle_scan.specs.Rules.{texts_of};
 ghost use Rattle.tangle_scan.specs.Web.{is_line_mark};
-ghost use Rattle.tangle_scan.specs.Passes.{origin_of, items_ahead, unmarked_from};
+ghost use Rattle.tangle_scan.specs.Passes.{origin_of, items_ahead};
 ghost use Rattle.tangle_lexer.specs.declared.tokens.Token.{Token};
 ghost use Rattle.tangle_scan.specs.declared.items.Item.TheVariants as item;
 
 use crate::items::{Item, OccurrenceNumber};
 use crate::spacing::is_rare;
+use crate::touching::{first_byte, last_byte};
 use tangle_lexer::{SpanKind, Token};
 use tangle_lines::{NoMemory, Origin, Source};
 use tangle_text::Span;
-
-/// What is before a position on its line: an item, and white space after it.
-#[derive(Clone, Copy)]
-struct Before {
-    has_item: bool,
-    has_white: bool,
-}
 
 /// The origin that a compiler would count, by the marks and line ends so far.
 #[derive(Clone, Copy)]
@@ -39,7 +35,10 @@ pub(crate) struct CountedOrigin {
 /// The state of a C part while its items are made.
 #[derive(Clone, Copy)]
 struct PartState {
-    before: Before,
+    /// Whether white space here is a blank, if an item comes: an item is before on the line, or the
+    /// line continues another.
+    keeps_white: bool,
+    has_white: bool,
     counted: CountedOrigin,
 }
 
@@ -69,11 +68,10 @@ fn next_line(counted: CountedOrigin) -> CountedOrigin
     }
 }
 
-/// The origin of the next source line, where it is not the one that is counted: there a mark
-/// replaces the line end.
-fn mark_after(source: &Source, counted: CountedOrigin, line: u32) -> Option<Origin>
+/// The origin of the next source line, where it is not the one that the count expects.
+fn unexpected_origin(source: &Source, counted: CountedOrigin, line: u32) -> Option<Origin>
     requires { counted.line < 2 ^ 63 }
-    ensures { result ≡ (if rules.goes_on source.now.lines (origin_of counted) line then None
+    ensures { result ≡ (if rules.is_expected source.now.lines (origin_of counted) line then None
         else Some (origin_at source.now.lines (line + 1))) }
 {
     let next = line as usize + 1;
@@ -102,7 +100,7 @@ fn push_mark(items: &mut Vec<Item>, origin: Origin) -> Result<CountedOrigin, NoM
     })
 }
 
-/// Adds a line end, or the mark that replaces it.
+/// Adds a line end, or the mark that replaces it. In a line that is continued no mark does.
 // It is inlined into both loops over the tokens of C parts, so that the counted origin stays in
 // registers.
 #[inline(always)]
@@ -111,32 +109,38 @@ pub(crate) fn push_line_end(
     items: &mut Vec<Item>,
     counted: CountedOrigin,
     line: u32,
+    is_continued: bool,
 ) -> Result<CountedOrigin, NoMemory>
     requires { counted.line < 2 ^ 63 }
     ensures items { OnOk result (items.new.items ≡ items.old.items
-        ++ rules.line_item source.now.lines (origin_of counted) line ∷ []) }
+        ++ rules.line_item source.now.lines is_continued (origin_of counted) line ∷ []) }
     ensures counted { IfOk result (λ next. origin_of next
-        ≡ rules.counted_after_line_end source.now.lines (origin_of counted) line) }
+        ≡ rules.counted_after_line_end source.now.lines is_continued (origin_of counted) line) }
     ensures limit { IfOk result (λ next. next.line ≤ max (2 ^ 32) (counted.line + 1)) }
     ensures mark { IfOk result (λ next. next.has_mark
-        ≡ (is_line_mark (rules.line_item source.now.lines (origin_of counted) line)
+        ≡ (is_line_mark (rules.line_item source.now.lines is_continued (origin_of counted) line)
         || counted.has_mark)) }
 {
-    match mark_after(source, counted, line) {
-        None => {
+    let unexpected = unexpected_origin(source, counted, line);
+    match unexpected {
+        Some(origin) if !is_continued => push_mark(items, origin),
+        _ => {
             items.push(Item::LineEnd)?;
             Ok(next_line(counted))
         }
-        Some(origin) => push_mark(items, origin),
     }
 }
 
-/// Adds a blank, where white space is after an item.
-fn push_blank(items: &mut Vec<Item>, before: Before) -> Result<(), NoMemory>
+/// Adds a blank, where there is white space that is kept.
+pub(crate) fn push_blank(
+    items: &mut Vec<Item>,
+    keeps_white: bool,
+    has_white: bool,
+) -> Result<(), NoMemory>
     ensures { OnOk result (items.new.items ≡ items.old.items
-        ++ (if before.has_item && before.has_white then item.Blank ∷ [] else [])) }
+        ++ (if keeps_white && has_white then item.Blank ∷ [] else [])) }
 {
-    if before.has_item && before.has_white {
+    if keeps_white && has_white {
         items.push(Item::Blank)?;
     }
     Ok(())
@@ -157,7 +161,7 @@ pub(crate) fn span_item(kind: SpanKind, span: Span) -> Item
 
 /// The item that a token is in C parts and macros alike, if it is one.
 #[inline(always)]
-fn item_of(token: Token) -> Option<Item>
+pub(crate) fn item_of(token: Token) -> Option<Item>
     ensures { result ≡ passes.item_of token }
 {
     match token {
@@ -169,7 +173,7 @@ fn item_of(token: Token) -> Option<Item>
 }
 
 /// Adds an item, if there is one.
-fn push_some(items: &mut Vec<Item>, item: Option<Item>) -> Result<(), NoMemory>
+pub(crate) fn push_some(items: &mut Vec<Item>, item: Option<Item>) -> Result<(), NoMemory>
     ensures { OnOk result (items.new.items ≡ items.old.items ++ option_to_list item) }
 {
     if let Some(item) = item {
@@ -216,19 +220,41 @@ pub(crate) fn push_item(
     }
 }
 
-/// The state after items that end with these.
+/// The state directly after a token that is no white space.
 #[inline(always)]
-fn part_state(has_item: bool, has_white: bool, counted: CountedOrigin) -> PartState
-    ensures { result ≡ record {
-      before = record { has_item = has_item; has_white = has_white };
-      counted = counted;
-    } }
+fn part_state(keeps_white: bool, counted: CountedOrigin) -> PartState
+    ensures { result
+        ≡ record { keeps_white = keeps_white; has_white = false; counted = counted } }
 {
-    let before = Before {
-        has_item,
-        has_white,
-    };
-    PartState { before, counted }
+    PartState {
+        keeps_white,
+        has_white: false,
+        counted,
+    }
+}
+
+/// Whether the next line continues a line that ends with an item.
+#[inline(always)]
+fn item_continues(source: &Source, item: Item) -> bool
+    ensures { result ≡ passes.item_continues (texts_of source.now.lines) item }
+{
+    match item {
+        Item::Sign(span) => first_byte(source, span) == b'\\',
+        Item::Verbatim(span) => last_byte(source, span) == b'\\',
+        _ => false,
+    }
+}
+
+/// Whether the next line continues a line that ends with these items. It looks at the last one
+/// alone, and is called once a line.
+#[inline(always)]
+fn is_continued(source: &Source, items: &[Item]) -> bool
+    ensures { result ≡ passes.items_continue (texts_of source.now.lines) items.now }
+{
+    match items.last() {
+        Some(item) => item_continues(source, *item),
+        None => false,
+    }
 }
 
 /// Adds the items of a token of a C part, and sets `has_rare` if the token is rare.
@@ -241,30 +267,34 @@ fn add_token(
     has_rare: &mut bool,
 ) -> Result<PartState, NoMemory>
     requires { at.counted.line < 2 ^ 63 }
-    ensures items { IfOk result (λ next. (rest : List Token) →
-        items.new.items ++ items_ahead source.now.lines next rest ≡ items.old.items
-        ++ items_ahead source.now.lines at (token.now ∷ rest)) }
+    ensures items { IfOk result (λ next. passes.is_rare token.now ≡ false → (rest : List Token) →
+        items.new.items ++ items_ahead source.now.lines next items.new.items rest ≡ items.old.items
+        ++ items_ahead source.now.lines at items.old.items (token.now ∷ rest)) }
     ensures limit { IfOk result (λ next. next.counted.line ≤ max (2 ^ 32) (at.counted.line + 1)) }
     ensures rare { OnOk result (has_rare.new ≡ (passes.is_rare token.now || has_rare.old)) }
     ensures mark { IfOk result (λ next. list_any is_line_mark items.old.items ≡ at.counted.has_mark
         → list_any is_line_mark items.new.items ≡ next.counted.has_mark) }
 {
     match *token {
-        Token::White => Ok(part_state(at.before.has_item, true, at.counted)),
+        Token::White => Ok(PartState {
+            has_white: true,
+            ..at
+        }),
         Token::LineEnd(line) => {
-            let counted = push_line_end(source, items, at.counted, line)?;
-            Ok(part_state(false, false, counted))
+            let is_continued = is_continued(source, items);
+            let counted = push_line_end(source, items, at.counted, line, is_continued)?;
+            Ok(part_state(is_continued, counted))
         }
         Token::Span(kind, span) => {
-            push_blank(items, at.before)?;
+            push_blank(items, at.keeps_white, at.has_white)?;
             items.push(span_item(kind, span))?;
-            Ok(part_state(true, false, at.counted))
+            Ok(part_state(true, at.counted))
         }
         _ => {
             *has_rare = is_rare(*token) || *has_rare;
-            push_blank(items, at.before)?;
+            push_blank(items, at.keeps_white, at.has_white)?;
             let counted = push_item(source, items, at.counted, *token)?;
-            Ok(part_state(true, false, counted))
+            Ok(part_state(true, counted))
         }
     }
 }
@@ -294,13 +324,7 @@ pub(crate) fn fill_plain_part(
 {
     items.clear();
     let mut has_rare = false;
-    let mut at = PartState {
-        before: Before {
-            has_item: false,
-            has_white: false,
-        },
-        counted: counted_on(source, line),
-    };
+    let mut at = part_state(false, counted_on(source, line));
     for token in tokens {
         at = add_token(source, items, at, token, &mut has_rare)?;
         if has_rare {
@@ -314,49 +338,4 @@ pub(crate) fn fill_plain_part(
         has_rare: false,
         may_have_mark: at.counted.has_mark,
     })
-}
-
-/// Adds the items of a token of a macro.
-fn add_macro_token(items: &mut Vec<Item>, at: Before, token: Token) -> Result<Before, NoMemory>
-    ensures { IfOk result (λ next. (rest : List Token) →
-        items.new.items ++ unmarked_from next rest ≡ items.old.items
-        ++ unmarked_from at (token ∷ rest)) }
-{
-    match token {
-        Token::White => Ok(Before {
-            has_item: at.has_item,
-            has_white: true,
-        }),
-        Token::LineEnd(_) => {
-            items.push(Item::LineEnd)?;
-            Ok(Before {
-                has_item: false,
-                has_white: false,
-            })
-        }
-        _ => {
-            push_blank(items, at)?;
-            push_some(items, item_of(token))?;
-            Ok(Before {
-                has_item: true,
-                has_white: false,
-            })
-        }
-    }
-}
-
-/// Makes the items of a macro.
-pub(crate) fn fill_macro(items: &mut Vec<Item>, tokens: &[Token]) -> Result<(), NoMemory>
-    ensures { OnOk result (items.new.items ≡ rules.unmarked_items
-        (rules.blanks false false tokens.now)) }
-{
-    items.clear();
-    let mut at = Before {
-        has_item: false,
-        has_white: false,
-    };
-    for token in tokens {
-        at = add_macro_token(items, at, *token)?;
-    }
-    Ok(())
 }

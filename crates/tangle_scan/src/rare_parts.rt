@@ -7,20 +7,26 @@ ghost use Rattle.tangle_lines.specs.Reading.{SourceLine};
 ghost use Rattle.tangle_lexer.specs.declared.tokens.Token.{Token};
 ghost use Rattle.tangle_lexer.specs.declared.tokens.Token.TheVariants as token;
 ghost use Rattle.tangle_scan.specs.Rules as rules;
+ghost use Rattle.tangle_scan.specs.Rules.{texts_of};
 ghost use Rattle.tangle_scan.specs.Passes as passes;
 ghost use Rattle.tangle_scan.specs.Passes.{all_items, highest};
 ghost use Rattle.tangle_scan.specs.declared.items.Item.TheVariants as item;
 
 use crate::items::Item;
 use crate::plain_parts::{CountedOrigin, counted_on, push_item, push_line_end, span_item};
+use crate::touching::ends_in_backslash;
 use tangle_lexer::{SpanKind, Token};
 use tangle_lines::{NoMemory, Source};
 
 /// What is last before a position, faults aside.
 #[derive(Clone, Copy)]
 enum Last {
-    /// Nothing, or a line end.
+    /// Nothing, or the end of a line that is not continued.
     Front,
+    /// The end of a line that the next one continues.
+    Continued,
+    /// White space after that.
+    ContinuedWhite,
     /// A join. White space and line ends after it are dropped.
     Joined,
     /// An item that is no word and no ASCII constant.
@@ -39,11 +45,12 @@ struct Start {
     counted: CountedOrigin,
 }
 
-/// The state of a C part while its items are made. `start` is that of the last run, and is read
-/// only where `last` is `Front`.
+/// The state of a C part while its items are made. `item` is the last item, and `start` is that of
+/// the last run, which is read only where a line end is last, white space after it aside.
 #[derive(Clone, Copy)]
-struct RarePartState {
+struct RarePartState<'t> {
     last: Last,
+    item: &'t Token,
     counted: CountedOrigin,
     start: Start,
 }
@@ -70,7 +77,7 @@ fn needs_blank(last: Last, token: Token) -> bool
     ensures { result ≡ passes.needs_blank last token }
 {
     match last {
-        Last::White => true,
+        Last::White | Last::ContinuedWhite => true,
         Last::AsciiConstant => is_constant(token) || is_word(token),
         Last::Word => is_constant(token),
         _ => false,
@@ -97,6 +104,7 @@ fn last_after_white(last: Last) -> Last
     match last {
         Last::Front => Last::Front,
         Last::Joined => Last::Joined,
+        Last::Continued | Last::ContinuedWhite => Last::ContinuedWhite,
         _ => Last::White,
     }
 }
@@ -113,100 +121,144 @@ fn last_of(token: Token) -> Last
     }
 }
 
+/// What is last after the end of a line.
+#[inline(always)]
+fn last_after_line_end(is_continued: bool) -> Last
+    ensures { result ≡ passes.last_after_line_end is_continued }
+{
+    if is_continued {
+        Last::Continued
+    } else {
+        Last::Front
+    }
+}
+
 /// The state after items that end with these.
 #[inline(always)]
-fn rare_state(last: Last, counted: CountedOrigin, start: Start) -> RarePartState
-    ensures { result ≡ record { last = last; counted = counted; start = start } }
+fn rare_state(last: Last, item: &Token, counted: CountedOrigin, start: Start) -> RarePartState<'_>
+    ensures { result
+        ≡ record { last = last; item = item.entry; counted = counted; start = start } }
 {
     RarePartState {
         last,
+        item,
         counted,
         start,
     }
 }
 
-/// Adds a line end. A run that has none yet begins where the items end.
+/// Whether a line end is last, white space after it aside.
 #[inline(always)]
-fn add_line_end(
+fn is_after_line_end(last: Last) -> bool
+    ensures { result ≡ passes.is_after_line_end last }
+{
+    matches!(last, Last::Front | Last::Continued | Last::ContinuedWhite)
+}
+
+/// Whether the next line continues a line that ends here.
+#[inline(always)]
+fn continues_after(source: &Source, last: Last, item: Token) -> bool
+    ensures { result ≡ passes.continues_after (texts_of source.now.lines) last item }
+{
+    match last {
+        Last::Other | Last::Word | Last::AsciiConstant | Last::White => {
+            ends_in_backslash(source, item)
+        }
+        _ => false,
+    }
+}
+
+/// Where the run begins that a line end is in. One that has no line end yet begins where the items
+/// end.
+#[inline(always)]
+fn start_of_run(at: RarePartState, item_count: usize) -> Start
+    ensures { result ≡ (if passes.is_after_line_end at.entry.last then at.entry.start
+        else record { items = item_count; counted = at.entry.counted }) }
+{
+    if is_after_line_end(at.last) {
+        return at.start;
+    }
+    Start {
+        items: item_count,
+        counted: at.counted,
+    }
+}
+
+/// Adds a line end.
+#[inline(always)]
+fn add_line_end<'t>(
     source: &Source,
     items: &mut Vec<Item>,
-    at: RarePartState,
+    at: RarePartState<'t>,
     line: u32,
-) -> Result<RarePartState, NoMemory>
+) -> Result<RarePartState<'t>, NoMemory>
     requires line { at.counted.line < 2 ^ 63 }
     requires start { at.start.items ≤ length items.old.items }
     ensures items { IfOk result (λ next. (rest : List Token) →
         all_items source.now.lines items.new.items next rest
-        ≡ all_items source.now.lines items.old.items at (token.LineEnd line ∷ rest)) }
-    ensures limit { IfOk result (λ next. highest next ≤ max (2 ^ 32) (highest at + 1)) }
+        ≡ all_items source.now.lines items.old.items at.entry (token.LineEnd line ∷ rest)) }
+    ensures limit { IfOk result (λ next. highest next ≤ max (2 ^ 32) (highest at.entry + 1)) }
     ensures start { IfOk result (λ next. next.start.items ≤ length items.new.items) }
 {
-    match at.last {
-        Last::Joined => Ok(rare_state(Last::Joined, at.counted, at.start)),
-        Last::Front => {
-            let counted = push_line_end(source, items, at.counted, line)?;
-            Ok(rare_state(Last::Front, counted, at.start))
-        }
-        _ => {
-            let start = Start {
-                items: items.len(),
-                counted: at.counted,
-            };
-            let counted = push_line_end(source, items, at.counted, line)?;
-            Ok(rare_state(Last::Front, counted, start))
-        }
+    if let Last::Joined = at.last {
+        return Ok(at);
     }
+    let start = start_of_run(at, items.len());
+    let is_continued = continues_after(source, at.last, *at.item);
+    let counted = push_line_end(source, items, at.counted, line, is_continued)?;
+    let last = last_after_line_end(is_continued);
+    Ok(rare_state(last, at.item, counted, start))
 }
 
 /// Applies a join: it removes the line ends of its run.
-fn apply_join(items: &mut Vec<Item>, at: RarePartState) -> RarePartState
+fn apply_join<'t>(items: &mut Vec<Item>, at: RarePartState<'t>) -> RarePartState<'t>
     requires { at.start.items ≤ length items.old.items }
     ensures items { (lines : List SourceLine) (rest : List Token) →
         all_items lines items.new.items result rest
-        ≡ all_items lines items.old.items at (token.Join ∷ rest) }
-    ensures limit { highest result ≤ highest at }
+        ≡ all_items lines items.old.items at.entry (token.Join ∷ rest) }
+    ensures limit { highest result ≤ highest at.entry }
     ensures start { result.start.items ≤ length items.new.items }
 {
-    match at.last {
-        Last::Front => {
-            items.truncate(at.start.items);
-            rare_state(Last::Joined, at.start.counted, at.start)
-        }
-        _ => rare_state(Last::Joined, at.counted, at.start),
+    if is_after_line_end(at.last) {
+        items.truncate(at.start.items);
+        return rare_state(Last::Joined, at.item, at.start.counted, at.start);
     }
+    rare_state(Last::Joined, at.item, at.counted, at.start)
 }
 
 /// Adds the items of a token.
 #[inline(always)]
-fn add_rare_part_token(
+fn add_rare_part_token<'t>(
     source: &Source,
     items: &mut Vec<Item>,
-    at: RarePartState,
-    token: &Token,
-) -> Result<RarePartState, NoMemory>
+    at: RarePartState<'t>,
+    token: &'t Token,
+) -> Result<RarePartState<'t>, NoMemory>
     requires line { at.counted.line < 2 ^ 63 }
     requires start { at.start.items ≤ length items.old.items }
     ensures items { IfOk result (λ next. (rest : List Token) →
         all_items source.now.lines items.new.items next rest
-        ≡ all_items source.now.lines items.old.items at (token.now ∷ rest)) }
-    ensures limit { IfOk result (λ next. highest next ≤ max (2 ^ 32) (highest at + 1)) }
+        ≡ all_items source.now.lines items.old.items at.entry (token.now ∷ rest)) }
+    ensures limit { IfOk result (λ next. highest next ≤ max (2 ^ 32) (highest at.entry + 1)) }
     ensures start { IfOk result (λ next. next.start.items ≤ length items.new.items) }
 {
     match *token {
-        Token::White => Ok(rare_state(last_after_white(at.last), at.counted, at.start)),
+        Token::White => {
+            let last = last_after_white(at.last);
+            Ok(rare_state(last, at.item, at.counted, at.start))
+        }
         Token::LineEnd(line) => add_line_end(source, items, at, line),
         Token::Span(kind, span) => {
-            let span_token = Token::Span(kind, span);
-            push_needed_blank(items, at.last, span_token)?;
+            push_needed_blank(items, at.last, *token)?;
             items.push(span_item(kind, span))?;
-            Ok(rare_state(last_of(span_token), at.counted, at.start))
+            Ok(rare_state(last_of(*token), token, at.counted, at.start))
         }
         Token::Join => Ok(apply_join(items, at)),
-        Token::Fault(..) => Ok(rare_state(at.last, at.counted, at.start)),
+        Token::Fault(..) => Ok(at),
         _ => {
             push_needed_blank(items, at.last, *token)?;
             let counted = push_item(source, items, at.counted, *token)?;
-            Ok(rare_state(last_of(*token), counted, at.start))
+            Ok(rare_state(last_of(*token), token, counted, at.start))
         }
     }
 }
@@ -221,12 +273,9 @@ pub(crate) fn fill_rare_part(
     ensures { OnOk result (items.new.items ≡ rules.part_items source.now.lines line tokens.now) }
 {
     items.clear();
+    let front = Token::White;
     let counted = counted_on(source, line);
-    let mut at = RarePartState {
-        last: Last::Front,
-        counted,
-        start: Start { items: 0, counted },
-    };
+    let mut at = rare_state(Last::Front, &front, counted, Start { items: 0, counted });
     for token in tokens {
         at = add_rare_part_token(source, items, at, token)?;
     }

@@ -6,6 +6,7 @@ ghost use Rattle.tangle_scan.specs.Web.{web_of};
 ghost use Rattle.tangle_lexer.specs.Occurrences.{occurrence_of};
 ghost use Rattle.tangle_scan.specs.SourceOrder.{SpansAreInOrder};
 ghost use Rattle.tangle_scan.specs.LineTruth.{PiecesAreAtTheirLines};
+ghost use Rattle.tangle_scan.specs.Apart.{StaysApart};
 ghost use Rattle.tangle_scan.specs.WellFormed.{IsWellFormed};
 ghost use Rattle.tangle_scan.specs.Gathering.{nothing, gathering_with};
 
@@ -57,7 +58,9 @@ fn text_is_short(source: &Source)
 /// The web borrows the source. The text of an item is a range of a source line. The ranges of all
 /// pieces are in the order of the source, and so are those of all macros. Each text of a piece is
 /// on the line that a compiler counts by the marks and line ends before it, except after a line
-/// end inside a quoted text, or one that a join removed, up to the next line end or mark.
+/// end inside a quoted text, one that a join removed, or that of a continued line where the count
+/// does not expect the next source line, up to the next line end or mark. Items that the source
+/// keeps apart are read apart by a C compiler, which joins lines that end in a backslash.
 ///
 /// # Errors
 ///
@@ -67,6 +70,7 @@ pub fn scan<'s, 'a>(alloc: Global, source: &'s Source<'a>) -> Result<Web<'s, 'a>
     ensures well_formed { IfOk result (λ web. IsWellFormed web) }
     ensures order { IfOk result (λ web. SpansAreInOrder web) }
     ensures line_truth { IfOk result (λ web. PiecesAreAtTheirLines source.now web) }
+    ensures apart { IfOk result (λ web. StaysApart source.now web) }
 {
     // No section is counted over the limit, since the text has so few bytes.
     text_is_short(source);

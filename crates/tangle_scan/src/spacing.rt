@@ -1,19 +1,19 @@
 //! White space between the tokens of a macro. It is put between a word and an ASCII constant, or
 //! two constants, that touch, and after the name. Each run of joins, white space and line ends
 //! that has a join is removed.
-ghost use Rattle.std.specs.Prelude.{◌≡◌, ◌++◌, ◌∷◌, [], List, take, get_or, if◌then◌else◌};
+ghost use Rattle.std.specs.Prelude.{◌≡◌, ◌++◌, ◌∷◌, [], List, take, if◌then◌else◌};
 ghost use Rattle.std.specs.Prelude.{IfOk, OnOk};
 ghost use Rattle.std.specs.List.{list_any};
 ghost use Rattle.tangle_scan.specs.Rules as rules;
-ghost use Rattle.tangle_scan.specs.Web.{texts_of};
+ghost use Rattle.tangle_scan.specs.Rules.{texts_of};
 ghost use Rattle.tangle_scan.specs.Passes as passes;
 ghost use Rattle.tangle_scan.specs.Passes.{IsRun, without_joins_from, spacing_from};
 ghost use Rattle.tangle_lexer.specs.declared.tokens.Token.{Token};
 ghost use Rattle.tangle_lexer.specs.declared.tokens.Token.TheVariants as token;
 
+use crate::touching::first_byte;
 use tangle_lexer::{SpanKind, Token};
 use tangle_lines::{NoMemory, Source};
-use tangle_text::Span;
 
 /// Whether a token is a join, white space or a line end.
 fn is_gap(token: Token) -> bool
@@ -105,27 +105,6 @@ struct Spacing {
     before: Token,
 }
 
-/// The byte at the start of a span of the source, or 0.
-pub(crate) fn first_byte(source: &Source, span: Span) -> u8
-    ensures { result ≡ rules.first_byte (texts_of source.now.lines) span }
-{
-    let line = span.line as usize;
-    if line < source.count() {
-        return byte_at(source.line(line), span.start as usize);
-    }
-    0
-}
-
-/// The byte at a position of a line, or 0.
-fn byte_at(line: &[u8], column: usize) -> u8
-    ensures { result ≡ get_or line.now column 0 }
-{
-    match line.get(column) {
-        Some(byte) => *byte,
-        None => 0,
-    }
-}
-
 /// Whether two tokens would be read as one with nothing between them.
 fn would_merge(before: Token, token: Token) -> bool
     ensures { result ≡ rules.would_merge before token }
@@ -209,9 +188,8 @@ fn space_token(
 
 /// Spaces the tokens of a macro.
 fn space(source: &Source, spaced: &mut Vec<Token>, tokens: &[Token]) -> Result<(), NoMemory>
-    ensures { OnOk result (spaced.new.items ≡ rules.without_joins []
-        (rules.with_name_space (texts_of source.now.lines)
-        (rules.with_spaces (rules.without_front_gaps (rules.without_faults tokens.now))))) }
+    ensures { OnOk result (spaced.new.items
+        ≡ rules.macro_tokens (texts_of source.now.lines) tokens.now) }
 {
     spaced.clear();
     let mut at = Spacing {
@@ -230,13 +208,21 @@ fn space(source: &Source, spaced: &mut Vec<Token>, tokens: &[Token]) -> Result<(
 }
 
 /// Whether a token is one that most blocks do not have: a fault, a join, an ASCII constant or `@h`.
-/// Without such tokens there is no fault to add, and spacing changes at most the front of a macro.
+/// Without such tokens there is no fault to add, and spacing changes at most the front of a macro. A
+/// head, which no block has, counts as one.
 pub(crate) fn is_rare(token: Token) -> bool
     ensures { result ≡ passes.is_rare token }
 {
     matches!(
         token,
-        Token::Fault(..) | Token::Join | Token::AsciiConstant(..) | Token::AllMacros(_)
+        Token::Fault(..)
+            | Token::Join
+            | Token::AsciiConstant(..)
+            | Token::AllMacros(_)
+            | Token::Section
+            | Token::MacroStart(_)
+            | Token::UnnamedPart(_)
+            | Token::NamedPart(..)
     )
 }
 
@@ -286,9 +272,8 @@ pub(crate) fn macro_tokens<'e>(
     has_rare: bool,
 ) -> Result<&'e [Token], NoMemory>
     requires { has_rare ≡ list_any passes.is_rare tokens.now }
-    ensures { IfOk result (λ left. left.now ≡ rules.without_joins []
-        (rules.with_name_space (texts_of source.now.lines)
-        (rules.with_spaces (rules.without_front_gaps (rules.without_faults tokens.entry.now))))) }
+    ensures { IfOk result (λ left. left.now
+        ≡ rules.macro_tokens (texts_of source.now.lines) tokens.entry.now) }
 {
     let rest = after_front(tokens);
     if !has_rare && is_name_spaced(source, rest) {

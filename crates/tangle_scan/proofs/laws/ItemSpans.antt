@@ -1,5 +1,6 @@
 -- The rules for items keep the spans of a part, in their order.
-use Rattle.std.proofs.Common.{◌≡◌, ℕ, ◌+◌, Bool, true, false, List, [], ◌∷◌, ◌++◌, cond, refl, ap, sym, ◌∙◌, if◌then◌else◌, ◌&&◌}
+use Rattle.std.proofs.Common.{◌≡◌, ℕ, ◌+◌, Bool, true, false, List, [], ◌∷◌, ◌++◌, cond, refl, ap, sym, ◌∙◌, if◌then◌else◌, ◌&&◌, ◌||◌, not}
+use Rattle.std.proofs.Common.{Option, Some, None, is_some}
 use Rattle.tangle_faults.specs.declared.faults.Origin.{Origin}
 use Rattle.tangle_text.specs.declared.spans.Span.{Span}
 use Rattle.tangle_lexer.specs.declared.tokens.Token.{Token}
@@ -8,7 +9,10 @@ use Rattle.tangle_lexer.specs.declared.tokens.Token.TheVariants as token
 use Rattle.tangle_scan.specs.declared.items.Item.{Item}
 use Rattle.tangle_scan.specs.declared.items.Item.TheVariants as item
 use Rattle.tangle_lines.specs.Reading.{SourceLine, origin_at}
-use Rattle.tangle_scan.specs.Rules.{without_faults, would_merge, with_spaces, may_follow_name, with_space_after, with_name_space, has_join, left_of_run, without_joins, blanks, goes_on, line_item, counted_after_line_end, items_by_origin, unmarked_items, part_items, without_front_gaps, macro_items}
+use Rattle.tangle_scan.specs.Rules.{texts_of, without_faults, would_merge, with_spaces, may_follow_name, with_space_after, with_name_space, has_join}
+use Rattle.tangle_scan.specs.Rules.{left_of_run, without_joins, part_tokens, macro_tokens, at_line_front, blanks, next_item, is_name_part}
+use Rattle.tangle_scan.specs.Rules.{is_continued, has_blank_at_line_end, macro_blanks, is_expected, line_item, items_by_origin, unmarked_items, part_items}
+use Rattle.tangle_scan.specs.Rules.{next_line, counted_after_line_end, without_front_gaps, macro_items}
 use Rattle.tangle_scan.specs.SourceOrder.{item_spans}
 use Rattle.tangle_scan.proofs.lemmas.Gaps.{AreGaps, gaps-append}
 
@@ -82,32 +86,56 @@ without_joins-spans run (e ∷ es) g =
     ∙ ap (λ ss. ss ++ token_spans (e ∷ without_joins [] es)) (left-spans run g)
     ∙ spans-first e (without_joins [] es) es (without_joins-spans [] es tt)
 
-blanks-spans : (before white : Bool) (es : List Token) → token_spans (blanks before white es) ≡ token_spans es
-blanks-spans before white [] = refl
-blanks-spans before white (token.White ∷ es) = blanks-spans before true es
-blanks-spans before white (token.LineEnd line ∷ es) = blanks-spans false false es
-blanks-spans before white (e ∷ es) =
-    white-spans (before && white) (e ∷ blanks true false es) ∙ spans-first e (blanks true false es) es (blanks-spans true false es)
+blanks-spans : (texts : List (List ℕ)) (before : Option Token) (white : Bool) (es : List Token) → token_spans (blanks texts before white es) ≡ token_spans es
+blanks-spans texts before white [] = refl
+blanks-spans texts before white (token.White ∷ es) = blanks-spans texts before true es
+blanks-spans texts before white (token.LineEnd line ∷ es) = blanks-spans texts (at_line_front texts before line) false es
+blanks-spans texts before white (e ∷ es) =
+    white-spans (is_some before && white) (e ∷ blanks texts (Some e) false es)
+    ∙ spans-first e (blanks texts (Some e) false es) es (blanks-spans texts (Some e) false es)
 
-line_item-spans : (lines : List SourceLine) (counted : Origin) (line : ℕ) (ss : List Span) (items : List Item) → item_spans items ≡ ss → item_spans (line_item lines counted line ∷ items) ≡ ss
-line_item-spans lines counted line ss items h = by (goes_on lines counted line)
+macro_blanks-spans : (texts : List (List ℕ)) (in_name : Bool) (before : Option Token) (white : Bool) (es : List Token)
+    → token_spans (macro_blanks texts in_name before white es) ≡ token_spans es
+macro_blanks-spans texts in_name before white [] = refl
+macro_blanks-spans texts in_name before white (token.White ∷ es) = macro_blanks-spans texts in_name before true es
+macro_blanks-spans texts in_name before white (token.LineEnd line ∷ es) =
+    white-spans (has_blank_at_line_end texts in_name before (next_item es)) (token.LineEnd line ∷ macro_blanks texts false None false es)
+    ∙ macro_blanks-spans texts false None false es
+macro_blanks-spans texts in_name before white (e ∷ es) =
+    let in_name_after : Bool = in_name && not white && is_name_part e in
+    white-spans (is_some before && white) (e ∷ macro_blanks texts in_name_after (Some e) false es)
+    ∙ spans-first e (macro_blanks texts in_name_after (Some e) false es) es (macro_blanks-spans texts in_name_after (Some e) false es)
+
+line_item-spans : (lines : List SourceLine) (continued : Bool) (counted : Origin) (line : ℕ) (ss : List Span) (items : List Item)
+    → item_spans items ≡ ss → item_spans (line_item lines continued counted line ∷ items) ≡ ss
+line_item-spans lines continued counted line ss items h = by (continued || is_expected lines counted line)
   where
     by : (b : Bool) → item_spans (cond b item.LineEnd (item.LineMark (origin_at lines (line + 1))) ∷ items) ≡ ss
     by true = h
     by false = h
 
-items_by_origin-spans : (lines : List SourceLine) (counted : Origin) (es : List Token) → item_spans (items_by_origin lines counted es) ≡ token_spans es
-items_by_origin-spans lines counted [] = refl
-items_by_origin-spans lines counted (token.LineEnd line ∷ es) =
-    line_item-spans lines counted line _ _ (items_by_origin-spans lines (counted_after_line_end lines counted line) es)
-items_by_origin-spans lines counted (token.UseOf occurrence line ∷ es) = items_by_origin-spans lines _ es
-items_by_origin-spans lines counted (token.AllMacros line ∷ es) = items_by_origin-spans lines _ es
-items_by_origin-spans lines counted (token.QuoteBreak ∷ es) = items_by_origin-spans lines _ es
-items_by_origin-spans lines counted (token.Span span_kind.Word s ∷ es) = ap (λ ss. s ∷ ss) (items_by_origin-spans lines counted es)
-items_by_origin-spans lines counted (token.Span span_kind.Sign s ∷ es) = ap (λ ss. s ∷ ss) (items_by_origin-spans lines counted es)
-items_by_origin-spans lines counted (token.Span span_kind.Quoted s ∷ es) = ap (λ ss. s ∷ ss) (items_by_origin-spans lines counted es)
-items_by_origin-spans lines counted (token.Span span_kind.Verbatim s ∷ es) = ap (λ ss. s ∷ ss) (items_by_origin-spans lines counted es)
-items_by_origin-spans lines counted (_ ∷ es) = items_by_origin-spans lines counted es
+items_by_origin-spans : (lines : List SourceLine) (before : Option Token) (counted : Origin) (es : List Token)
+    → item_spans (items_by_origin lines before counted es) ≡ token_spans es
+items_by_origin-spans lines before counted [] = refl
+items_by_origin-spans lines before counted (token.LineEnd line ∷ es) =
+    let continued : Bool = is_continued (texts_of lines) before in
+    line_item-spans lines continued counted line _ _
+    (items_by_origin-spans lines (at_line_front (texts_of lines) before line) (counted_after_line_end lines continued counted line) es)
+items_by_origin-spans lines before counted (token.White ∷ es) = items_by_origin-spans lines before counted es
+items_by_origin-spans lines before counted (token.UseOf occurrence line ∷ es) =
+    items_by_origin-spans lines (Some (token.UseOf occurrence line)) (origin_at lines line) es
+items_by_origin-spans lines before counted (token.AllMacros line ∷ es) =
+    items_by_origin-spans lines (Some (token.AllMacros line)) (origin_at lines line) es
+items_by_origin-spans lines before counted (token.QuoteBreak ∷ es) = items_by_origin-spans lines (Some token.QuoteBreak) (next_line counted) es
+items_by_origin-spans lines before counted (token.Span span_kind.Word s ∷ es) =
+    ap (λ ss. s ∷ ss) (items_by_origin-spans lines (Some (token.Span span_kind.Word s)) counted es)
+items_by_origin-spans lines before counted (token.Span span_kind.Sign s ∷ es) =
+    ap (λ ss. s ∷ ss) (items_by_origin-spans lines (Some (token.Span span_kind.Sign s)) counted es)
+items_by_origin-spans lines before counted (token.Span span_kind.Quoted s ∷ es) =
+    ap (λ ss. s ∷ ss) (items_by_origin-spans lines (Some (token.Span span_kind.Quoted s)) counted es)
+items_by_origin-spans lines before counted (token.Span span_kind.Verbatim s ∷ es) =
+    ap (λ ss. s ∷ ss) (items_by_origin-spans lines (Some (token.Span span_kind.Verbatim s)) counted es)
+items_by_origin-spans lines before counted (e ∷ es) = items_by_origin-spans lines (Some e) counted es
 
 unmarked_items-spans : (es : List Token) → item_spans (unmarked_items es) ≡ token_spans es
 unmarked_items-spans [] = refl
@@ -126,10 +154,9 @@ without_front-spans (_ ∷ es) = refl
 -- the items of a C part have the spans of its tokens
 pub part-spans : (lines : List SourceLine) (line : ℕ) (es : List Token) → item_spans (part_items lines line es) ≡ token_spans es
 part-spans lines line es =
-    let with_white_space : List Token = with_spaces (without_faults es) in
-    items_by_origin-spans lines (origin_at lines line) (blanks false false (without_joins [] with_white_space))
-    ∙ blanks-spans false false (without_joins [] with_white_space)
-    ∙ without_joins-spans [] with_white_space tt
+    items_by_origin-spans lines None (origin_at lines line) (blanks (texts_of lines) None false (part_tokens es))
+    ∙ blanks-spans (texts_of lines) None false (part_tokens es)
+    ∙ without_joins-spans [] (with_spaces (without_faults es)) tt
     ∙ with_spaces-spans (without_faults es)
     ∙ without_faults-spans es
 
@@ -137,10 +164,9 @@ part-spans lines line es =
 pub macro-spans : (texts : List (List ℕ)) (es : List Token) → item_spans (macro_items texts es) ≡ token_spans es
 macro-spans texts es =
     let front : List Token = without_front_gaps (without_faults es) in
-    let with_white_space : List Token = with_name_space texts (with_spaces front) in
-    unmarked_items-spans (blanks false false (without_joins [] with_white_space))
-    ∙ blanks-spans false false (without_joins [] with_white_space)
-    ∙ without_joins-spans [] with_white_space tt
+    unmarked_items-spans (macro_blanks texts true None false (macro_tokens texts es))
+    ∙ macro_blanks-spans texts true None false (macro_tokens texts es)
+    ∙ without_joins-spans [] (with_name_space texts (with_spaces front)) tt
     ∙ with_name_space-spans texts (with_spaces front)
     ∙ with_spaces-spans front
     ∙ without_front-spans (without_faults es)

@@ -1,5 +1,5 @@
 -- The numbers of occurrences stay below their count, from lexemes over the rules to pieces.
-use Rattle.std.proofs.Common.{◌≡◌, length, map, arith, subst, ◌<◌, ℕ, ◌+◌, Bool, true, false, ◌&&◌, List, [], ◌∷◌, ◌++◌, flat_map, if◌then◌else◌}
+use Rattle.std.proofs.Common.{◌≡◌, length, map, arith, subst, ◌<◌, ℕ, ◌+◌, Bool, true, false, ◌&&◌, ◌||◌, Option, Some, None, is_some, List, [], ◌∷◌, ◌++◌, flat_map, if◌then◌else◌}
 use Rattle.std.specs.List.{AllByRecursion, All}
 use Rattle.std.specs.Option.{IfSome}
 use Rattle.std.proofs.lemmas.List.Elements.{All-from_recursion, All-weaker}
@@ -11,8 +11,10 @@ use Rattle.tangle_lexer.specs.declared.tokens.SpanKind.TheVariants as span_kind
 use Rattle.tangle_lexer.specs.declared.tokens.Token.TheVariants as token
 use Rattle.tangle_scan.specs.declared.items.Item.{Item}
 use Rattle.tangle_scan.specs.declared.items.Item.TheVariants as item
-use Rattle.tangle_scan.specs.Rules.{without_faults, would_merge, with_spaces, with_name_space, without_front_gaps, has_join, left_of_run, without_joins, blanks, goes_on, line_item, counted_after_line_end, items_by_origin, unmarked_items, part_items, macro_items, next_line, is_macro}
-use Rattle.tangle_scan.specs.Web.{PieceRead, body, block_at, blocks, section_after, piece_of, macro_of, texts_of, web_of}
+use Rattle.tangle_scan.specs.Rules.{texts_of, without_faults, would_merge, with_spaces, has_join, left_of_run, without_joins, macro_tokens}
+use Rattle.tangle_scan.specs.Rules.{is_continued, at_line_front, blanks, macro_blanks, is_expected, line_item, items_by_origin, unmarked_items}
+use Rattle.tangle_scan.specs.Rules.{next_line, counted_after_line_end, part_items, macro_items, is_macro}
+use Rattle.tangle_scan.specs.Web.{PieceRead, body, block_at, blocks, section_after, piece_of, macro_of, web_of}
 use Rattle.tangle_lexer.specs.Heads.{is_head}
 use Rattle.tangle_scan.specs.WellFormed.{IsUseBelow, OccurrencesAreInRange}
 use Rattle.tangle_text.specs.Text.{text_from}
@@ -51,42 +53,57 @@ without_joins-below count run (token.LineEnd line ∷ es) h k =
 without_joins-below count run (e ∷ es) h k =
     below-append count (left_of_run run) (e ∷ without_joins [] es) (left-below count (has_join run) run h) (k.0, without_joins-below count [] es tt k.1)
 
-blanks-below : (count : ℕ) (before white : Bool) (es : List Token) → AreBelow count es → AreBelow count (blanks before white es)
-blanks-below count before white [] h = tt
-blanks-below count before white (token.White ∷ es) h = blanks-below count before true es h.1
-blanks-below count before white (token.LineEnd line ∷ es) h = (tt, blanks-below count false false es h.1)
-blanks-below count before white (e ∷ es) h =
-    white-below count (before && white) (e ∷ blanks true false es) (h.0, blanks-below count true false es h.1)
+blanks-below : (count : ℕ) (texts : List (List ℕ)) (before : Option Token) (white : Bool) (es : List Token)
+    → AreBelow count es → AreBelow count (blanks texts before white es)
+blanks-below count texts before white [] h = tt
+blanks-below count texts before white (token.White ∷ es) h = blanks-below count texts before true es h.1
+blanks-below count texts before white (token.LineEnd line ∷ es) h = (tt, blanks-below count texts (at_line_front texts before line) false es h.1)
+blanks-below count texts before white (e ∷ es) h =
+    white-below count (is_some before && white) (e ∷ blanks texts (Some e) false es) (h.0, blanks-below count texts (Some e) false es h.1)
 
 abbrev AreUsesBelow : ℕ → List Item → Type 0
 AreUsesBelow count items = AllByRecursion (IsUseBelow count) items
 
-line_item-below : (count : ℕ) (lines : List SourceLine) (origin : Origin) (line : ℕ) → IsUseBelow count (line_item lines origin line)
-line_item-below count lines origin line = by (goes_on lines origin line)
+line_item-below : (count : ℕ) (lines : List SourceLine) (continued : Bool) (origin : Origin) (line : ℕ)
+    → IsUseBelow count (line_item lines continued origin line)
+line_item-below count lines continued origin line = by (continued || is_expected lines origin line)
   where
     by : (b : Bool) → IsUseBelow count (if b then item.LineEnd else item.LineMark (origin_at lines (line + 1)))
     by true = tt
     by false = tt
 
-items_by_origin-below : (count : ℕ) (lines : List SourceLine) (origin : Origin) (es : List Token) → AreBelow count es → AreUsesBelow count (items_by_origin lines origin es)
-items_by_origin-below count lines origin [] h = tt
-items_by_origin-below count lines origin (token.LineEnd line ∷ es) h =
-    (line_item-below count lines origin line, items_by_origin-below count lines (counted_after_line_end lines origin line) es h.1)
-items_by_origin-below count lines origin (token.QuoteBreak ∷ es) h = (tt, items_by_origin-below count lines (next_line origin) es h.1)
-items_by_origin-below count lines origin (token.Span span_kind.Word s ∷ es) h = (tt, items_by_origin-below count lines origin es h.1)
-items_by_origin-below count lines origin (token.Span span_kind.Sign s ∷ es) h = (tt, items_by_origin-below count lines origin es h.1)
-items_by_origin-below count lines origin (token.Span span_kind.Quoted s ∷ es) h = (tt, items_by_origin-below count lines origin es h.1)
-items_by_origin-below count lines origin (token.Span span_kind.Verbatim s ∷ es) h = (tt, items_by_origin-below count lines origin es h.1)
-items_by_origin-below count lines origin (token.AsciiConstant value line ∷ es) h = (tt, items_by_origin-below count lines origin es h.1)
-items_by_origin-below count lines origin (token.White ∷ es) h = (tt, items_by_origin-below count lines origin es h.1)
-items_by_origin-below count lines origin (token.UseOf occurrence line ∷ es) h = (h.0, (tt, items_by_origin-below count lines (origin_at lines line) es h.1))
-items_by_origin-below count lines origin (token.AllMacros line ∷ es) h = (tt, (tt, items_by_origin-below count lines (origin_at lines line) es h.1))
-items_by_origin-below count lines origin (_ ∷ es) h = items_by_origin-below count lines origin es h.1
+items_by_origin-below : (count : ℕ) (lines : List SourceLine) (before : Option Token) (origin : Origin) (es : List Token)
+    → AreBelow count es → AreUsesBelow count (items_by_origin lines before origin es)
+items_by_origin-below count lines before origin [] h = tt
+items_by_origin-below count lines before origin (token.LineEnd line ∷ es) h =
+    let continued : Bool = is_continued (texts_of lines) before in (
+      line_item-below count lines continued origin line,
+      items_by_origin-below count lines (at_line_front (texts_of lines) before line) (counted_after_line_end lines continued origin line) es h.1,
+    )
+items_by_origin-below count lines before origin (token.QuoteBreak ∷ es) h =
+    (tt, items_by_origin-below count lines (Some token.QuoteBreak) (next_line origin) es h.1)
+items_by_origin-below count lines before origin (token.Span span_kind.Word s ∷ es) h =
+    (tt, items_by_origin-below count lines (Some (token.Span span_kind.Word s)) origin es h.1)
+items_by_origin-below count lines before origin (token.Span span_kind.Sign s ∷ es) h =
+    (tt, items_by_origin-below count lines (Some (token.Span span_kind.Sign s)) origin es h.1)
+items_by_origin-below count lines before origin (token.Span span_kind.Quoted s ∷ es) h =
+    (tt, items_by_origin-below count lines (Some (token.Span span_kind.Quoted s)) origin es h.1)
+items_by_origin-below count lines before origin (token.Span span_kind.Verbatim s ∷ es) h =
+    (tt, items_by_origin-below count lines (Some (token.Span span_kind.Verbatim s)) origin es h.1)
+items_by_origin-below count lines before origin (token.AsciiConstant value line ∷ es) h =
+    (tt, items_by_origin-below count lines (Some (token.AsciiConstant value line)) origin es h.1)
+items_by_origin-below count lines before origin (token.White ∷ es) h = (tt, items_by_origin-below count lines before origin es h.1)
+items_by_origin-below count lines before origin (token.UseOf occurrence line ∷ es) h =
+    (h.0, (tt, items_by_origin-below count lines (Some (token.UseOf occurrence line)) (origin_at lines line) es h.1))
+items_by_origin-below count lines before origin (token.AllMacros line ∷ es) h =
+    (tt, (tt, items_by_origin-below count lines (Some (token.AllMacros line)) (origin_at lines line) es h.1))
+items_by_origin-below count lines before origin (e ∷ es) h = items_by_origin-below count lines (Some e) origin es h.1
 
 part_items-below : (count : ℕ) (lines : List SourceLine) (line : ℕ) (es : List Token) → AreBelow count es → AreUsesBelow count (part_items lines line es)
 part_items-below count lines line es h =
-    items_by_origin-below count lines (origin_at lines line) _
-    (blanks-below count false false _ (without_joins-below count [] _ tt (with_spaces-below count _ (without_faults-below count es h))))
+    items_by_origin-below count lines None (origin_at lines line) _
+    (blanks-below count (texts_of lines) None false _
+    (without_joins-below count [] _ tt (with_spaces-below count _ (without_faults-below count es h))))
 
 -- a macro has no uses
 unmarked_items-none : (es : List Token) → AreUsesBelow 0 (unmarked_items es)
@@ -102,8 +119,7 @@ unmarked_items-none (token.White ∷ es) = (tt, unmarked_items-none es)
 unmarked_items-none (_ ∷ es) = unmarked_items-none es
 
 macro_items-none : (texts : List (List ℕ)) (es : List Token) → AreUsesBelow 0 (macro_items texts es)
-macro_items-none texts es =
-    unmarked_items-none (blanks false false (without_joins [] (with_name_space texts (with_spaces (without_front_gaps (without_faults es))))))
+macro_items-none texts es = unmarked_items-none (macro_blanks texts true None false (macro_tokens texts es))
 
 -- from tokens to pieces
 

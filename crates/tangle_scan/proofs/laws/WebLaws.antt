@@ -9,13 +9,13 @@ use Rattle.tangle_lines.specs.Reading.{no_line}
 use Rattle.tangle_text.specs.declared.spans.Span.{Span}
 use Rattle.tangle_scan.specs.declared.items.Item.{Item}
 use Rattle.tangle_scan.specs.declared.items.Item.TheVariants as item
-use Rattle.tangle_scan.specs.Rules.{part_items, macro_items, is_macro}
+use Rattle.tangle_scan.specs.Rules.{texts_of, part_items, macro_items, is_macro}
 use Rattle.tangle_text.specs.Text.{text_from}
 use Rattle.tangle_lexer.specs.Steps.{first_state, tokens_from, all_tokens}
-use Rattle.tangle_scan.specs.Web.{web_of, PieceRead, Block, BlockKind, blocks, piece_of, kind_piece, macro_of, kind_macro, texts_of}
+use Rattle.tangle_scan.specs.Web.{web_of, PieceRead, Block, BlockKind, blocks, piece_of, kind_piece, macro_of, kind_macro}
 use Rattle.tangle_scan.specs.Web.BlockKind.{OfMacro, OfPiece}
 use Rattle.tangle_scan.specs.SourceOrder.{IsSpan, IsInRange, SpansAreInRange, item_spans, SpansAreInOrder}
-use Rattle.tangle_scan.specs.LineTruth.{IsAtItsLine, kind_locations, PiecesAreAtTheirLines}
+use Rattle.tangle_scan.specs.LineTruth.{Location, IsAtItsLine, kind_locations, PiecesAreAtTheirLines}
 use Rattle.tangle_lexer.proofs.laws.Points.{point_at, text-is}
 use Rattle.tangle_lexer.proofs.laws.LexemeOrder.{AreSomewhere, lexemes-in_order}
 use Rattle.tangle_scan.proofs.laws.ItemSpans.{token_spans, part-spans, macro-spans}
@@ -112,15 +112,21 @@ module _ (lines : List SourceLine) where
       All-cons (All (IsInRange (texts_of lines))) m ms
       (items-in-range m (flat_map item_spans ms) h) (macros-in-range ms (ordered-suffix (width lines) (length lines) (item_spans m) (flat_map item_spans ms) h))
 
+  -- the source items of each piece are at their lines
+  abbrev AreAtTheirLines : List PieceRead → List (List Location) → Type 0
+  AreAtTheirLines pieces locations = AllZip (λ p ts. IsAtItsLine lines p.origin p.items ts) pieces locations
+
+  -- where the source items of each piece that is one of these blocks are
+  abbrev block_locations : List Block → List (List Location)
+  block_locations ps = flat_map (λ p. kind_locations lines p.kind p.tokens) ps
+
   -- the blocks whose source items follow one another by lines are at their lines
-  blocks-true : (ps : List Block) → AllFlow (length lines) ps
-      → AllZip (λ p locations. IsAtItsLine lines p.origin p.items locations) (flat_map (piece_of lines) ps) (flat_map (λ p. kind_locations p.kind p.tokens) ps)
+  blocks-true : (ps : List Block) → AllFlow (length lines) ps → AreAtTheirLines (flat_map (piece_of lines) ps) (block_locations ps)
   blocks-true [] flow = tt
   blocks-true (p ∷ ps) flow = by p.kind flow.0 (blocks-true ps flow.1)
     where
-      by : (k : BlockKind) → kind_flows (length lines) k p
-          → AllZip (λ p locations. IsAtItsLine lines p.origin p.items locations) (flat_map (piece_of lines) ps) (flat_map (λ p. kind_locations p.kind p.tokens) ps)
-          → AllZip (λ p locations. IsAtItsLine lines p.origin p.items locations) (kind_piece lines k p ++ flat_map (piece_of lines) ps) (kind_locations k p.tokens ++ flat_map (λ p. kind_locations p.kind p.tokens) ps)
+      by : (k : BlockKind) → kind_flows (length lines) k p → AreAtTheirLines (flat_map (piece_of lines) ps) (block_locations ps)
+          → AreAtTheirLines (kind_piece lines k p ++ flat_map (piece_of lines) ps) (kind_locations lines k p.tokens ++ block_locations ps)
       by (OfMacro line) f rest = rest
       by (OfPiece occurrence line) f rest = (part-true lines line p.tokens f, rest)
 

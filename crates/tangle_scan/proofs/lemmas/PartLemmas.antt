@@ -1,5 +1,5 @@
 -- Rules 1 to 5 for a C part, in one pass over its tokens.
-use Rattle.std.proofs.Common.{◌≡◌, ℕ, Bool, true, false, ◌||◌, ◌&&◌, not, if◌then◌else◌, refl, ap}
+use Rattle.std.proofs.Common.{◌≡◌, ℕ, Bool, true, false, ◌||◌, ◌&&◌, not, if◌then◌else◌, refl, ap, Option, None, Some, is_some}
 use Rattle.std.proofs.Common.{List, [], ◌∷◌, ◌++◌, sym, ◌∙◌, append_assoc, append-nil}
 use Rattle.tangle_lexer.specs.declared.tokens.Token.{Token}
 use Rattle.tangle_lexer.specs.declared.tokens.SpanKind.TheVariants as span_kind
@@ -13,10 +13,10 @@ use Rattle.tangle_scan.specs.declared.rare_parts.Last.TheVariants as last
 use Rattle.tangle_scan.specs.declared.spacing.Stage.TheVariants as stage
 use Rattle.tangle_scan.specs.Rules.{without_faults, with_spaces, would_merge, is_constant}
 use Rattle.tangle_scan.specs.Rules.{is_word_token, without_joins, left_of_run, is_gap}
-use Rattle.tangle_scan.specs.Rules.{is_join, has_join, blanks, items_by_origin, line_item}
-use Rattle.tangle_scan.specs.Rules.{counted_after_line_end, part_items}
-use Rattle.tangle_scan.specs.Passes.{joins_ahead, touches, needs_blank, last_after_white, last_of}
-use Rattle.tangle_scan.specs.Passes.{is_joined, rare_items_ahead, items_at, counted_after_token, with_white_space}
+use Rattle.tangle_scan.specs.Rules.{is_join, has_join, texts_of, is_continued, at_line_front, ends_in_backslash}
+use Rattle.tangle_scan.specs.Rules.{blanks, items_by_origin, line_item, counted_after_line_end, part_items}
+use Rattle.tangle_scan.specs.Passes.{joins_ahead, touches, needs_blank, last_after_white, last_after_line_end, last_of}
+use Rattle.tangle_scan.specs.Passes.{is_joined, continues_after, rare_items_ahead, items_at, counted_after_token, with_white_space}
 use Rattle.tangle_scan.proofs.lemmas.RuleLemmas.{without_joins-item, has_join-push}
 use Rattle.tangle_scan.proofs.lemmas.SpacingLemmas.{after-line, after-join, spaced-inside}
 use Rattle.tangle_scan.proofs.lemmas.PlainPartLemmas.{items_by_origin-blank}
@@ -153,89 +153,108 @@ left-joined (token.White ∷ es) h = rw h (left-joined es h)
 left-joined (token.LineEnd line ∷ es) h = rw h (left-joined es h)
 left-joined (e ∷ es) h = cc
 
--- rule 3 after a join: an item comes next, and no blank
-blanks-joined : (i : Bool) (es : List Token) →
-    blanks i false (left true token.White es) ≡ blanks false false (left true token.White es)
-blanks-joined false es = refl
-blanks-joined true [] = refl
-blanks-joined true (token.Fault kind line ∷ es) = blanks-joined true es
-blanks-joined true (token.Join ∷ es) = blanks-joined true es
-blanks-joined true (token.White ∷ es) = blanks-joined true es
-blanks-joined true (token.LineEnd line ∷ es) = blanks-joined true es
-blanks-joined true (e ∷ es) = refl
+-- rules 3 to 5 after a join: an item comes next, and no blank
+after-join-items : (lines : List SourceLine) (b : Option Token) (counted : Origin) (es : List Token) →
+    items_by_origin lines b counted (blanks (texts_of lines) b false (left true token.White es))
+    ≡ items_by_origin lines None counted (blanks (texts_of lines) None false (left true token.White es))
+after-join-items lines None counted es = refl
+after-join-items lines (Some x) counted [] = refl
+after-join-items lines (Some x) counted (token.Fault kind line ∷ es) = after-join-items lines (Some x) counted es
+after-join-items lines (Some x) counted (token.Join ∷ es) = after-join-items lines (Some x) counted es
+after-join-items lines (Some x) counted (token.White ∷ es) = after-join-items lines (Some x) counted es
+after-join-items lines (Some x) counted (token.LineEnd line ∷ es) = after-join-items lines (Some x) counted es
+after-join-items lines (Some x) counted (e ∷ es) = refl
 
 -- where no item is before, white space is nothing
-blanks-front : (es : List Token) → blanks false false es ≡ blanks false true es
-blanks-front [] = refl
-blanks-front (token.White ∷ es) = refl
-blanks-front (token.LineEnd line ∷ es) = refl
-blanks-front (e ∷ es) = refl
+blanks-front : (texts : List (List ℕ)) (es : List Token) → blanks texts None false es ≡ blanks texts None true es
+blanks-front texts [] = refl
+blanks-front texts (token.White ∷ es) = refl
+blanks-front texts (token.LineEnd line ∷ es) = refl
+blanks-front texts (e ∷ es) = refl
 
--- the flags of rule 3 by what is last; the second is whether a join comes
+blanks-at-front : (texts : List (List ℕ)) (b : Option Token) (es : List Token) → is_some b ≡ false → blanks texts b false es ≡ blanks texts b true es
+blanks-at-front texts None es h = blanks-front texts es
+blanks-at-front texts (Some x) es h = cc
 
-abbrev is_item : Last → Bool
-is_item last.Front = false
-is_item last.Joined = false
-is_item _ = true
+-- What rule 3 knows, by what is last: whether white space is a blank, if an item comes, and whether white space is before that will stay,
+-- where the flag says whether a join comes.
+
+abbrev keeps_white : Last → Bool
+keeps_white last.Front = false
+keeps_white last.Joined = false
+keeps_white _ = true
 
 abbrev is_white : Last → Bool → Bool
 is_white last.White joins = not joins
+is_white last.ContinuedWhite joins = not joins
 is_white _ joins = false
 
-step-white : (at : Last) (j : Bool) (x : Bool → List Token) →
+step-white : (texts : List (List ℕ)) (b : Option Token) (at : Last) (j : Bool) (x : Bool → List Token) → is_some b ≡ keeps_white at →
     let next = last_after_white at in
-    blanks (is_item next) (is_white next j) (x (is_joined next))
-    ≡ blanks (is_item at) (is_white at j)
+    blanks texts b (is_white next j) (x (is_joined next))
+    ≡ blanks texts b (is_white at j)
     (unless (is_joined at || j) (token.White ∷ []) ++ x (is_joined at))
-step-white last.Joined j x = refl
-step-white last.Front true x = refl
-step-white last.Front false x = blanks-front (x false)
-step-white _ true x = refl
-step-white _ false x = refl
+step-white texts b last.Joined j x h = refl
+step-white texts b last.Front true x h = refl
+step-white texts b last.Front false x h = blanks-at-front texts b (x false) h
+step-white texts b _ true x h = refl
+step-white texts b _ false x h = refl
 
-step-line : (lines : List SourceLine) (counted : Origin) (line : ℕ) (at : Last) (j : Bool)
+step-line : (lines : List SourceLine) (b : Option Token) (counted : Origin) (line : ℕ) (at : Last) (j : Bool)
     (x : Bool → List Token) (joined front : List Item) →
+    let continued : Bool = is_continued (texts_of lines) b in
     (j ≡ true → x false ≡ x true) →
-    ((i : Bool) → blanks i false (x true) ≡ blanks false false (x true)) →
-    joined ≡ items_by_origin lines counted (blanks false false (x true)) →
-    front ≡ items_by_origin lines (counted_after_line_end lines counted line) (blanks false false (x false)) →
-    (if is_joined at || j then joined else line_item lines counted line ∷ front)
-    ≡ items_by_origin lines counted (blanks (is_item at) (is_white at j)
+    joined ≡ items_by_origin lines b counted (blanks (texts_of lines) b false (x true)) →
+    front ≡ items_by_origin lines (at_line_front (texts_of lines) b line) (counted_after_line_end lines continued counted line)
+    (blanks (texts_of lines) (at_line_front (texts_of lines) b line) false (x false)) →
+    (if is_joined at || j then joined else line_item lines continued counted line ∷ front)
+    ≡ items_by_origin lines b counted (blanks (texts_of lines) b (is_white at j)
     (unless (is_joined at || j) (token.LineEnd line ∷ []) ++ x (is_joined at)))
-step-line lines counted line last.Joined j x joined front same none is is_front = is
-step-line lines counted line at true x joined front same none is is_front =
-    let apart = sym (none (is_item at)) ∙ ap (blanks (is_item at) false) (sym (same refl)) in
-    is ∙ ap (items_by_origin lines counted) apart
-step-line lines counted line _ false x joined front same none is is_front =
-    ap (λ t. line_item lines counted line ∷ t) is_front
+step-line lines b counted line last.Joined j x joined front same is is_front = is
+step-line lines b counted line at true x joined front same is is_front =
+    is
+    ∙ (ap (λ es. items_by_origin lines b counted (blanks (texts_of lines) b false es)) (sym (same refl))
+    ∙ after-line at)
+  where
+    after-line : (at : Last) → items_by_origin lines b counted (blanks (texts_of lines) b false (x false))
+        ≡ items_by_origin lines b counted (blanks (texts_of lines) b (is_white at true) (unless (is_joined at || true) (token.LineEnd line ∷ []) ++ x false))
+    after-line last.Front = refl
+    after-line last.Joined = refl
+    after-line last.White = refl
+    after-line last.ContinuedWhite = refl
+    after-line _ = refl
+step-line lines b counted line _ false x joined front same is is_front =
+    ap (λ t. line_item lines (is_continued (texts_of lines) b) counted line ∷ t) is_front
 
-step-touch : (e : Token) (x : List Token) (t : Bool) → is_solid e ≡ true →
-    blanks true false (white_if t ++ e ∷ x) ≡ white_if t ++ e ∷ blanks true false x
-step-touch e x true h = blanks-solid true true e x h
-step-touch e x false h = blanks-solid true false e x h
+step-touch : (texts : List (List ℕ)) (b : Option Token) (e : Token) (x : List Token) (t : Bool) → is_some b ≡ true → is_solid e ≡ true →
+    blanks texts b false (white_if t ++ e ∷ x) ≡ white_if t ++ e ∷ blanks texts (Some e) false x
+step-touch texts b e x true some h = blanks-solid texts b true e x h ∙ rw some refl
+step-touch texts b e x false some h = blanks-solid texts b false e x h ∙ rw some refl
 
-step-blank : (at : Last) (e : Token) (x : List Token) → is_solid e ≡ true →
-    blanks (is_item at) (is_white at false) (white_if (touches at e) ++ e ∷ x)
-    ≡ white_if (needs_blank at e) ++ e ∷ blanks true false x
-step-blank last.Front e x h = blanks-solid false false e x h
-step-blank last.Joined e x h = blanks-solid false false e x h
-step-blank last.Other e x h = blanks-solid true false e x h
-step-blank last.Word e x h = step-touch e x (is_constant e) h
-step-blank last.AsciiConstant e x h = step-touch e x (is_constant e || is_word_token e) h
-step-blank last.White e x h = blanks-solid true true e x h
+step-blank : (texts : List (List ℕ)) (b : Option Token) (at : Last) (e : Token) (x : List Token) → is_some b ≡ keeps_white at → is_solid e ≡ true →
+    blanks texts b (is_white at false) (white_if (touches at e) ++ e ∷ x)
+    ≡ white_if (needs_blank at e) ++ e ∷ blanks texts (Some e) false x
+step-blank texts b last.Front e x some h = blanks-solid texts b false e x h ∙ rw some refl
+step-blank texts b last.Joined e x some h = blanks-solid texts b false e x h ∙ rw some refl
+step-blank texts b last.Continued e x some h = blanks-solid texts b false e x h ∙ rw some refl
+step-blank texts b last.ContinuedWhite e x some h = blanks-solid texts b true e x h ∙ rw some refl
+step-blank texts b last.Other e x some h = blanks-solid texts b false e x h ∙ rw some refl
+step-blank texts b last.Word e x some h = step-touch texts b e x (is_constant e) some h
+step-blank texts b last.AsciiConstant e x some h = step-touch texts b e x (is_constant e || is_word_token e) some h
+step-blank texts b last.White e x some h = blanks-solid texts b true e x h ∙ rw some refl
 
-step-item : (lines : List SourceLine) (at : Last) (counted : Origin) (e : Token) (x : List Token)
-    (rest : List Item) (merges : Bool) → is_solid e ≡ true → merges ≡ touches at e →
-    rest ≡ items_by_origin lines (counted_after_token lines counted e) (blanks true false x) →
+step-item : (lines : List SourceLine) (b : Option Token) (at : Last) (counted : Origin) (e : Token) (x : List Token)
+    (rest : List Item) (merges : Bool) → is_some b ≡ keeps_white at → is_solid e ≡ true → merges ≡ touches at e →
+    rest ≡ items_by_origin lines (Some e) (counted_after_token lines counted e) (blanks (texts_of lines) (Some e) false x) →
     (if needs_blank at e then item.Blank ∷ [] else []) ++ (items_at lines e ++ rest)
-    ≡ items_by_origin lines counted
-    (blanks (is_item at) (is_white at false) (white_if merges ++ e ∷ x))
-step-item lines at counted e x rest merges h is is_rest =
+    ≡ items_by_origin lines b counted
+    (blanks (texts_of lines) b (is_white at false) (white_if merges ++ e ∷ x))
+step-item lines b at counted e x rest merges some h is is_rest =
     rw (
       is,
-      step-blank at e x h,
-      items_by_origin-blank lines counted (needs_blank at e) (e ∷ blanks true false x),
-      items_by_origin-solid lines counted e (blanks true false x) h,
+      step-blank (texts_of lines) b at e x some h,
+      items_by_origin-blank lines b counted (needs_blank at e) (e ∷ blanks (texts_of lines) (Some e) false x),
+      items_by_origin-solid lines b counted e (blanks (texts_of lines) (Some e) false x) h,
       is_rest,
     ) refl
 
@@ -248,47 +267,115 @@ last-touches (token.Span span_kind.Word s) f = refl
 last-touches (token.AsciiConstant value line) f = or-false (is_constant f || is_word_token f)
 last-touches _ f = refl
 
-rare-left : (lines : List SourceLine) (at : Last) (counted : Origin) (before : Token) (es : List Token) →
+last-keeps : (e : Token) → true ≡ keeps_white (last_of e)
+last-keeps (token.Span span_kind.Word s) = refl
+last-keeps (token.AsciiConstant value line) = refl
+last-keeps _ = refl
+
+last-continues : (texts : List (List ℕ)) (e : Token) → ends_in_backslash texts e ≡ continues_after texts (last_of e) e
+last-continues texts (token.Span span_kind.Word s) = refl
+last-continues texts (token.AsciiConstant value line) = refl
+last-continues texts _ = refl
+
+white-keeps : (at : Last) → keeps_white at ≡ keeps_white (last_after_white at)
+white-keeps last.Front = refl
+white-keeps last.Joined = refl
+white-keeps last.Continued = refl
+white-keeps last.ContinuedWhite = refl
+white-keeps _ = refl
+
+white-continues : (texts : List (List ℕ)) (at : Last) (e : Token) → continues_after texts at e ≡ continues_after texts (last_after_white at) e
+white-continues texts last.Front e = refl
+white-continues texts last.Joined e = refl
+white-continues texts last.Continued e = refl
+white-continues texts last.ContinuedWhite e = refl
+white-continues texts _ e = refl
+
+white-touches : (at : Last) (e : Token) → would_merge token.White e ≡ touches (last_after_white at) e
+white-touches last.Front e = refl
+white-touches last.Joined e = refl
+white-touches last.Continued e = refl
+white-touches last.ContinuedWhite e = refl
+white-touches _ e = refl
+
+end-touches : (continued : Bool) (e : Token) → would_merge token.White e ≡ touches (last_after_line_end continued) e
+end-touches true e = refl
+end-touches false e = refl
+
+end-continues : (texts : List (List ℕ)) (continued : Bool) (e : Token) → false ≡ continues_after texts (last_after_line_end continued) e
+end-continues texts true e = refl
+end-continues texts false e = refl
+
+front-keeps : (texts : List (List ℕ)) (b : Option Token) (line : ℕ) →
+    is_some (at_line_front texts b line) ≡ keeps_white (last_after_line_end (is_continued texts b))
+front-keeps texts b line = by (is_continued texts b)
+  where
+    by : (c : Bool) → is_some (if c then Some (token.LineEnd line) else None) ≡ keeps_white (last_after_line_end c)
+    by true = refl
+    by false = refl
+
+front-continues : (texts : List (List ℕ)) (b : Option Token) (line : ℕ) → is_continued texts (at_line_front texts b line) ≡ false
+front-continues texts b line = by (is_continued texts b)
+  where
+    by : (c : Bool) → is_continued texts (if c then Some (token.LineEnd line) else None) ≡ false
+    by true = refl
+    by false = refl
+
+end-blanks : (texts : List (List ℕ)) (b : Option Token) (continued j : Bool) (es : List Token) →
+    blanks texts b (is_white (last_after_line_end continued) j) (left (is_joined (last_after_line_end continued)) token.White es)
+    ≡ blanks texts b false (left false token.White es)
+end-blanks texts b true j es = refl
+end-blanks texts b false j es = refl
+
+white-gone : (at : Last) → false ≡ is_white at true
+white-gone last.White = refl
+white-gone last.ContinuedWhite = refl
+white-gone _ = refl
+
+-- the token that rule 3 knows is one after which white space is as after what is last
+rare-left : (lines : List SourceLine) (b : Option Token) (at : Last) (item : Token) (counted : Origin) (before : Token) (es : List Token) →
+    is_some b ≡ keeps_white at → is_continued (texts_of lines) b ≡ continues_after (texts_of lines) at item →
     ((e : Token) → would_merge before e ≡ touches at e) →
-    rare_items_ahead lines at counted es
-    ≡ items_by_origin lines counted
-    (blanks (is_item at) (is_white at (joins_ahead es)) (left (is_joined at) before es))
-rare-left lines at counted before [] h = refl
-rare-left lines at counted before (token.Fault kind line ∷ es) h =
-    rare-left lines at counted before es h
-rare-left lines at counted before (token.Join ∷ es) h =
-    let white = ap (λ w. blanks (is_item at) w (left true token.White es)) (gone at) in
-    rare-left lines last.Joined counted token.White es (λ e. refl)
-    ∙ ap (items_by_origin lines counted) (sym (blanks-joined (is_item at) es) ∙ white)
-  where
-    gone : (at : Last) → false ≡ is_white at true
-    gone last.White = refl
-    gone _ = refl
-rare-left lines at counted before (token.White ∷ es) h =
-    rare-left lines (last_after_white at) counted token.White es (untouched at)
-    ∙ ap (items_by_origin lines counted) (step-white at (joins_ahead es) (λ b. left b token.White es))
-  where
-    untouched : (at : Last) (e : Token) → would_merge token.White e ≡ touches (last_after_white at) e
-    untouched last.Front e = refl
-    untouched last.Joined e = refl
-    untouched _ e = refl
-rare-left lines at counted before (token.LineEnd line ∷ es) h =
-    step-line lines counted line at (joins_ahead es) (λ b. left b token.White es) _ _
-    (left-joined es) (λ i. blanks-joined i es)
-    (rare-left lines last.Joined counted token.White es (λ e. refl))
-    (rare-left lines last.Front (counted_after_line_end lines counted line) token.White es (λ e. refl))
-rare-left lines at counted before (token.Span span_kind.Word s ∷ es) h =
+    rare_items_ahead lines at item counted es
+    ≡ items_by_origin lines b counted
+    (blanks (texts_of lines) b (is_white at (joins_ahead es)) (left (is_joined at) before es))
+rare-left lines b at item counted before [] some so h = refl
+rare-left lines b at item counted before (token.Fault kind line ∷ es) some so h =
+    rare-left lines b at item counted before es some so h
+rare-left lines b at item counted before (token.Join ∷ es) some so h =
+    rare-left lines None last.Joined item counted token.White es refl refl (λ e. refl)
+    ∙ (sym (after-join-items lines b counted es)
+    ∙ ap (λ w. items_by_origin lines b counted (blanks (texts_of lines) b w (left true token.White es))) (white-gone at))
+rare-left lines b at item counted before (token.White ∷ es) some so h =
+    rare-left lines b (last_after_white at) item counted token.White es (some ∙ white-keeps at)
+    (so ∙ white-continues (texts_of lines) at item) (white-touches at)
+    ∙ ap (items_by_origin lines b counted) (step-white (texts_of lines) b at (joins_ahead es) (λ k. left k token.White es) some)
+rare-left lines b at item counted before (token.LineEnd line ∷ es) some so h =
+    let continued = is_continued (texts_of lines) b in
+    let removed = rare-left lines None last.Joined item counted token.White es refl refl (λ e. refl) in
+    rw (← so)
+    (step-line lines b counted line at (joins_ahead es) (λ k. left k token.White es) _ _
+    (left-joined es)
+    (removed ∙ sym (after-join-items lines b counted es))
+    (rare-left lines (at_line_front (texts_of lines) b line) (last_after_line_end continued) item
+    (counted_after_line_end lines continued counted line) token.White es
+    (front-keeps (texts_of lines) b line)
+    (front-continues (texts_of lines) b line ∙ end-continues (texts_of lines) continued item)
+    (end-touches continued)
+    ∙ ap (items_by_origin lines (at_line_front (texts_of lines) b line) (counted_after_line_end lines continued counted line))
+    (end-blanks (texts_of lines) (at_line_front (texts_of lines) b line) continued (joins_ahead es) es)))
+rare-left lines b at item counted before (token.Span span_kind.Word s ∷ es) some so h =
     let e = token.Span span_kind.Word s in
-    step-item lines at counted e (left false e es) _ (would_merge before e) refl (h e)
-    (rare-left lines (last_of e) (counted_after_token lines counted e) e es (last-touches e))
-rare-left lines at counted before (e ∷ es) h =
-    step-item lines at counted e (left false e es) _ (would_merge before e) refl (h e)
-    (rare-left lines (last_of e) (counted_after_token lines counted e) e es (last-touches e))
+    step-item lines b at counted e (left false e es) _ (would_merge before e) some refl (h e)
+    (rare-left lines (Some e) (last_of e) e (counted_after_token lines counted e) e es (last-keeps e) (last-continues (texts_of lines) e) (last-touches e))
+rare-left lines b at item counted before (e ∷ es) some so h =
+    step-item lines b at counted e (left false e es) _ (would_merge before e) some refl (h e)
+    (rare-left lines (Some e) (last_of e) e (counted_after_token lines counted e) e es (last-keeps e) (last-continues (texts_of lines) e) (last-touches e))
 
 -- all the items of a C part
-pub part-rare : (lines : List SourceLine) (line : ℕ) (es : List Token) →
-    rare_items_ahead lines last.Front (origin_at lines line) es ≡ part_items lines line es
-part-rare lines line es =
+pub part-rare : (lines : List SourceLine) (line : ℕ) (item : Token) (es : List Token) →
+    rare_items_ahead lines last.Front item (origin_at lines line) es ≡ part_items lines line es
+part-rare lines line item es =
     let origin = origin_at lines line in
-    rare-left lines last.Front origin token.White es (λ e. refl)
-    ∙ ap (λ t. items_by_origin lines origin (blanks false false t)) (sym (spaced-left es))
+    rare-left lines None last.Front item origin token.White es refl refl (λ e. refl)
+    ∙ ap (λ t. items_by_origin lines None origin (blanks (texts_of lines) None false t)) (sym (spaced-left es))

@@ -1,42 +1,98 @@
 -- Stretches and the counted origin, on small lists.
-use Rattle.std.proofs.Common.{◌≡◌, ℕ, Bool, true, false, [], ◌∷◌, Some, None, refl}
+use Rattle.std.proofs.Common.{◌≡◌, ℕ, Bool, true, false, List, [], ◌∷◌, None, Some, codes, refl}
 use Rattle.tangle_faults.specs.declared.faults.Origin.{Origin}
 use Rattle.tangle_text.specs.declared.spans.Span.{Span}
+use Rattle.tangle_lines.specs.Reading.{SourceLine}
 use Rattle.tangle_scan.specs.declared.items.Item.TheVariants as item
+use Rattle.tangle_lexer.specs.declared.tokens.Token.{Token}
 use Rattle.tangle_lexer.specs.declared.tokens.SpanKind.TheVariants as span_kind
 use Rattle.tangle_lexer.specs.declared.tokens.Token.TheVariants as token
-use Rattle.tangle_scan.specs.LineTruth.{counted_items, Location, locations}
-
--- one byte in the first column of a line
-abbrev at : ℕ → Span
-at line = record { line = line; start = 0; end = 1 }
+use Rattle.tangle_scan.specs.Rules.{part_items}
+use Rattle.tangle_scan.specs.LineTruth.{counted_items, Location, tokens_and_joins, locations, part_locations}
 
 abbrev origin : ℕ → Origin
 origin line = record { file = 0; line = line }
 
-abbrev location : ℕ → Bool → Location
-location line in_stretch = record { item = item.Word (at line); line = line; in_stretch = in_stretch }
+-- the source: a line with one byte, a line that is a backslash, so that the next line continues it, and two more lines with one byte
+abbrev line : List ℕ → Origin → SourceLine
+line bytes origin = record { bytes = bytes; origin = origin; changed = false }
 
--- a join takes a line end away: what follows it is in a stretch, up to the next line end
+-- of the third line the origin is given
+abbrev source : Origin → List SourceLine
+source third = line (codes "a") (origin 0) ∷ line (codes "\\") (origin 1) ∷ line (codes "b") third ∷ line (codes "c") (origin 3) ∷ []
+
+-- the byte of a line
+abbrev at : ℕ → Span
+at line = record { line = line; start = 0; end = 1 }
+
+abbrev word : ℕ → Token
+word line = token.Span span_kind.Word (at line)
+
+abbrev sign : ℕ → Token
+sign line = token.Span span_kind.Sign (at line)
+
+abbrev word_location : ℕ → Bool → Location
+word_location line in_stretch = record { item = item.Word (at line); line = line; in_stretch = in_stretch }
+
+abbrev sign_location : ℕ → Bool → Location
+sign_location line in_stretch = record { item = item.Sign (at line); line = line; in_stretch = in_stretch }
+
+-- a join is left of a run with a join and a line end, nothing of one with a join only, and all of one with no join
+abbrev joins : List Token
+joins = word 1 ∷ token.White ∷ token.Join ∷ token.LineEnd 1 ∷ word 2 ∷ token.Join ∷ word 2 ∷ token.White ∷ token.LineEnd 2 ∷ word 3 ∷ []
+
+runs_with_joins : tokens_and_joins joins ≡ word 1 ∷ token.Join ∷ word 2 ∷ word 2 ∷ token.White ∷ token.LineEnd 2 ∷ word 3 ∷ []
+runs_with_joins = refl
+
+-- the join takes a line end away: what follows it is in a stretch, up to the next line end
 removed_line_end :
-    locations false false false
-    (token.Span span_kind.Word (at 1) ∷ token.White ∷ token.Join ∷ token.LineEnd 1 ∷ token.Span span_kind.Word (at 2) ∷ token.Join ∷ token.Span span_kind.Word (at 2) ∷ token.LineEnd 2 ∷ token.Span span_kind.Word (at 3) ∷ [])
-    ≡ location 1 false ∷ location 2 true ∷ location 2 true ∷ location 3 false ∷ []
+    part_locations (source (origin 2)) 1 joins ≡ word_location 1 false ∷ word_location 2 true ∷ word_location 2 true ∷ word_location 3 false ∷ []
 removed_line_end = refl
 
 -- so is what follows a line end in a quoted text, up to a mark
 quote_break :
-    locations false false false (token.QuoteBreak ∷ token.Span span_kind.Word (at 1) ∷ token.UseOf 0 1 ∷ token.Span span_kind.Word (at 1) ∷ [])
-    ≡ location 1 true ∷ location 1 false ∷ []
+    locations (source (origin 2)) None (origin 0) false (token.QuoteBreak ∷ word 2 ∷ token.UseOf 0 2 ∷ word 2 ∷ [])
+    ≡ word_location 2 true ∷ word_location 2 false ∷ []
 quote_break = refl
 
+-- the end of a continued line begins no stretch, if the next source line is the one that the count expects
+abbrev continued : List Token
+continued = sign 1 ∷ token.White ∷ token.LineEnd 1 ∷ word 2 ∷ token.LineEnd 2 ∷ word 3 ∷ []
+
+expected_line : part_locations (source (origin 2)) 1 continued ≡ sign_location 1 false ∷ word_location 2 false ∷ word_location 3 false ∷ []
+expected_line = refl
+
+-- if it is another, as a line of a change file, there is no mark for it, and it is in a stretch, which the next other line end ends
+abbrev other : Origin
+other = record { file = 1; line = 7 }
+
+other_line : part_locations (source other) 1 continued ≡ sign_location 1 false ∷ word_location 2 true ∷ word_location 3 false ∷ []
+other_line = refl
+
+other_line_counted :
+    counted_items (Some (origin 1)) (part_items (source other) 1 continued)
+    ≡ record { item = item.Sign (at 1); origin = Some (origin 1) }
+    ∷ record { item = item.Word (at 2); origin = Some (origin 2) }
+    ∷ record { item = item.Word (at 3); origin = Some (origin 3) }
+    ∷ []
+other_line_counted = refl
+
+-- the end of a continued line ends a stretch, if the next source line is the one that the count expects
+expected_after_break :
+    locations (source (origin 2)) None (origin 0) false (token.QuoteBreak ∷ sign 1 ∷ token.LineEnd 1 ∷ word 2 ∷ [])
+    ≡ sign_location 1 true ∷ word_location 2 false ∷ []
+expected_after_break = refl
+
 -- an ASCII constant has its line
-constant_line : locations false false false (token.AsciiConstant 65 7 ∷ []) ≡ record { item = item.Code 65; line = 7; in_stretch = false } ∷ []
+constant_line :
+    locations (source (origin 2)) None (origin 0) false (token.AsciiConstant 65 7 ∷ [])
+    ≡ record { item = item.Code 65; line = 7; in_stretch = false } ∷ []
 constant_line = refl
 
 -- the counted origin: each line end adds a line, a mark sets it, and after a use it is not known
 counted_lines :
-    counted_items (Some (origin 4)) (item.LineEnd ∷ item.Word (at 1) ∷ item.UseOf 0 ∷ item.Word (at 2) ∷ item.LineMark (origin 9) ∷ item.QuoteBreak ∷ item.Word (at 3) ∷ [])
+    counted_items (Some (origin 4))
+    (item.LineEnd ∷ item.Word (at 1) ∷ item.UseOf 0 ∷ item.Word (at 2) ∷ item.LineMark (origin 9) ∷ item.QuoteBreak ∷ item.Word (at 3) ∷ [])
     ≡ record { item = item.Word (at 1); origin = Some (origin 5) }
     ∷ record { item = item.Word (at 2); origin = None }
     ∷ record { item = item.Word (at 3); origin = Some (origin 10) }

@@ -1,5 +1,5 @@
 use Rattle.std.proofs.Common.{◌≡◌, ◌++◌, drop, flat_map}
-use Rattle.tangle_expansion.specs.MacroBytes.{macro_bytes}
+use Rattle.tangle_scan.specs.MacroBytes.{macro_bytes}
 use Rattle.tangle_expansion.proofs.macros.macros_bytes.Given as goal
 
 abbrev pub invariant-loop-definition : goal.invariant-loop-definition

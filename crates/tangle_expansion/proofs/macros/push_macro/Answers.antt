@@ -1,10 +1,11 @@
 use Rattle.std.proofs.Common.{All, subst, sym}
 use Rattle.tangle_scan.specs.SourceOrder.{IsInRange}
-use Rattle.tangle_expansion.proofs.EndBlankLemmas.{All-without_end_blanks}
+use Rattle.tangle_expansion.proofs.MacroEndLemmas.{All-without_end}
 use Rattle.tangle_expansion.proofs.macros.push_macro.Goals as goal
 
 pub push_macro_item-requires : goal.push_macro_item-requires
 push_macro_item-requires c =
-    let all = All-without_end_blanks (IsInRange c.args.web.now.texts) c.args.items.now c.requires in
-    let written = subst (All (IsInRange c.args.web.now.texts)) (sym c.without_end_blanks-item-items.ensures) all in
-    subst (IsInRange c.args.web.now.texts) (sym c.item-item.is) (written c.loop-item.item-index c.item-item.result c.loop-item-test.true)
+    let texts = c.args.web.now.texts in
+    let all = All-without_end texts (IsInRange texts) c.args.items.now c.requires in
+    let written = subst (All (IsInRange texts)) (sym c.without_end-item-items.ensures) all in
+    subst (IsInRange texts) (sym c.item-item.is) (written c.loop-item.item-index c.item-item.result c.loop-item-test.true)

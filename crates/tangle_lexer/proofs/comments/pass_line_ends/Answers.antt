@@ -25,13 +25,24 @@ returns-in-Stop-clause-include c =
     let none = from_units-stop unit_line_end c.args.region c.loop-front.ahead (here ∙ c.in-Stop.is) in
     sym (ap (λ ts. include_over ts c.loop-front.include) none) ∙ c.loop-front.invariant.include
 
+pub loop-front-init : goal.loop-front-init
+loop-front-init c =
+    let is = c.requires in
+    let skip = c.skip_ordinary.ensures in
+    let same = ap (line_ends c.args.region) skip.1 ∙ line_ends-ordinary c.args.region is skip.0 c.args.ahead.now skip.2 in
+    record {
+      end = ap (region_end c.args.region) skip.1 ∙ region_end-ordinary c.args.region is skip.0 c.args.ahead.now skip.2;
+      tokens = ap (λ ts. c.args.tokens.now.items ++ ts) same;
+      include = ap (λ ts. include_over ts c.args.state.include) same;
+    }
+
 pub loop-front-preserved : goal.loop-front-preserved
 loop-front-preserved c =
     let front = c.in-Some.ensures.front in
     let here = unit_at-front c.args.region c.loop-front.ahead c.in-Some.front _ front c.unit_of-unit.ensures in
     let given = from_units-go unit_line_end c.args.region c.args.state.last_line c.loop-front.ahead c.unit_of-unit.result front.inside here c.in_default-unit.not-Stop in
     let is = c.requires in
-    let skip = c.skip_ordinary.ensures in
+    let skip = c.skip_ordinary-in-Some.ensures in
     record {
       end = ap (region_end c.args.region) skip.1 ∙ (region_end-ordinary c.args.region is skip.0 c.pass.new.self skip.2
           ∙ (ap (region_end c.args.region) c.pass.ensures

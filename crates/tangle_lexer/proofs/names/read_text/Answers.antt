@@ -1,4 +1,4 @@
-use Rattle.std.proofs.Common.{◌++◌, drop, ap, sym, ◌∙◌, append-nil}
+use Rattle.std.proofs.Common.{◌++◌, drop, false, ap, sym, ◌∙◌, append-nil}
 use Rattle.tangle_text.specs.declared.regions.Region.TheVariants as region
 use Rattle.tangle_text.specs.Regions.{region_end, from_units, more_by}
 use Rattle.tangle_lexer.specs.Names.{with_single_spaces, has_begun}
@@ -18,12 +18,26 @@ returns-in-Stop-clause-ahead c =
     let here = unit_at-front region.Name c.loop-front.ahead c.in-Some.front _ c.in-Some.ensures.front c.unit_of-unit.ensures in
     sym (region_end-stop region.Name c.loop-front.ahead (here ∙ c.in-Stop.is)) ∙ c.loop-front.invariant.end
 
+pub loop-front-init : goal.loop-front-init
+loop-front-init c =
+    let chunk = c.take_name_bytes.ensures in
+    let units = from_units name_bytes region.Name 0 in
+    let rest = units c.take_name_bytes.new.self in
+    let bytes = c.take_name_bytes.result.now in
+    record {
+      end = sym chunk.end;
+      name =
+          c.in_ok-white.ensures rest
+          ∙ (ap (λ ns. ns ++ with_single_spaces (has_begun ns) false (bytes ++ rest)) c.in_ok-name.ensures.items
+          ∙ ap (with_single_spaces false false) (sym chunk.units));
+    }
+
 pub loop-front-preserved : goal.loop-front-preserved
 loop-front-preserved c =
     let front = c.in-Some.ensures.front in
     let here = unit_at-front region.Name c.loop-front.ahead c.in-Some.front _ front c.unit_of-unit.ensures in
     let given = from_units-go name_bytes region.Name 0 c.loop-front.ahead c.unit_of-unit.result front.inside here c.in_default-unit.not-Stop in
-    let chunk = c.take_name_bytes.ensures in
+    let chunk = c.take_name_bytes-in-Some.ensures in
     let units = from_units name_bytes region.Name 0 in
     let passed = drop (more_by c.unit_of-unit.result) (drop 1 c.loop-front.ahead) in
     record {
@@ -32,9 +46,9 @@ loop-front-preserved c =
       name =
           let unit = rw (front.byte, front.next) at given in
           let after = sym chunk.units ∙ ap units c.pass.ensures in
-          c.in_ok-white-2.ensures (units c.take_name_bytes.new.self)
-          ∙ ap (λ bs. c.push_name_unit.new.name.items ++ with_single_spaces (has_begun c.push_name_unit.new.name.items) c.in_ok-white.white bs) after
-          ∙ c.in_ok-white.ensures (units passed)
+          c.in_ok-white-3.ensures (units c.take_name_bytes-in-Some.new.self)
+          ∙ ap (λ bs. c.push_name_unit.new.name.items ++ with_single_spaces (has_begun c.push_name_unit.new.name.items) c.in_ok-white-2.white bs) after
+          ∙ c.in_ok-white-2.ensures (units passed)
           ∙ (ap (λ bs. c.loop-front.name.items ++ with_single_spaces (has_begun c.loop-front.name.items) c.loop-front.white bs) (sym unit) ∙ c.loop-front.invariant.name);
     }
 

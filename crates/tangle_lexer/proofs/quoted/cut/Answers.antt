@@ -18,12 +18,22 @@ returns-in-Stop-clause-tokens c = λ ends.
     let stop = cut-stop ends c.args.region c.loop-front.start c.loop-front.ahead (here ∙ c.in-Stop.is) in
     ap (λ ts. c.loop-front.tokens.items ++ ts) (sym stop) ∙ c.loop-front.invariant.tokens ends
 
+pub loop-front-init : goal.loop-front-init
+loop-front-init c =
+    let is = c.requires in
+    let skip = c.skip_ordinary.ensures in
+    record {
+      end = ap (region_end c.args.region) skip.1 ∙ region_end-ordinary c.args.region is skip.0 c.args.ahead.now skip.2;
+      tokens = λ ends. ap (λ ts. c.args.tokens.now.items ++ ts)
+          (ap (cut_tokens ends c.args.region 0 c.args.first) skip.1 ∙ cut-ordinary ends c.args.region is skip.0 c.args.first c.args.ahead.now skip.2);
+    }
+
 pub loop-front-preserved : goal.loop-front-preserved
 loop-front-preserved c =
     let front = c.in-Some.ensures.front in
     let here = unit_at-front c.args.region c.loop-front.ahead c.in-Some.front _ front c.unit_of-unit.ensures in
     let is = c.requires in
-    let skip = c.skip_ordinary.ensures in
+    let skip = c.skip_ordinary-in-Some.ensures in
     record {
       end = ap (region_end c.args.region) skip.1 ∙ (region_end-ordinary c.args.region is skip.0 c.pass.new.self skip.2
           ∙ (ap (region_end c.args.region) c.pass.ensures

@@ -1,5 +1,6 @@
 use Rattle.std.proofs.Common.{◌∙◌, ◌++◌, ◌∷◌, refl, ap, sym, append_assoc}
-use Rattle.tangle_plans.specs.ItemTags.{bytes_in, tag_in, uses_in}
+use Rattle.tangle_scan.specs.ItemBytes.{bytes_in}
+use Rattle.tangle_plans.specs.ItemTags.{tag_in, uses_in}
 use Rattle.tangle_plans.specs.Ranges.{range_bytes}
 use Rattle.tangle_plans.specs.Fronts.{Lists, lists_at, with_bytes, with_item}
 use Rattle.tangle_plans.proofs.ComparingLemmas.{all_after, cut_not, front_same, item_cut, with_all}

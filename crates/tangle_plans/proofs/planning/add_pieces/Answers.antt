@@ -1,7 +1,8 @@
 use Rattle.std.proofs.Common.{ℕ, false, refl, ap, ◌∙◌, arith, All}
 use Rattle.std.specs.Prelude.{slice_index_or, flat_map}
 use Rattle.tangle_scan.specs.Web.{PieceRead}
-use Rattle.tangle_plans.specs.ItemTags.{bytes_in, uses_in, piece_tags}
+use Rattle.tangle_scan.specs.ItemBytes.{bytes_in}
+use Rattle.tangle_plans.specs.ItemTags.{uses_in, piece_tags}
 use Rattle.tangle_scan.specs.SourceOrder.{IsInRange}
 use Rattle.tangle_plans.specs.ItemSlots.{pieces_at}
 use Rattle.tangle_plans.proofs.HeldLemmas.{pieces_next, pieces_done, tags_held, all_at}

@@ -1,10 +1,11 @@
-use Rattle.std.proofs.Common.{arith, ap, sym, ◌∙◌, false}
+use Rattle.std.proofs.Common.{arith, ap, sym, ◌∙◌, ◌++◌, [], false, None}
 use Rattle.std.proofs.lemmas.List.{drop_all}
 use Rattle.std.specs.List.{list_any}
 use Rattle.tangle_lines.specs.Reading.{origin_at}
-use Rattle.tangle_scan.specs.Rules.{items_by_origin, blanks}
+use Rattle.tangle_scan.specs.declared.plain_parts.PartState.{PartState}
+use Rattle.tangle_scan.specs.Rules.{texts_of, items_by_origin, blanks}
 use Rattle.tangle_scan.specs.Passes.{is_rare, items_ahead}
-use Rattle.tangle_scan.proofs.lemmas.PlainPartLemmas.{plain-end}
+use Rattle.tangle_scan.proofs.lemmas.PlainPartLemmas.{plain-end, plain-rules}
 use Rattle.tangle_scan.proofs.lemmas.SpacingLemmas.{unchanged-stays}
 use Rattle.tangle_scan.proofs.plain_parts.fill_plain_part.Goals as goal
 
@@ -13,9 +14,13 @@ unfolding items_ahead
 returns-clause-items c = λ rare.
     let lines = c.args.source.now.lines in
     let tokens = c.args.tokens.now in
+    let empty = c.clear.new.self.items in
     let done = drop_all c.loop-token.token-index tokens (omega arith) in
     let none = sym c.loop-token.invariant.rare ∙ ap (list_any is_rare) done in
     plain-end lines c.loop-token.at _ _ _ done c.loop-token.invariant.rest
-    ∙ (ap (λ origin. items_by_origin lines origin (blanks false false tokens)) c.counted_on.ensures.origin
-    ∙ ap (λ es. items_by_origin lines (origin_at lines c.args.line) (blanks false false es))
-    (unchanged-stays tokens none))
+    ∙ (ap (λ is. is ++ items_ahead lines c.part_state-at.result is tokens) c.clear.ensures.items
+    ∙ (ap (λ (s : PartState). items_ahead lines s [] tokens) c.part_state-at.ensures
+    ∙ (plain-rules lines None false _ tokens
+    ∙ (ap (λ origin. items_by_origin lines None origin (blanks (texts_of lines) None false tokens)) c.counted_on.ensures.origin
+    ∙ ap (λ es. items_by_origin lines None (origin_at lines c.args.line) (blanks (texts_of lines) None false es))
+    (unchanged-stays tokens none)))))

@@ -10,6 +10,6 @@ invariant-loop-token l = record {
   plain : l.has_rare ≡ false;
   mark : list_any is_line_mark l.items.items ≡ l.at.counted.has_mark;
   rare : list_any is_rare (drop l.token-index l.tokens) ≡ list_any is_rare l.tokens;
-  rest : l.items.items ++ items_ahead l.source.lines l.at (drop l.token-index l.tokens)
-      ≡ items_ahead l.source.lines l.initial.at l.tokens;
+  rest : l.items.items ++ items_ahead l.source.lines l.at l.items.items (drop l.token-index l.tokens)
+      ≡ l.initial.items.items ++ items_ahead l.source.lines l.initial.at l.initial.items.items l.tokens;
 }

@@ -1,7 +1,8 @@
-use Rattle.std.proofs.Common.{arith, ap, ◌∙◌}
+use Rattle.std.proofs.Common.{arith, ap, sym, ◌∙◌}
 use Rattle.std.proofs.lemmas.List.{drop_all}
 use Rattle.tangle_scan.specs.declared.rare_parts.Last.TheVariants as last
-use Rattle.tangle_scan.specs.Passes.{rare_items_ahead}
+use Rattle.tangle_scan.specs.declared.rare_parts.RarePartState.{RarePartState}
+use Rattle.tangle_scan.specs.Passes.{rare_items_ahead, origin_of}
 use Rattle.tangle_scan.proofs.lemmas.RarePartLemmas.{rare-begin, rare-end}
 use Rattle.tangle_scan.proofs.lemmas.PartLemmas.{part-rare}
 use Rattle.tangle_scan.proofs.rare_parts.fill_rare_part.Goals as goal
@@ -11,7 +12,13 @@ returns c =
     let lines = c.args.source.now.lines in
     let tokens = c.args.tokens.now in
     let done = drop_all c.loop-token.token-index tokens (omega arith) in
+    let at = c.rare_state-at.result in
+    let first = c.rare_state-at.ensures in
+    let front = ap (λ (s : RarePartState). s.last) first in
+    let none = ap (λ (s : RarePartState). s.start.items) first in
+    let same = ap (λ (s : RarePartState). s.start.counted) first ∙ sym (ap (λ (s : RarePartState). s.counted) first) in
+    let origin = ap (λ (s : RarePartState). origin_of s.counted) first ∙ c.counted_on-counted.ensures.origin in
     rare-end lines c.loop-token.at c.loop-token.items.items _ _ done c.loop-token.invariant.rest
-    ∙ (rare-begin lines c.clear.new.self.items _ tokens c.clear.ensures.items
-    ∙ (ap (λ origin. rare_items_ahead lines last.Front origin tokens) c.counted_on-counted.ensures.origin
-    ∙ part-rare lines c.args.line tokens))
+    ∙ (rare-begin lines c.clear.new.self.items at tokens c.clear.ensures.items front none same
+    ∙ (ap (λ o. rare_items_ahead lines last.Front at.item.now o tokens) origin
+    ∙ part-rare lines c.args.line at.item.now tokens))

@@ -1,6 +1,6 @@
 use Rattle.std.proofs.Common.{ap, sym, ◌∙◌}
 use Rattle.tangle_scan.specs.Passes.{is_name_spaced}
-use Rattle.tangle_scan.specs.Web.{texts_of}
+use Rattle.tangle_scan.specs.Rules.{texts_of}
 use Rattle.tangle_scan.proofs.lemmas.SpacingLemmas.{unchanged-macro}
 use Rattle.tangle_scan.proofs.spacing.macro_tokens.Goals as goal
 

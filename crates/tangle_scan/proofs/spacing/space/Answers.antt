@@ -2,7 +2,7 @@ use Rattle.std.proofs.Common.{[], take, arith, ap, sym, ◌∙◌, if◌then◌e
 use Rattle.std.proofs.lemmas.List.{drop_all}
 use Rattle.tangle_scan.specs.declared.spacing.Stage.TheVariants as stage
 use Rattle.tangle_scan.specs.Rules.{without_joins, without_faults, without_front_gaps}
-use Rattle.tangle_scan.specs.Web.{texts_of}
+use Rattle.tangle_scan.specs.Rules.{texts_of}
 use Rattle.tangle_scan.specs.Passes.{spacing_from}
 use Rattle.tangle_scan.proofs.lemmas.SpacingLemmas.{spaced-end, spaced-begin, spaced-front}
 use Rattle.tangle_scan.proofs.spacing.space.Goals as goal

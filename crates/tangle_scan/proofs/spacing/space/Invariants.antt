@@ -1,5 +1,5 @@
 use Rattle.std.proofs.Common.{◌≡◌, drop}
-use Rattle.tangle_scan.specs.Web.{texts_of}
+use Rattle.tangle_scan.specs.Rules.{texts_of}
 use Rattle.tangle_scan.specs.Passes.{IsRun, spacing_from}
 use Rattle.tangle_scan.proofs.spacing.space.Given as goal
 

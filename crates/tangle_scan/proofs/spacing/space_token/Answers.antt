@@ -1,6 +1,6 @@
 use Rattle.std.proofs.Common.{◌∷◌, List, ap, sym, ◌∙◌}
 use Rattle.tangle_lexer.specs.declared.tokens.Token.{Token}
-use Rattle.tangle_scan.specs.Web.{texts_of}
+use Rattle.tangle_scan.specs.Rules.{texts_of}
 use Rattle.tangle_scan.specs.Passes.{spacing_from, without_joins_from, with_white_space, without_skipped, stage_after}
 use Rattle.tangle_scan.proofs.lemmas.SpacingLemmas.{without_skipped-gone, without_skipped-stays}
 use Rattle.tangle_scan.proofs.spacing.space_token.Goals as goal

@@ -1,0 +1,53 @@
+-- The bytes that are written for the pieces of a node, and that of two items of a piece that the source keeps apart a C compiler reads both.
+use Rattle.std.specs.Prelude.{◌≡◌, ℕ, false, List, [], ◌∷◌, ◌++◌, None, drop, flat_map, slice_index_or}
+use Rattle.std.specs.List.{AllZip}
+use Rattle.tangle_files.specs.Bytes.{space, line_feed}
+use Rattle.tangle_faults.specs.declared.faults.Origin.{Origin}
+use Rattle.tangle_lexer.specs.declared.tokens.Token.{Token}
+use Rattle.tangle_lines.specs.Reading.{SourceRead}
+use Rattle.tangle_scan.specs.Apart.{AreReadApart, EndsPiece, IsMacroReadApart, all_macro_tokens, all_piece_tokens, piece_item_bytes, read_tokens}
+use Rattle.tangle_scan.specs.MacroBytes.{macro_bytes}
+use Rattle.tangle_scan.specs.Web.{WebRead, PieceRead}
+use Rattle.tangle_scan.specs.declared.items.Item.{Item}
+use Rattle.tangle_names.specs.declared.Resolved.{Resolved}
+use Rattle.tangle_names.specs.declared.Resolved.TheVariants.{Name, NoFullName, Ambiguous}
+use Rattle.tangle_names.specs.NameTable.{TableRead}
+use Rattle.tangle_plans.specs.Flat.{Symbol}
+use Rattle.tangle_plans.specs.WebShapes.{resolved_at}
+use Rattle.tangle_expansion.specs.Numbers.{NumbersRead, closing_bytes, expansion_bytes, mark_bytes_at, opening_bytes}
+
+module _ (numbers : NumbersRead) where
+  -- what is written for a mark after its first line feed
+  abbrev pub bytes_after_mark : Origin → List ℕ
+  bytes_after_mark origin = drop 1 (mark_bytes_at numbers origin)
+
+  module _ (table : TableRead) (used : List ℕ → List Symbol) where
+    -- what is written for a name that is resolved to, where a name has these symbols
+    abbrev pub resolved_bytes : Resolved → List ℕ
+    resolved_bytes (Name id) = expansion_bytes numbers (used (slice_index_or table.names id []))
+    resolved_bytes NoFullName = []
+    resolved_bytes Ambiguous = []
+
+    abbrev pub used_bytes : ℕ → List ℕ
+    used_bytes occurrence = resolved_bytes (resolved_at table occurrence)
+
+    module _ (texts : List (List ℕ)) where
+      -- the items of a piece
+      abbrev pub items_bytes : List Item → List ℕ
+      items_bytes items = flat_map (piece_item_bytes texts used_bytes bytes_after_mark numbers.macros) items
+
+      -- a piece: its opening, its mark, its items and its closing
+      abbrev pub piece_bytes : PieceRead → List ℕ
+      piece_bytes piece = opening_bytes piece.section ++ mark_bytes_at numbers piece.origin ++ items_bytes piece.items ++ closing_bytes piece.section
+
+      -- what is written for the items of a piece that has these tokens is read apart
+      abbrev pub IsWrittenApart : List Token → PieceRead → Type 0
+      IsWrittenApart tokens piece =
+          AreReadApart texts (λ occurrence. space ∷ used_bytes occurrence) (line_feed ∷ numbers.macros) (EndsPiece texts) false false None (read_tokens texts false tokens) (items_bytes piece.items)
+
+-- What is written for the macros is that of each in turn, and of two items of a macro or piece that the source keeps apart, a C compiler reads
+-- both in what is written.
+pub record AreWrittenApart (source : SourceRead) (web : WebRead) (table : TableRead) (used : List ℕ → List Symbol) (numbers : NumbersRead) : Type 0 where
+  pub macros_written : numbers.macros ≡ flat_map (macro_bytes web.texts) web.macros
+  pub macros : AllZip (λ items tokens. IsMacroReadApart web.texts tokens (macro_bytes web.texts items)) web.macros (all_macro_tokens source.lines)
+  pub pieces : AllZip (λ piece tokens. IsWrittenApart numbers table used web.texts tokens piece) web.pieces (all_piece_tokens source.lines)

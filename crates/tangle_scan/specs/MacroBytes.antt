@@ -1,0 +1,33 @@
+-- The bytes of a macro.
+use Rattle.std.specs.Prelude.{ℕ, Bool, true, false, ◌==◌, List, [], ◌∷◌, ◌++◌, flat_map, codes, if◌then◌else◌}
+use Rattle.tangle_text.specs.Bytes.{backslash}
+use Rattle.tangle_scan.specs.declared.items.Item.{Item}
+use Rattle.tangle_scan.specs.declared.items.Item.TheVariants as item
+use Rattle.tangle_scan.specs.Rules.{first_byte}
+use Rattle.tangle_scan.specs.ItemBytes.{bytes_in}
+
+module _ (texts : List (List ℕ)) where
+  -- blanks, line ends and backslashes, which are not written at the end of a macro: after a backslash there, a C compiler would take out the
+  -- line feed that ends the macro, and read the next macro as a part of this one
+  abbrev pub is_dropped_at_end : Item → Bool
+  is_dropped_at_end item.Blank = true
+  is_dropped_at_end item.LineEnd = true
+  is_dropped_at_end (item.Sign span) = first_byte texts span == backslash
+  is_dropped_at_end _ = false
+
+  abbrev pub without_end_after : Item → List Item → List Item
+  without_end_after x [] = if is_dropped_at_end x then [] else x ∷ []
+  without_end_after x (y ∷ items) = x ∷ y ∷ items
+
+  -- without those at the end
+  abbrev pub without_end : List Item → List Item
+  without_end [] = []
+  without_end (x ∷ items) = without_end_after x (without_end items)
+
+  -- in a macro a line end has a backslash before it
+  abbrev pub macro_item_bytes : Item → List ℕ
+  macro_item_bytes item.LineEnd = codes "\\\n"
+  macro_item_bytes x = bytes_in texts x
+
+  abbrev pub macro_bytes : List Item → List ℕ
+  macro_bytes items = codes "#define " ++ flat_map macro_item_bytes (without_end items) ++ codes "\n"

@@ -1,0 +1,161 @@
+//! The items of a macro. A C compiler takes out all of its line ends, so a blank is put before them
+//! between two items that may not touch, and after the macro's name.
+ghost use Rattle.std.specs.Prelude.{◌≡◌, ◌++◌, ◌∷◌, ◌&&◌, [], not, true, false, None};
+ghost use Rattle.std.specs.Prelude.{if◌then◌else◌, IfOk, OnOk};
+ghost use Rattle.tangle_scan.specs.Rules as rules;
+ghost use Rattle.tangle_scan.specs.Rules.{texts_of};
+ghost use Rattle.tangle_scan.specs.Passes.{item_before, unmarked_from};
+ghost use Rattle.tangle_scan.specs.declared.items.Item.TheVariants as item;
+
+use crate::items::Item;
+use crate::plain_parts::{item_of, push_blank, push_some, span_item};
+use crate::touching::may_touch;
+use tangle_lexer::{SpanKind, Token};
+use tangle_lines::{NoMemory, Source};
+
+/// The state of a macro while its items are made.
+#[derive(Clone, Copy)]
+struct MacroState<'t> {
+    /// Whether all so far is the name.
+    in_name: bool,
+    /// Whether an item is before on the line.
+    has_item: bool,
+    /// That item. It is read only where there is one.
+    item: &'t Token,
+    has_white: bool,
+}
+
+/// Whether an item is a part of the name, if all before it is.
+fn is_name_part(token: Token) -> bool
+    ensures { result ≡ rules.is_name_part token }
+{
+    matches!(
+        token,
+        Token::AsciiConstant(..) | Token::Span(SpanKind::Word | SpanKind::Verbatim, _)
+    )
+}
+
+/// The next item, whatever white space and line ends are before it.
+fn next_item(tokens: &[Token]) -> Option<Token>
+    ensures { result ≡ rules.next_item tokens.now }
+{
+    for token in tokens {
+        if !matches!(token, Token::White | Token::LineEnd(_)) {
+            return Some(*token);
+        }
+    }
+    None
+}
+
+/// Whether a blank is before a line end, which these tokens follow.
+// The item after a run of line ends is looked for once: at its first line end.
+fn has_blank_at_line_end(source: &Source, at: MacroState, rest: &[Token]) -> bool
+    ensures { result ≡ rules.has_blank_at_line_end (texts_of source.now.lines) at.entry.in_name
+        (item_before at.entry) (rules.next_item rest.now) }
+{
+    if !at.has_item {
+        return false;
+    }
+    match next_item(rest) {
+        Some(next) => at.in_name || !may_touch(source, *at.item, next),
+        None => false,
+    }
+}
+
+/// The state after an item.
+#[inline(always)]
+fn after_item<'t>(at: MacroState<'t>, item: &'t Token) -> MacroState<'t>
+    ensures { result ≡ record {
+      in_name = at.entry.in_name && not at.entry.has_white && rules.is_name_part item.now;
+      has_item = true;
+      item = item.entry;
+      has_white = false;
+    } }
+{
+    let in_name = at.in_name && !at.has_white && is_name_part(*item);
+    MacroState {
+        in_name,
+        has_item: true,
+        item,
+        has_white: false,
+    }
+}
+
+/// Adds a line end of a macro, after a blank where one is needed.
+fn push_macro_line_end(items: &mut Vec<Item>, has_blank: bool) -> Result<(), NoMemory>
+    ensures { OnOk result (items.new.items ≡ items.old.items
+        ++ (if has_blank then item.Blank ∷ [] else []) ++ item.LineEnd ∷ []) }
+{
+    if has_blank {
+        items.push(Item::Blank)?;
+    }
+    items.push(Item::LineEnd)?;
+    Ok(())
+}
+
+/// Adds the items of a token of a macro, which these tokens follow.
+#[inline(always)]
+fn add_macro_token<'t>(
+    source: &Source,
+    items: &mut Vec<Item>,
+    at: MacroState<'t>,
+    token: &'t Token,
+    rest: &[Token],
+) -> Result<MacroState<'t>, NoMemory>
+    ensures { IfOk result (λ next. items.new.items
+        ++ unmarked_from (texts_of source.now.lines) next rest.now ≡ items.old.items
+        ++ unmarked_from (texts_of source.now.lines) at.entry (token.now ∷ rest.now)) }
+{
+    match *token {
+        Token::White => Ok(MacroState {
+            has_white: true,
+            ..at
+        }),
+        Token::LineEnd(_) => {
+            push_macro_line_end(items, has_blank_at_line_end(source, at, rest))?;
+            Ok(MacroState {
+                in_name: false,
+                has_item: false,
+                item: token,
+                has_white: false,
+            })
+        }
+        Token::Span(kind, span) => {
+            push_blank(items, at.has_item, at.has_white)?;
+            items.push(span_item(kind, span))?;
+            Ok(after_item(at, token))
+        }
+        _ => {
+            push_blank(items, at.has_item, at.has_white)?;
+            push_some(items, item_of(*token))?;
+            Ok(after_item(at, token))
+        }
+    }
+}
+
+/// Makes the items of a macro.
+// It is no part of the long function that gathers a web, so that its state stays in registers.
+#[inline(never)]
+pub(crate) fn fill_macro(
+    source: &Source,
+    items: &mut Vec<Item>,
+    tokens: &[Token],
+) -> Result<(), NoMemory>
+    ensures { OnOk result (items.new.items ≡ rules.unmarked_items
+        (rules.macro_blanks (texts_of source.now.lines) true None false tokens.entry.now)) }
+{
+    items.clear();
+    let front = Token::White;
+    let mut at = MacroState {
+        in_name: true,
+        has_item: false,
+        item: &front,
+        has_white: false,
+    };
+    let mut left = tokens;
+    while let [token, rest @ ..] = left {
+        at = add_macro_token(source, items, at, token, rest)?;
+        left = rest;
+    }
+    Ok(())
+}

@@ -1,0 +1,125 @@
+//! Which items may touch, and which lines a C compiler joins.
+ghost use Rattle.std.specs.Prelude.{◌≡◌, get_or, []};
+ghost use Rattle.tangle_scan.specs.Rules as rules;
+ghost use Rattle.tangle_scan.specs.Rules.{texts_of};
+
+use tangle_lexer::{SpanKind, Token};
+use tangle_lines::Source;
+use tangle_text::Span;
+
+/// What an item is to a C compiler, where it is next to another item with no white space between
+/// them.
+#[derive(Clone, Copy)]
+pub(crate) enum TouchKind {
+    /// A sign that is one token, and part of no longer one.
+    Separator,
+    /// A sign that may be part of another operator or of a number.
+    Operator,
+    /// An identifier or a quoted text.
+    Plain,
+    /// All else: a number, verbatim text, an ASCII constant, any other sign.
+    Other,
+}
+
+/// The byte at a position of a line, or 0.
+fn byte_at(line: &[u8], column: usize) -> u8
+    ensures { result ≡ get_or line.now column 0 }
+{
+    match line.get(column) {
+        Some(byte) => *byte,
+        None => 0,
+    }
+}
+
+/// The byte at a position of a source line, or 0.
+fn source_byte(source: &Source, line: u32, column: usize) -> u8
+    ensures { result ≡ get_or (get_or (texts_of source.now.lines) line []) column 0 }
+{
+    byte_at(source.line(line as usize), column)
+}
+
+/// The byte at the start of a span of the source, or 0.
+pub(crate) fn first_byte(source: &Source, span: Span) -> u8
+    ensures { result ≡ rules.first_byte (texts_of source.now.lines) span }
+{
+    source_byte(source, span.line, span.start as usize)
+}
+
+/// The last byte of a span of the source, or 0 if the span has none.
+pub(crate) fn last_byte(source: &Source, span: Span) -> u8
+    ensures { result ≡ rules.last_byte (texts_of source.now.lines) span }
+{
+    if span.end <= span.start {
+        return 0;
+    }
+    source_byte(source, span.line, span.end as usize - 1)
+}
+
+/// Whether a token ends in a backslash: a sign or a verbatim text. A C compiler joins the next line
+/// to a line that ends with it.
+pub(crate) fn ends_in_backslash(source: &Source, token: Token) -> bool
+    ensures { result ≡ rules.ends_in_backslash (texts_of source.now.lines) token }
+{
+    match token {
+        Token::Span(SpanKind::Sign, span) => first_byte(source, span) == b'\\',
+        Token::Span(SpanKind::Verbatim, span) => last_byte(source, span) == b'\\',
+        _ => false,
+    }
+}
+
+/// What a sign is, by its byte.
+fn sign_kind(byte: u8) -> TouchKind
+    ensures { result ≡ rules.sign_kind byte }
+{
+    match byte {
+        b'(' | b')' | b'[' | b']' | b'{' | b'}' | b';' | b',' | b'~' => TouchKind::Separator,
+        b'!'
+        | b'#'
+        | b'%'
+        | b'&'
+        | b'*'
+        | b'+'
+        | b'-'
+        | b'/'
+        | b':'
+        | b'<'
+        | b'='
+        | b'>'
+        | b'?'
+        | b'^'
+        | b'|' => TouchKind::Operator,
+        _ => TouchKind::Other,
+    }
+}
+
+/// What an item is to a C compiler, next to another.
+fn touch_kind(source: &Source, token: Token) -> TouchKind
+    ensures { result ≡ rules.touch_kind (texts_of source.now.lines) token }
+{
+    match token {
+        Token::Span(SpanKind::Sign, span) => sign_kind(first_byte(source, span)),
+        Token::Span(SpanKind::Word, span) => {
+            if first_byte(source, span).is_ascii_digit() {
+                TouchKind::Other
+            } else {
+                TouchKind::Plain
+            }
+        }
+        Token::Span(SpanKind::Quoted, _) => TouchKind::Plain,
+        _ => TouchKind::Other,
+    }
+}
+
+/// Whether a C compiler reads the same tokens of two items without white space between them as
+/// with it.
+pub(crate) fn may_touch(source: &Source, before: Token, after: Token) -> bool
+    ensures { result ≡ rules.may_touch (texts_of source.now.lines) before after }
+{
+    matches!(
+        (touch_kind(source, before), touch_kind(source, after)),
+        (TouchKind::Separator, _)
+            | (_, TouchKind::Separator)
+            | (TouchKind::Operator, TouchKind::Plain)
+            | (TouchKind::Plain, TouchKind::Operator)
+    )
+}

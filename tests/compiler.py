@@ -1,0 +1,149 @@
+"""A C compiler reads what the built ctangle makes of macros over lines, and of lines that continue.
+
+usage: compiler.py CTANGLE TOP        TOP is the folder of the repository
+
+`cc -E -dM` lists each macro as the compiler has understood it.
+
+- tests/compiler/NAME: the list for in/a.w, less that of an empty file, is the file macros. A
+  program is compiled and run, with and without its change file, and prints the file printed.
+- Generated webs: each macro is also written on one line, with one space wherever the web keeps two
+  items apart. The compiler's lists of these lines and of what ctangle makes have the same macros,
+  of the same C tokens. The lines are made from what the web is made of, and not from any output.
+
+The last line is 'N passed, M failed'.
+"""
+import os
+import random
+import re
+import subprocess
+import sys
+import tempfile
+from collections import Counter
+
+ctangle, top = (os.path.abspath(path) for path in sys.argv[1:3])
+from checks import check, lay, read, run_all, same
+from random_macros import KINDS, Web
+
+STORED = os.path.join(top, 'tests', 'compiler')
+PATIENCE = 60           # seconds for a run
+WEBS = 400
+TOGETHER = 50           # so many webs are read in one run of the compiler
+LEAST = 20              # so often each pair of kinds, and each other place, is in the generated webs
+
+DEFINED = re.compile(rb'#define ([\w$]+)(\([^)]*\))?(?: (.*))?')
+
+# C's preprocessing tokens, each as long as it can be; bytes past 127 are letters.
+LETTER = rb'(?:[A-Za-z_$\x80-\xff]|\\u[0-9a-fA-F]{4}|\\U[0-9a-fA-F]{8})'
+TOKEN = re.compile(
+    rb'(?:u8|[uUL])?"(?:\\.|[^"\\])*"' rb"|[uUL]?'(?:\\.|[^'\\])+'"
+    rb'|\.?[0-9](?:[eEpP][+-]|[0-9.]|' + LETTER + rb')*|' + LETTER + rb'(?:[0-9]|' + LETTER + rb')*'
+    rb'|%:%:|\.\.\.|<<=|>>=|->|\+\+|--|<<|>>|<=|>=|==|!=|&&|\|\||[-*/%+&^|]=|##|<:|:>|<%|%>|%:|[^ ]', re.S)
+
+
+# ---------------------------------------------------------------------- running
+
+def run(arguments, folder):
+    done = subprocess.run(arguments, cwd=folder, capture_output=True, timeout=PATIENCE)
+    return done.stdout, done.stderr, done.returncode
+
+
+def tangle(name, folder, *arguments):
+    same(run([ctangle, 'a'] + list(arguments), folder), (b'', b'', 0), name + ', ctangle')
+
+
+def listed(name, folder, file):
+    """The compiler's list of the macros of a file, less that of an empty one. It has to read the
+    file without a warning."""
+    lay(folder, {'empty.c': b''})
+    lists = []
+    for each in ('empty.c', file):
+        text, errors, status = run(['cc', '-E', '-dM', each], folder)
+        check(status == 0 and not errors, name, errors.decode(errors='replace')[:1000])
+        lists.append(Counter(text.splitlines()))
+    return sorted((lists[1] - lists[0]).elements())
+
+
+# ---------------------------------------------------------------------- stored webs
+
+def test_stored_lists():
+    for name in ('pairs-in-macros', 'pairs-in-continued-lines'):
+        with tempfile.TemporaryDirectory() as folder:
+            lay(folder, {'a.w': read(STORED, name, 'in', 'a.w')})
+            tangle(name, folder)
+            same(listed(name, folder, 'a.c'), read(STORED, name, 'macros').splitlines(), name)
+
+
+def test_program():
+    name = 'a program of macros over lines'
+    with tempfile.TemporaryDirectory() as folder:
+        lay(folder, {file: read(STORED, 'program', 'in', file) for file in ('a.w', 'a.ch')})
+        for change, old in (('-', b'old'), ('a.ch', b'three times')):
+            tangle(name, folder, change)
+            made = run(['cc', '-Wall', '-o', 'a', 'a.c'], folder)
+            same(made, (b'', b'', 0), name + ', cc')
+            printed = read(STORED, 'program', 'printed').replace(b'three times', old)
+            same(run(['./a'], folder) if made[2] == 0 else None, (printed, b'', 0), name)
+
+
+# ---------------------------------------------------------------------- generated webs
+
+def understood(lines):
+    """The macros of a list: the parameters of each, if it has any, and the C tokens of its text."""
+    found = {}
+    for line in lines:
+        defined = DEFINED.fullmatch(line)
+        name, parameters, text = defined.groups() if defined else (line, None, None)
+        found[name] = parameters, TOKEN.findall(text or b'')
+    return found
+
+
+def test_tokens():
+    """The longest token is taken."""
+    for text, tokens in ((b'a+++b1', [b'a', b'++', b'+', b'b1']), (b'1e+5.x-.5', [b'1e+5.x', b'-', b'.5']),
+                         (b'1.e +5', [b'1.e', b'+', b'5']), (b'L"s" L "s\\""', [b'L"s"', b'L', b'"s\\""']),
+                         (b"u8'c'\\u00e9\\ u", [b"u8", b"'c'", b'\\u00e9', b'\\', b'u']),
+                         (b'..5 <<=%:%:->=>', [b'.', b'.5', b'<<=', b'%:%:', b'->', b'=', b'>'])):
+        same(TOKEN.findall(text), tokens, 'tokens of %r' % text)
+
+
+def test_generated():
+    places, chance = Counter(), random.Random(49)
+    for first in range(0, WEBS, TOGETHER):
+        webs = [Web(chance, number) for number in range(first, first + TOGETHER)]
+        with tempfile.TemporaryDirectory() as folder:
+            check_webs('generated webs from %d on' % first, folder, webs)
+        for web in webs:
+            places.update(web.places)
+    pairs = ['%s, %s over a line end of %s' % (one, other, where)
+             for one in KINDS for other in KINDS for where in ('a macro', 'a C part')]
+    others = ['a backslash at the end', 'a name made by a join', 'a join', 'verbatim text',
+              'a change', 'a comment over a line end', 'parameters']
+    for place in pairs + others:
+        check(places[place] >= LEAST, 'generated webs', 'only %d times: %s' % (places[place], place))
+
+
+def check_webs(name, folder, webs):
+    """What the compiler understands of the outputs of these webs, and of their macros on a line each."""
+    lines = [line for web in webs for line in web.lines_in_c()]
+    for web in webs:
+        place = '%d' % web.number
+        lay(folder, {os.path.join(place, file): text for file, text in web.files().items()})
+        tangle('generated web ' + place, os.path.join(folder, place), 'a')
+    texts = {'ours.c': b''.join(b'#include "%d/a.c"\n' % web.number for web in webs),
+             'lines.c': b''.join(line + b'\n' for line in lines)}
+    lay(folder, texts)
+    expected, ours = (understood(listed(name, folder, file)) for file in ('lines.c', 'ours.c'))
+    names = [macro for web in webs for macro in web.names()]
+    same(sorted(expected), sorted(names), name + ', the macros on a line each')
+    same(sorted(ours), sorted(names), name + ', the macros that ctangle makes')
+    for web in webs:
+        for macro in web.names():
+            same(ours.get(macro), expected.get(macro), 'generated web %d, %s' % (web.number, macro.decode()))
+
+
+def main():
+    return run_all((test_tokens, test_stored_lists, test_program, test_generated))
+
+
+if __name__ == '__main__':
+    sys.exit(main())

@@ -1,0 +1,6 @@
+@x
+  "old" \
+@y
+  "three" \
+    " times" \
+@z
