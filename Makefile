@@ -1,4 +1,5 @@
 # make             proves and builds the programs into bin/
+# make try         runs ctangle on examples/hello.w, and builds and proves nothing: about a minute
 # make install     copies them and their manual pages to DESTDIR and PREFIX (/usr/local)
 # make uninstall   removes what make install copied
 # make example     tangles the web in examples/, compiles it and runs it, and edits it by a script
@@ -6,10 +7,14 @@
 # make further     tries the wrong bodies that the gate leaves out for their time
 # make bench       measures the instructions, time and memory that the built programs take
 #
-# The kit's command rt, cc and python3 have to be on the path. To build and install, rt is enough.
+# PROGRAM_PREFIX=proved- installs proved-ctangle and proved-retangle, with pages of these names. Give
+# the same to make uninstall.
+#
+# The kit's command rt, cc and python3 have to be on the path. To try, build and install, rt is enough.
 
 PREFIX = /usr/local
 DESTDIR =
+PROGRAM_PREFIX =
 
 programs = $(DESTDIR)$(PREFIX)/bin
 pages = $(DESTDIR)$(PREFIX)/share/man/man1
@@ -30,14 +35,25 @@ bin/retangle: $(sources)
 	mkdir -p bin
 	cp crates/retangle/out/retangle $@
 
+# rt keeps no file that is written in its own folder, so the C has a full path.
+try:
+	rm -rf bin/try
+	mkdir -p bin/try
+	cd crates/ctangle && rt try --data hello.w=../../examples/hello.w -- hello - "$(CURDIR)/bin/try/hello.c"
+	cat bin/try/hello.c
+	@echo 'This is bin/try/hello.c. Nothing was proved or built: make does both.'
+
 install: bin/ctangle bin/retangle
 	install -d "$(programs)" "$(pages)"
-	install -m 755 bin/ctangle bin/retangle "$(programs)"
-	install -m 644 docs/ctangle.1 docs/retangle.1 "$(pages)"
+	for name in ctangle retangle; do \
+	    install -m 755 bin/$$name "$(programs)/$(PROGRAM_PREFIX)$$name" && \
+	    install -m 644 docs/$$name.1 "$(pages)/$(PROGRAM_PREFIX)$$name.1" || exit 1; \
+	done
 
 uninstall:
-	rm -f "$(programs)/ctangle" "$(programs)/retangle"
-	rm -f "$(pages)/ctangle.1" "$(pages)/retangle.1"
+	for name in ctangle retangle; do \
+	    rm -f "$(programs)/$(PROGRAM_PREFIX)$$name" "$(pages)/$(PROGRAM_PREFIX)$$name.1" || exit 1; \
+	done
 
 example: bin/ctangle bin/retangle
 	$(MAKE) -C examples run CTANGLE=../bin/ctangle RETANGLE=../bin/retangle
@@ -54,4 +70,4 @@ further:
 clean:
 	rm -rf bin examples/out
 
-.PHONY: all install uninstall example bench check further clean
+.PHONY: all try install uninstall example bench check further clean

@@ -1,6 +1,10 @@
-# The web of examples/, tangled with and without its change file, compiled and run, and edited by a script.
+# The web of examples/, tangled with and without its change file, compiled and run, and edited by a script; and what
+# a build does with a web (tests/build.py).
 
 test_example() {
+    python3 -B "$top/tests/build.py" "$temporary/ctangle" "${RETANGLE:-$top/bin/retangle}" "$top" \
+        >"$temporary/log" 2>&1
+    count_last_line example "$temporary/log"
     cp -R "$top/examples" "$temporary/example"
     rm -rf "$temporary/example/out"
     if ! make -C "$temporary/example" run CTANGLE="$temporary/ctangle" \

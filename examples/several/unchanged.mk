@@ -2,7 +2,8 @@
 # for it.
 #
 # The web is tangled in the folder `new`, where it finds its sources under their names. A web with
-# an error changes no file outside of it.
+# an error changes no file outside of it. A web that includes files has the sources
+# $(call files_of,calc.w), by ../webs.mk.
 
 CTANGLE = ctangle
 

@@ -1,0 +1,6 @@
+@ A program that greets.
+@c
+#include <stdio.h>
+int main(void) { @<Greet@> }
+@ @<Greet@>=
+puts("hello, world");
