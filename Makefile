@@ -8,7 +8,8 @@
 # make bench       measures the instructions, time and memory that the built programs take
 #
 # PROGRAM_PREFIX=proved- installs proved-ctangle and proved-retangle, with pages of these names. Give
-# the same to make uninstall.
+# the same to make uninstall. A project that uses GNU make's own rule for webs then takes the program
+# by CTANGLE=proved-ctangle, and examples/editor.py by RETANGLE=proved-retangle in the environment.
 #
 # The kit's command rt, cc and python3 have to be on the path. To try, build and install, rt is enough.
 
