@@ -7,9 +7,9 @@
 # make further     tries the wrong bodies that the gate leaves out for their time
 # make bench       measures the instructions, time and memory that the built programs take
 #
-# PROGRAM_PREFIX=proved- installs proved-ctangle and proved-retangle, with pages of these names. Give
-# the same to make uninstall. A project that uses GNU make's own rule for webs then takes the program
-# by CTANGLE=proved-ctangle, and examples/editor.py by RETANGLE=proved-retangle in the environment.
+# PROGRAM_PREFIX=proved- installs proved-ctangle and proved-retangle, with pages of these names.
+# Give the same to make uninstall. GNU make's own rule for webs then takes CTANGLE=proved-ctangle,
+# and examples/editor.py RETANGLE=proved-retangle in the environment.
 #
 # The kit's command rt, cc and python3 have to be on the path. To try, build and install, rt is enough.
 
@@ -40,7 +40,8 @@ bin/retangle: $(sources)
 try:
 	rm -rf bin/try
 	mkdir -p bin/try
-	cd crates/ctangle && rt try --data hello.w=../../examples/hello.w -- hello - "$(CURDIR)/bin/try/hello.c"
+	cd crates/ctangle && rt try --data hello.w=../../examples/hello.w \
+	    -- hello - "$(CURDIR)/bin/try/hello.c"
 	cat bin/try/hello.c
 	@echo 'This is bin/try/hello.c. Nothing was proved or built: make does both.'
 
