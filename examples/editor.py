@@ -3,149 +3,528 @@
 
 usage: editor.py [--change FILE] [--out FILE] WEB
 
-It starts retangle on the web and reads commands from standard input, a line each:
+It starts retangle on the web and reads commands from standard input, a line each. FILE is the rest
+of the line, without N where there is one; `./a.w` and a full path name the file `a.w` too.
 
-    save FILE    the editor has written FILE: sends what has changed in it, and prints the faults
-    faults       prints the faults of the web, as FILE:LINE: lines
-    work         prints how many names, the program being one, the last save affected
-    show FILE    prints the output file of this name
-    quit         ends the conversation, as does the end of the input
+    save FILE       the editor has written FILE, or removed it: sends what is not as retangle has it
+    update FILE N   FILE in the editor is the next N lines of the input, which are not saved
+    faults          the faults of the web
+    work            how many names, the program being one, the last edits affected
+    outputs         the names of the output files
+    show FILE       an output file
+    origin FILE N   from C to web: the file and line from which line N of an output was written
+    where FILE N    from web to C: the lines of the outputs that were written from line N
+    quit            ends the conversation, as does the end of the input
+
+Every answer ends with a line `ok`, or with a line that says what is wrong and then a line `no`.
+Neither is a line of an answer in another place, except in the answer to `show`: that is a line
+`= FILE LENGTH`, so many bytes, and `ok`. The other lines of an answer:
+
+    save, update        the faults, as `FILE:LINE: error: TEXT`, then `saved a.w: edits 2, faults 1`
+    faults              the faults
+    origin, where       FILE:LINE each
+
+An answer may begin with a line that says that retangle ended, or that it could not take a longer
+script, and was started again. It is given the files as they are on the disk then, and after them
+the lines of each update that was not saved. A file that is updated is the editor's until it is
+saved; any other is as it is on the disk, also one that a line begins to include.
 
 The exit status is that of retangle: 1 if there is an error among the faults at the end.
 RETANGLE in the environment names the program, if it is not `retangle` on the path.
 An editor that is written in Python can use the class Retangle itself.
 """
 import argparse
+import collections
 import contextlib
 import difflib
 import os
+import re
+import stat
 import subprocess
 import sys
+import tempfile
+
+FILE_BYTES = SCRIPT_BYTES = 67108864    # the limits of retangle
+RESERVE = 4096          # bytes of a script that are left for what ends it
+AT_ONCE = 1000          # requests that are sent before their answers are read: those fit in a pipe
+STARTS = 100            # so often retangle is started while its files change
+LARGEST = 1000000       # lines times lines that difflib compares; it takes too long for more
 
 
 class Refused(Exception):
-    """A list of edits was refused. Nothing was changed.
+    """Edits were refused, and nothing of them was made.
 
-    number says which of its edits was refused, from 1 on; it is 0 if memory ran out.
+    name is the file, number says which edit was refused, from 1 on; it is 0 if memory ran out.
     """
 
-    def __init__(self, refusal, number):
-        Exception.__init__(self, refusal, number)
-        self.refusal, self.number = refusal, number
+    REASONS = {
+        'BadName': 'this is no name of a file',
+        'LineTooLong': 'it has a line of more than 65,535 bytes',
+        'TooManyLines': 'it has more than 1,000,000 lines',
+        'TooManyFiles': 'the web has more than 256 files',
+        'NoMemory': 'retangle has not enough memory',
+        'TooLong': 'its edits are more than a script may have',
+    }
+
+    def __init__(self, refusal, number, name):
+        Exception.__init__(self, refusal, number, name)
+        self.refusal, self.number, self.name = refusal, number, name
+
+    def __str__(self):
+        return '%s: %s' % (os.fsdecode(self.name), self.REASONS.get(self.refusal, self.refusal))
+
+
+class Unreadable(Exception):
+    """A file cannot be read. is_missing: it is not there."""
+
+    def __init__(self, name, reason, is_missing=False):
+        Exception.__init__(self, name, reason)
+        self.name, self.reason, self.is_missing = name, reason, is_missing
+
+    def __str__(self):
+        return '%s: %s' % (os.fsdecode(self.name), self.reason)
 
 
 class Ended(Exception):
-    """retangle ended without an answer. The reason, if it gave one, is on standard error."""
+    """retangle ended without an answer. status is below 0 if a signal ended it."""
+
+    def __init__(self, status, reason):
+        Exception.__init__(self, status, reason)
+        self.status, self.reason = status, reason
+
+    def __str__(self):
+        how = 'with status %d' % self.status if self.status >= 0 else 'by signal %d' % -self.status
+        return 'retangle ended %s%s' % (how, self.reason and ' (%s)' % self.reason)
 
 
-class Retangle:
-    """A conversation with retangle. Names and texts are bytes."""
+class Full(Exception):
+    """The script of this run has no room for what is to be sent."""
 
-    def __init__(self, web, change=None, out=None):
-        arguments = [os.environ.get('RETANGLE', 'retangle'), web]
-        self.lines = {}                 # of the files that were sent, as retangle has them
-        self.keep(with_extension(web, b'.w'))
-        if change is not None:
-            arguments += [b'--change', change]
-            if change != b'-':
-                self.keep(with_extension(change, b'.ch'))
-        if out is not None:
-            arguments += [b'--out', out]
-        self.process = subprocess.Popen(arguments, stdin=subprocess.PIPE, stdout=subprocess.PIPE)
 
-    def keep(self, name):
-        self.lines[name] = lines_of(name)
+Fault = collections.namedtuple('Fault', 'file line severity text')
+Fault.__doc__ = """A fault. file and line are None where it belongs to no line; severity is 'error'
+or 'warning'; file and text are bytes."""
 
-    # ------------------------------------------------------------------ requests
 
-    def ask(self, request, text=None):
-        """Sends a request, with its line of text if it has one. The first line of the answer."""
+# ---------------------------------------------------------------------- one run of retangle
+
+class Run:
+    """One run of retangle, which ends when it is closed. Requests and answers are bytes."""
+
+    def __init__(self, arguments, folder):
+        self.sent, self.is_over = 0, False
+        self.errors = tempfile.TemporaryFile()
         try:
-            self.process.stdin.write(request + b'\n' + (b'' if text is None else text + b'\n'))
+            self.process = subprocess.Popen(arguments, cwd=folder, stdin=subprocess.PIPE,
+                                            stdout=subprocess.PIPE, stderr=self.errors)
+        except OSError as error:
+            raise Ended(127, 'it cannot be run: %s' % error.strerror) from None
+
+    def send(self, text):
+        self.sent += len(text)
+        try:
+            self.process.stdin.write(text)
             self.process.stdin.flush()
         except BrokenPipeError:
-            with contextlib.suppress(BrokenPipeError):
-                self.process.stdin.close()
-            raise Ended()
-        return self.answer_line()
+            raise self.ended() from None
 
-    def answer_line(self):
+    def line(self):
+        """The next line of an answer."""
         line = self.process.stdout.readline()
         if not line.endswith(b'\n'):
-            raise Ended()
+            raise self.ended()
         return line[:-1]
 
-    def faults(self):
-        """The lines of the faults."""
-        count = int(self.ask(b'faults').split(b' ')[1])
-        return [self.answer_line() for _ in range(count)]
+    def bytes(self, length):
+        """So many bytes of an answer."""
+        found = self.process.stdout.read(length)
+        if len(found) < length:
+            raise self.ended()
+        return found
 
-    def work(self):
-        """How many names, the program being one, the last list of edits had to expand."""
-        return int(self.ask(b'work').split(b' ')[1])
+    def ask(self, request):
+        """The first line of the answer to a request."""
+        self.send(request + b'\n')
+        return self.line()
 
-    def show(self, name):
-        """The bytes of an output file, or None where there is none of this name."""
-        answer = self.ask(b'show ' + name)
-        if answer == b'no NoOutput':
-            return None
-        length = int(answer.rsplit(b' ', 1)[1])
-        shown = self.process.stdout.read(length)
-        if len(shown) < length:
-            raise Ended()
-        return shown
+    def ask_all(self, requests):
+        """The answers to requests that are answered by a line each."""
+        answers = []
+        for at in range(0, len(requests), AT_ONCE):
+            block = requests[at:at + AT_ONCE]
+            self.send(b''.join(request + b'\n' for request in block))
+            answers += [self.line() for _ in block]
+        return answers
 
-    def quit(self):
-        """Ends the conversation. The exit status."""
-        self.ask(b'quit')
+    def fault_lines(self):
+        return [self.line() for _ in range(int(self.ask(b'faults').split(b' ')[1]))]
+
+    def close(self):
+        """Ends the run. The exit status."""
+        self.is_over = True
+        with contextlib.suppress(BrokenPipeError):
+            self.process.stdin.close()
+        self.process.stdout.close()
         return self.process.wait()
 
-    # ------------------------------------------------------------------ saving
+    def ended(self):
+        """The exception that says how the run ended."""
+        status = self.close()
+        self.errors.seek(0)
+        said = b' '.join(self.errors.read().split(b'\n')).strip().decode(errors='replace')
+        return Ended(status, said[len('retangle: '):] if said.startswith('retangle: ') else said)
+
+
+# ---------------------------------------------------------------------- files as lines
+
+Text = collections.namedtuple('Text', 'stamp lines inclusions')
+Text.__doc__ = """A file as retangle takes it: its lines, and the names that they may include. The
+stamp of a file on the disk is another one when the file was written."""
+
+INCLUSION = re.compile(rb'@[iI][ \t\r\v\f]*(?:"([^"]*)|([^ \t\r\v\f"]+))')
+
+
+def lines_of(text):
+    """The lines of a text, without the spaces at their ends. Bytes after the last line feed are a
+    line too, even if they are spaces alone."""
+    lines = text.split(b'\n')
+    if not lines[-1]:
+        lines.pop()
+    return [line.rstrip(b' ') for line in lines]
+
+
+def text_of(lines, stamp=None):
+    found = [INCLUSION.match(line) for line in lines if line.startswith((b'@i', b'@I'))]
+    return Text(stamp, lines, [name[1] or name[2] or b'' for name in found if name])
+
+
+def read_text(name, path, known=None):
+    """The text of a file on the disk; the one that is known if it was not written since."""
+    try:
+        status = os.stat(path)
+        stamp = (status.st_dev, status.st_ino, status.st_mtime_ns, status.st_size)
+        if known is not None and known.stamp == stamp:
+            return known
+        if stat.S_ISDIR(status.st_mode):
+            raise Unreadable(name, 'it is a folder')
+        if not stat.S_ISREG(status.st_mode):
+            raise Unreadable(name, 'it is no file with a text')
+        with open(path, 'rb') as file:
+            text = file.read(FILE_BYTES + 1)
+    except (FileNotFoundError, NotADirectoryError):
+        raise Unreadable(name, 'there is no such file', True) from None
+    except PermissionError:
+        raise Unreadable(name, 'it may not be read') from None
+    except (OSError, ValueError) as error:
+        raise Unreadable(name, 'it cannot be read: %s' % error) from None
+    if len(text) > FILE_BYTES:
+        raise Unreadable(name, 'it has more than 67,108,864 bytes')
+    return text_of(lines_of(text), stamp)
+
+
+# ---------------------------------------------------------------------- a web and its C
+
+class Retangle:
+    """A web, its files as they are on the disk or in an editor, and the C and the faults of it.
+
+    Names, lines and outputs are bytes. A name is a name in the folder `cwd`, or a full path.
+    All calls but close may raise Ended, where retangle cannot be started; the next call starts it
+    again. One that ends later is started again without that, and `notices` gets a line of text.
+    """
+
+    def __init__(self, web, change=None, out=None, cwd=b'.', program=None):
+        program = program or os.environ.get('RETANGLE', 'retangle')
+        self.folder = os.path.abspath(os.fsencode(cwd))
+        self.arguments = [os.path.abspath(program) if '/' in program else program, b'--', web]
+        self.roles = [with_extension(web, b'.w')]
+        if change is not None:
+            self.arguments[1:1] = [b'--change=' + change]
+            if change != b'-':
+                self.roles.append(with_extension(change, b'.ch'))
+        if out is not None:
+            self.arguments[1:1] = [b'--out=' + out]
+        main = web.rsplit(b'/', 1)[-1].rsplit(b'.', 1)[0]
+        self.main = with_extension(out or main, b'.c')
+        self.buffers = {}       # path: text, of the files that the editor has not saved
+        self.readings = {}      # path: text, of the files on the disk
+        self.held = {}          # name: lines, of the files as retangle has them
+        self.refused = {}       # name: text, of the files that retangle did not take so
+        self.notices = []
+        self.run = None
+        self.start()
+
+    # ------------------------------------------------------------------ starting
+
+    def start(self):
+        """Starts retangle, so that what it has read is known. It has read its files when it answers
+        the first question; they are read before it and after it, and have to be the same."""
+        self.kept = {}
+        before = self.texts_on_disk()
+        for _ in range(STARTS):
+            run = Run(self.arguments, self.folder)
+            run.fault_lines()
+            after = self.texts_on_disk()
+            if after == before:
+                break
+            run.close()
+            before = after
+        else:
+            raise Ended(3, 'its files change all the time')
+        self.run, self.held = run, {}
+        for name, text in after.items():
+            self.held.update(self.held_at_start(name, text))
+        try:
+            self.bring()
+        except Refused as refused:
+            self.notices.append(str(refused))
+
+    def texts_on_disk(self):
+        self.readings = {}
+        return self.texts({})
+
+    def held_at_start(self, name, text):
+        """What retangle has of a file that some line includes. A change may have taken this line,
+        so that it was not read: then it is created."""
+        if name in self.roles:
+            return {name: text.lines if text else []}
+        answer = self.run.ask(b'create ' + name) if text else b'no'
+        return {b'ok': {name: []}, b'no FileExists': {name: text and text.lines}}.get(answer, {})
+
+    def restart(self, why):
+        self.notices.append('%s; it was started again' % why)
+        self.start()
+
+    def answer(self, question):
+        """The answer of the run to a question. A run that has ended is started again, once."""
+        if self.run is None or self.run.is_over:
+            self.start()
+        if self.run.sent > SCRIPT_BYTES - RESERVE:
+            self.renew()
+        try:
+            return question()
+        except Ended as ended:
+            self.restart(ended)
+        return question()
+
+    def renew(self):
+        self.run.close()
+        self.restart('retangle was ended before its script was too long')
+
+    # ------------------------------------------------------------------ the files
+
+    def path(self, name):
+        """Where a file is. Two names of it have one path."""
+        if b'\0' in name or b'\n' in name:
+            raise Unreadable(name.replace(b'\n', b' '), 'this is no name of a file')
+        return os.path.realpath(os.path.join(self.folder, name))
+
+    def names(self, name):
+        """The names by which the web has a file."""
+        path = self.path(name)
+        return [known for known, lines in self.held.items()
+                if lines is not None and self.path(known) == path]
+
+    def text(self, name, buffers):
+        """The text of a file, or None where it cannot be read: it cannot be included then."""
+        try:
+            path = self.path(name)
+            if path in buffers:
+                return buffers[path]
+            self.readings[path] = read_text(name, path, self.readings.get(path))
+            return self.readings[path]
+        except Unreadable:
+            return None
+
+    def texts(self, buffers):
+        """The files of the web by name: those of the arguments, and what lines of them include."""
+        found, names = {}, list(self.roles)
+        while names:
+            name = names.pop(0)
+            if name not in found:
+                found[name] = text = self.text(name, buffers)
+                names += text.inclusions if text else []
+        return found
+
+    def update(self, name, lines):
+        """The file is these lines in the editor. The number of edits that were made for that."""
+        if b'\n' in b''.join(lines):
+            raise ValueError('a line with a line feed')
+        self.buffers[self.path(name)] = text_of([line.rstrip(b' ') for line in lines])
+        return self.answer(self.bring)
 
     def save(self, name):
-        """Sends what has changed in a file on the disk. The number of edits."""
-        new = lines_of(name)
-        made = edits(name, self.lines.get(name), new)
-        if name in self.lines:
-            self.commit(made)
-        else:
-            try:                        # retangle has the file already if the web includes it
-                self.commit([(b'discard ' + name, None)] + made)
-            except Refused as refused:
-                if refused.refusal != 'UnknownFile':
-                    raise
+        """The file is as it is on the disk, from now on. The number of edits."""
+        path = self.path(name)
+        try:
+            self.readings[path] = read_text(name, path)
+        except Unreadable as unreadable:
+            known = self.names(name)
+            if not (unreadable.is_missing and known) or set(known) & set(self.roles):
+                raise
+        self.buffers.pop(path, None)
+        return self.answer(self.bring)
+
+    def bring(self):
+        """Sends all that is not as retangle has it. The number of edits."""
+        texts, first = self.texts(self.buffers), None
+        self.kept = {}
+        while True:
+            made = self.edits(texts)
+            try:
                 self.commit(made)
-        self.lines[name] = new
+                break
+            except Full:
+                self.renew()            # it is given all files then
+                return 0
+            except Refused as refused:
+                if not refused.number:
+                    raise
+                first = first or refused
+                self.refused[refused.name] = texts[refused.name]
+        for name in {name for name, _, _ in made}:
+            self.held[name] = texts[name] and texts[name].lines
+        if first:
+            raise first
         return len(made)
+
+    def edits(self, texts):
+        """The edits that bring retangle to these texts, with the names of their files before them.
+        A text that was refused is not tried again, so that other files can be sent."""
+        made = []
+        for name, text in texts.items():
+            is_kept = text is None and name in self.roles       # these cannot be discarded
+            if not is_kept and self.refused.get(name, '') is not text:
+                new = text and text.lines
+                made += [(name,) + edit for edit in edits(name, self.held.get(name), new)]
+        return made
 
     def commit(self, made):
         """Sends a list of edits. All of them are made, or none."""
-        self.ask(b'begin')
-        for request, text in made:
-            answer = self.ask(request, text)
-            if answer != b'held':
-                self.ask(b'cancel')
-                raise Refused(answer.split(b' ')[1].decode(), 0)
-        answer = self.ask(b'commit').split(b' ')
+        if not made:
+            return
+        lines = [request if text is None else request + b'\n' + text for _, request, text in made]
+        size = sum(map(len, lines)) + len(lines) + RESERVE
+        if self.run.sent + size > SCRIPT_BYTES:
+            if size > SCRIPT_BYTES - RESERVE:
+                raise Refused('TooLong', 1, made[0][0])
+            raise Full()
+        self.run.ask(b'begin')
+        if set(self.run.ask_all(lines)) != {b'held'}:
+            self.run.ask(b'cancel')
+            raise Refused('NoMemory', 0, made[0][0])
+        answer = self.run.ask(b'commit').split(b' ')
         if answer[0] == b'no':
-            raise Refused(answer[1].decode(), int(answer[2]))
+            number = int(answer[2])
+            raise Refused(answer[1].decode(), number, made[max(number, 1) - 1][0])
+
+    # ------------------------------------------------------------------ questions
+
+    def faults(self):
+        """The faults, as a list of Fault."""
+        return [fault_of(line) for line in self.answer(lambda: self.run.fault_lines())]
+
+    def work(self):
+        """How many names, the program being one, the last list of edits had to expand."""
+        return int(self.answer(lambda: self.run.ask(b'work')).split(b' ')[1])
+
+    def show(self, name):
+        """The bytes of an output file, or None where there is none of this name."""
+        if name not in self.kept:
+            shown = self.answer(lambda: self.shown(name))
+            self.kept[name] = shown
+        return self.kept[name]
+
+    def shown(self, name):
+        answer = self.run.ask(b'show ' + name)
+        return None if answer == b'no NoOutput' else self.run.bytes(int(answer.rsplit(b' ', 1)[1]))
+
+    def outputs(self):
+        """The names of the output files, the main file first."""
+        names = [self.main]
+        for lines in filter(None, self.held.values()):
+            names += file_names(b'\n'.join(lines))
+        return [name for name in dict.fromkeys(names) if self.show(name) is not None]
+
+    def close(self):
+        """Ends the conversation. The exit status of retangle."""
+        return self.run.close()
+
+    # ------------------------------------------------------------------ from C to web and back
+
+    def origins(self, output):
+        """Of each line of an output file the file and line from which it was written, or None."""
+        return origins(self.show(output) or b'', self.held)
+
+    def origin(self, output, line):
+        """The file and line from which a line of an output was written, or None."""
+        found = self.origins(output)
+        return found[line - 1] if 1 <= line <= len(found) else None
+
+    def places(self, name, line):
+        """The lines of outputs that were written from a line of a file, as (OUTPUT, LINE)."""
+        origins = {(known, line) for known in self.names(name)}
+        return [(output, at) for output in self.outputs()
+                for at, origin in enumerate(self.origins(output), 1) if origin in origins]
 
 
 def with_extension(name, extension):
     return name if b'.' in name.rsplit(b'/', 1)[-1] else name + extension
 
 
-def lines_of(name):
-    """The lines of a file on the disk, without spaces at their ends; None if it is not there."""
-    try:
-        with open(name, 'rb') as file:
-            lines = [line.rstrip(b' ') for line in file.read().split(b'\n')]
-    except FileNotFoundError:
-        return None
-    return lines if lines[-1] else lines[:-1]
+FAULT = re.compile(rb'(?:(.*?):(\d+): )?(error|warning): (.*)')
 
 
-# ---------------------------------------------------------------------- the edits of a save
+def fault_of(line):
+    file, number, severity, text = FAULT.fullmatch(line).groups()
+    return Fault(file, number and int(number), severity.decode(), text)
+
+
+def fault_line(fault):
+    """The line that reports a fault."""
+    place = b'' if fault.file is None else b'%s:%d: ' % (fault.file, fault.line)
+    return b'%s%s: %s' % (place, fault.severity.encode(), fault.text)
+
+
+# ---------------------------------------------------------------------- outputs and their lines
+
+NAME = re.compile(rb'@([<(])(?=((?:[^@]|@[^>]){0,2000})@>)')
+SPACE = re.compile(rb'[ \t\r\v\f\n]+')
+
+
+def file_names(text):
+    """What may be the name of an output file: retangle says which of them are."""
+    names = [(kind, SPACE.sub(b' ', name.replace(b'@@', b'@')).strip(b' '))
+             for kind, name in NAME.findall(text)]
+    prefixes = tuple(name[:-3] for kind, name in names if kind == b'(' and name.endswith(b'...'))
+    return [name for kind, name in names if kind == b'(' or prefixes and name.startswith(prefixes)]
+
+
+MARK = re.compile(rb'#line (\d+) "((?:[^"\\]|\\.)*)"')
+NUMBERS = re.compile(rb'(?: ?/\*:?\d+:?\*/)+ ?')      # the comments around a piece alone
+MACRO = re.compile(rb'#define (\w+)')
+
+
+def origins(output, files):
+    """Of each line of an output the file and line from which it was written, by its #lines, or
+    None. A #line is written from the line that it names. The macros that @h gives have no #line."""
+    found, file, number, is_macro = [], None, 0, False
+    for text in output.split(b'\n')[:-1]:
+        mark = MARK.fullmatch(text)
+        if mark:
+            file, number = re.sub(rb'\\(.)', rb'\1', mark[2]), int(mark[1])
+            found.append((file, number))
+            is_macro = False
+            continue
+        lines, macro = files.get(file) or (), MACRO.match(text)
+        is_line = 1 <= number <= len(lines)
+        is_macro = is_macro or bool(macro and is_line and macro[1] not in lines[number - 1])
+        is_written = is_line and not is_macro and not NUMBERS.fullmatch(text)
+        found.append((file, number) if is_written else None)
+        number += 1
+    return found
+
+
+# ---------------------------------------------------------------------- the edits of a file
 
 def edits(name, old, new):
     """The edits that turn the old lines into the new ones; None instead of lines is no file.
@@ -165,11 +544,19 @@ def line_edits(name, old, new):
     back = common_front(old[front:][::-1], new[front:][::-1])
     old_part, new_part = old[front:len(old) - back], new[front:len(new) - back]
     made = []
-    blocks = difflib.SequenceMatcher(None, old_part, new_part).get_opcodes()
-    for kind, start, end, new_start, new_end in reversed(blocks):
-        if kind != 'equal':
-            made += block_edits(name, front + start + 1, end - start, new_part[new_start:new_end])
+    for start, end, new_start, new_end in reversed(blocks(old_part, new_part)):
+        made += block_edits(name, front + start + 1, end - start, new_part[new_start:new_end])
     return made
+
+
+def blocks(old, new):
+    """What differs, as (START, END, NEW_START, NEW_END)."""
+    if len(old) * len(new) <= LARGEST:
+        found = difflib.SequenceMatcher(None, old, new).get_opcodes()
+        return [block for kind, *block in found if kind != 'equal']
+    if len(old) == len(new):
+        return [(at, at + 1, at, at + 1) for at in range(len(old)) if old[at] != new[at]]
+    return [(0, len(old), 0, len(new))]
 
 
 def common_front(old, new):
@@ -193,50 +580,108 @@ def block_edits(name, line, count, texts):
 
 # ---------------------------------------------------------------------- the commands
 
-def save(project, name):
+class Wrong(Exception):
+    """A command cannot be answered; the text says why."""
+
+
+def number_after(words):
+    """What is before the last space, and the number after it."""
+    name, _, number = words.rpartition(b' ')
+    if not name or not re.fullmatch(rb'[0-9]{1,9}', number):
+        raise Wrong('a name and a number must follow')
+    return name, int(number)
+
+
+def sent(project, done, name, send):
+    """The answer to an edit: the faults, and what was sent."""
     try:
-        count = project.save(name)
+        count = send()
     except Refused as refused:
-        return [b'%s was not saved: edit %d: %s' % (name, refused.number, refused.refusal.encode())]
-    faults = project.faults()
-    return faults + [b'saved %s: edits %d, faults %d' % (name, count, len(faults))]
+        raise Wrong('%s was not %s: %s' % (os.fsdecode(name), done, refused)) from None
+    lines = [fault_line(fault) for fault in project.faults()]
+    return lines + [b'%s %s: edits %d, faults %d' % (done.encode(), name, count, len(lines))]
+
+
+def save(project, name):
+    return sent(project, 'saved', name, lambda: project.save(name))
+
+
+def update(project, words):
+    name, count = number_after(words)
+    lines = [line for _, line in zip(range(count), sys.stdin.buffer)]
+    if len(lines) < count:
+        raise Wrong('%s was not updated: the input has ended' % os.fsdecode(name))
+    lines = [line.removesuffix(b'\n') for line in lines]
+    return sent(project, 'updated', name, lambda: project.update(name, lines))
 
 
 def show(project, name):
-    shown = project.show(name)
-    return b'no output file %s\n' % name if shown is None else shown
+    output = project.show(name)
+    if output is None:
+        raise Wrong('no output file %s' % os.fsdecode(name))
+    return [b'= %s %d' % (name, len(output))] + output.split(b'\n')[:-1]
 
 
-def reply(project, command, name):
-    """What a command prints."""
-    if command == b'show':
-        return show(project, name)
-    lines = {
-        b'save': lambda: save(project, name),
-        b'faults': project.faults,
-        b'work': lambda: [b'%d' % project.work()],
-    }.get(command, lambda: [b'no such command'])()
-    return b''.join(line + b'\n' for line in lines)
+def origin(project, words):
+    name, line = number_after(words)
+    show(project, name)
+    found = project.origin(name, line)
+    if found is None:
+        raise Wrong('%s:%d: from no line of the web' % (os.fsdecode(name), line))
+    return [b'%s:%d' % found]
+
+
+def where(project, words):
+    name, line = number_after(words)
+    if not project.names(name):
+        raise Wrong('%s: no file of the web' % os.fsdecode(name))
+    found = project.places(name, line)
+    if not found:
+        raise Wrong('%s:%d: in no output' % (os.fsdecode(name), line))
+    return [b'%s:%d' % place for place in found]
+
+
+COMMANDS = {
+    b'save': save, b'update': update, b'show': show, b'origin': origin, b'where': where,
+    b'faults': lambda project, _: [fault_line(fault) for fault in project.faults()],
+    b'work': lambda project, _: [b'%d' % project.work()],
+    b'outputs': lambda project, _: project.outputs(),
+}
+
+
+def answer(project, line):
+    """The lines that answer a command."""
+    command, _, words = line.partition(b' ')
+    try:
+        if command not in COMMANDS:
+            raise Wrong('no such command')
+        lines = COMMANDS[command](project, words) + [b'ok']
+    except (Wrong, Unreadable, Ended) as wrong:
+        lines = [os.fsencode(str(wrong)), b'no']
+    notices, project.notices = project.notices, []
+    return [os.fsencode(notice) for notice in notices] + lines
 
 
 def main():
-    parser = argparse.ArgumentParser(description='Saves, faults and outputs of a web, by retangle.')
+    parser = argparse.ArgumentParser(description='The C and the faults of a web, by retangle.')
     parser.add_argument('--change')
     parser.add_argument('--out')
     parser.add_argument('web')
     arguments = parser.parse_args()
     names = [arguments.web, arguments.change, arguments.out]
-    project = Retangle(*[None if name is None else os.fsencode(name) for name in names])
     try:
-        for line in sys.stdin.buffer:
-            command, _, name = line.rstrip(b'\n').partition(b' ')
-            if command == b'quit':
-                break
-            sys.stdout.buffer.write(reply(project, command, name))
-            sys.stdout.buffer.flush()
-        return project.quit()
-    except Ended:
-        return project.process.wait()
+        project = Retangle(*[None if name is None else os.fsencode(name) for name in names])
+    except Ended as ended:
+        print('retangle: %s' % ended.reason, file=sys.stderr)
+        return ended.status
+    for line in sys.stdin.buffer:
+        line = line.removesuffix(b'\n')
+        lines = [b'ok'] if line == b'quit' else answer(project, line)
+        sys.stdout.buffer.write(b''.join(line + b'\n' for line in lines))
+        sys.stdout.buffer.flush()
+        if line == b'quit':
+            break
+    return project.close()
 
 
 if __name__ == '__main__':
