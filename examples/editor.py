@@ -45,14 +45,14 @@ import sys
 import tempfile
 
 FILE_BYTES = SCRIPT_BYTES = 67108864    # the limits of retangle
-RESERVE = 4096          # bytes of a script that are left for what ends it
+LIST_BYTES = SCRIPT_BYTES - 1000000     # a list of this length has room in a script that begins
 AT_ONCE = 1000          # requests that are sent before their answers are read: those fit in a pipe
 STARTS = 100            # so often retangle is started while its files change
 LARGEST = 1000000       # lines times lines that difflib compares; it takes too long for more
 
 
 class Refused(Exception):
-    """Edits were refused, and nothing of them was made.
+    """A file was not taken, and is as it was to retangle.
 
     name is the file, number says which edit was refused, from 1 on; it is 0 if memory ran out.
     """
@@ -71,7 +71,15 @@ class Refused(Exception):
         self.refusal, self.number, self.name = refusal, number, name
 
     def __str__(self):
-        return '%s: %s' % (os.fsdecode(self.name), self.REASONS.get(self.refusal, self.refusal))
+        reason = self.REASONS.get(self.refusal, self.refusal)
+        return '%s was not taken: %s' % (os.fsdecode(self.name), reason)
+
+
+class Full(Refused):
+    """The script of this run has no room for a request. Another run may have it."""
+
+    def __init__(self, request):
+        Refused.__init__(self, 'TooLong', 0, request)
 
 
 class Unreadable(Exception):
@@ -97,10 +105,6 @@ class Ended(Exception):
         return 'retangle ended %s%s' % (how, self.reason and ' (%s)' % self.reason)
 
 
-class Full(Exception):
-    """The script of this run has no room for what is to be sent."""
-
-
 Fault = collections.namedtuple('Fault', 'file line severity text')
 Fault.__doc__ = """A fault. file and line are None where it belongs to no line; severity is 'error'
 or 'warning'; file and text are bytes."""
@@ -119,6 +123,11 @@ class Run:
                                             stdout=subprocess.PIPE, stderr=self.errors)
         except OSError as error:
             raise Ended(127, 'it cannot be run: %s' % error.strerror) from None
+
+    def make_room(self, request, size):
+        """Nothing of a request is sent where all of it is more than the script may have."""
+        if self.sent + size > SCRIPT_BYTES:
+            raise Full(request)
 
     def send(self, text):
         self.sent += len(text)
@@ -144,6 +153,7 @@ class Run:
 
     def ask(self, request):
         """The first line of the answer to a request."""
+        self.make_room(request, len(request) + 1)
         self.send(request + b'\n')
         return self.line()
 
@@ -158,6 +168,10 @@ class Run:
 
     def fault_lines(self):
         return [self.line() for _ in range(int(self.ask(b'faults').split(b' ')[1]))]
+
+    def output(self, name):
+        answer = self.ask(b'show ' + name)
+        return None if answer == b'no NoOutput' else self.bytes(int(answer.rsplit(b' ', 1)[1]))
 
     def close(self):
         """Ends the run. The exit status."""
@@ -250,65 +264,72 @@ class Retangle:
         self.held = {}          # name: lines, of the files as retangle has them
         self.refused = {}       # name: text, of the files that retangle did not take so
         self.notices = []
-        self.run = None
         self.start()
 
     # ------------------------------------------------------------------ starting
 
     def start(self):
-        """Starts retangle, so that what it has read is known. It has read its files when it answers
-        the first question; they are read before it and after it, and have to be the same."""
-        self.kept = {}
-        before = self.texts_on_disk()
-        for _ in range(STARTS):
-            run = Run(self.arguments, self.folder)
-            run.fault_lines()
-            after = self.texts_on_disk()
-            if after == before:
-                break
-            run.close()
-            before = after
-        else:
-            raise Ended(3, 'its files change all the time')
-        self.run, self.held = run, {}
-        for name, text in after.items():
-            self.held.update(self.held_at_start(name, text))
+        """Starts retangle, and gives it what the editor has not saved."""
+        self.shown = {}
+        self.run, texts = self.start_on(self.texts_on_disk())
+        self.held = {}
+        for name, text in texts.items():
+            self.held[name] = self.lines_at_start(name, text)
         try:
             self.bring()
         except Refused as refused:
             self.notices.append(str(refused))
 
+    def start_on(self, before):
+        """A run of which it is known what it has read. It has read all files when it answers the
+        first question. They are read here before it starts and after that; it is started again
+        where they are not the same."""
+        for _ in range(STARTS):
+            run, ended = Run(self.arguments, self.folder), None
+            try:
+                run.fault_lines()
+            except Ended as error:
+                ended = error
+            after = self.texts_on_disk()
+            if after == before and ended:
+                raise ended
+            if after == before:
+                return run, after
+            run.close()
+            before = after
+        raise Ended(3, 'its files change all the time')
+
     def texts_on_disk(self):
         self.readings = {}
         return self.texts({})
 
-    def held_at_start(self, name, text):
-        """What retangle has of a file that some line includes. A change may have taken this line,
-        so that it was not read: then it is created."""
-        if name in self.roles:
-            return {name: text.lines if text else []}
-        answer = self.run.ask(b'create ' + name) if text else b'no'
-        return {b'ok': {name: []}, b'no FileExists': {name: text and text.lines}}.get(answer, {})
-
-    def restart(self, why):
-        self.notices.append('%s; it was started again' % why)
-        self.start()
+    def lines_at_start(self, name, text):
+        """What retangle has of a file that is in the roles, or that some line includes. A change
+        may have taken this line, so that the file was not read; then it is created here."""
+        if text is None or name in self.roles:
+            return text and text.lines
+        answer = self.run.ask(b'create ' + name)
+        return {b'no FileExists': text.lines, b'ok': []}.get(answer)
 
     def answer(self, question):
-        """The answer of the run to a question. A run that has ended is started again, once."""
-        if self.run is None or self.run.is_over:
+        """The answer of the run to a question. A run that has ended is started again, once, and so
+        is one of which the script has no room for the question."""
+        if self.run.is_over:
             self.start()
-        if self.run.sent > SCRIPT_BYTES - RESERVE:
-            self.renew()
         try:
             return question()
+        except Full:
+            self.run.close()
+            why = 'retangle was ended, since its script has no room for more'
         except Ended as ended:
-            self.restart(ended)
+            why = str(ended)
+        try:
+            self.start()
+        except Ended:
+            self.notices.append(why)
+            raise
+        self.notices.append(why + '; it was started again')
         return question()
-
-    def renew(self):
-        self.run.close()
-        self.restart('retangle was ended before its script was too long')
 
     # ------------------------------------------------------------------ the files
 
@@ -367,15 +388,12 @@ class Retangle:
     def bring(self):
         """Sends all that is not as retangle has it. The number of edits."""
         texts, first = self.texts(self.buffers), None
-        self.kept = {}
+        self.shown = {}
         while True:
             made = self.edits(texts)
             try:
                 self.commit(made)
                 break
-            except Full:
-                self.renew()            # it is given all files then
-                return 0
             except Refused as refused:
                 if not refused.number:
                     raise
@@ -392,10 +410,10 @@ class Retangle:
         A text that was refused is not tried again, so that other files can be sent."""
         made = []
         for name, text in texts.items():
+            old, new = self.held.get(name), text and text.lines
             is_kept = text is None and name in self.roles       # these cannot be discarded
-            if not is_kept and self.refused.get(name, '') is not text:
-                new = text and text.lines
-                made += [(name,) + edit for edit in edits(name, self.held.get(name), new)]
+            if new is not old and not is_kept and self.refused.get(name, '') is not text:
+                made += [(name,) + edit for edit in edits(name, old, new)]
         return made
 
     def commit(self, made):
@@ -403,11 +421,10 @@ class Retangle:
         if not made:
             return
         lines = [request if text is None else request + b'\n' + text for _, request, text in made]
-        size = sum(map(len, lines)) + len(lines) + RESERVE
-        if self.run.sent + size > SCRIPT_BYTES:
-            if size > SCRIPT_BYTES - RESERVE:
-                raise Refused('TooLong', 1, made[0][0])
-            raise Full()
+        size = len(b'begin\ncommit\n') + sum(map(len, lines)) + len(lines)
+        if size > LIST_BYTES:
+            raise Refused('TooLong', 1, made[0][0])
+        self.run.make_room(made[0][0], size)
         self.run.ask(b'begin')
         if set(self.run.ask_all(lines)) != {b'held'}:
             self.run.ask(b'cancel')
@@ -429,14 +446,9 @@ class Retangle:
 
     def show(self, name):
         """The bytes of an output file, or None where there is none of this name."""
-        if name not in self.kept:
-            shown = self.answer(lambda: self.shown(name))
-            self.kept[name] = shown
-        return self.kept[name]
-
-    def shown(self, name):
-        answer = self.run.ask(b'show ' + name)
-        return None if answer == b'no NoOutput' else self.run.bytes(int(answer.rsplit(b' ', 1)[1]))
+        if name not in self.shown:
+            self.shown[name] = self.answer(lambda: self.run.output(name))
+        return self.shown[name]
 
     def outputs(self):
         """The names of the output files, the main file first."""
@@ -456,9 +468,12 @@ class Retangle:
         return origins(self.show(output) or b'', self.held)
 
     def origin(self, output, line):
-        """The file and line from which a line of an output was written, or None."""
-        found = self.origins(output)
-        return found[line - 1] if 1 <= line <= len(found) else None
+        """The file and line from which a line of an output was written, or None. A #line has the
+        file and line that it names."""
+        lines = (self.show(output) or b'').split(b'\n')[:-1]
+        if not 1 <= line <= len(lines):
+            return None
+        return marked(lines[line - 1]) or self.origins(output)[line - 1]
 
     def places(self, name, line):
         """The lines of outputs that were written from a line of a file, as (OUTPUT, LINE)."""
@@ -504,18 +519,24 @@ NUMBERS = re.compile(rb'(?: ?/\*:?\d+:?\*/)+ ?')      # the comments around a pi
 MACRO = re.compile(rb'#define (\w+)')
 
 
+def marked(text):
+    """The file and line that a #line names, or None."""
+    mark = MARK.fullmatch(text)
+    return mark and (re.sub(rb'\\(.)', rb'\1', mark[2]), int(mark[1]))
+
+
 def origins(output, files):
     """Of each line of an output the file and line from which it was written, by its #lines, or
-    None. A #line is written from the line that it names. The macros that @h gives have no #line."""
+    None. The macros that @h gives have no #line: the C would count them as lines of the web."""
     found, file, number, is_macro = [], None, 0, False
     for text in output.split(b'\n')[:-1]:
-        mark = MARK.fullmatch(text)
+        mark, macro = marked(text), MACRO.match(text)
         if mark:
-            file, number = re.sub(rb'\\(.)', rb'\1', mark[2]), int(mark[1])
-            found.append((file, number))
+            file, number = mark
             is_macro = False
+            found.append(None)
             continue
-        lines, macro = files.get(file) or (), MACRO.match(text)
+        lines = files.get(file) or ()
         is_line = 1 <= number <= len(lines)
         is_macro = is_macro or bool(macro and is_line and macro[1] not in lines[number - 1])
         is_written = is_line and not is_macro and not NUMBERS.fullmatch(text)
@@ -592,27 +613,24 @@ def number_after(words):
     return name, int(number)
 
 
-def sent(project, done, name, send):
-    """The answer to an edit: the faults, and what was sent."""
-    try:
-        count = send()
-    except Refused as refused:
-        raise Wrong('%s was not %s: %s' % (os.fsdecode(name), done, refused)) from None
+def sent(project, done, name, count):
+    """The answer to an edit that was made: the faults, and what was sent."""
     lines = [fault_line(fault) for fault in project.faults()]
-    return lines + [b'%s %s: edits %d, faults %d' % (done.encode(), name, count, len(lines))]
+    return lines + [b'%s %s: edits %d, faults %d' % (done, name, count, len(lines))]
 
 
 def save(project, name):
-    return sent(project, 'saved', name, lambda: project.save(name))
+    if not name:
+        raise Wrong('a name must follow')
+    return sent(project, b'saved', name, project.save(name))
 
 
 def update(project, words):
     name, count = number_after(words)
-    lines = [line for _, line in zip(range(count), sys.stdin.buffer)]
+    lines = [line.removesuffix(b'\n') for _, line in zip(range(count), sys.stdin.buffer)]
     if len(lines) < count:
         raise Wrong('%s was not updated: the input has ended' % os.fsdecode(name))
-    lines = [line.removesuffix(b'\n') for line in lines]
-    return sent(project, 'updated', name, lambda: project.update(name, lines))
+    return sent(project, b'updated', name, project.update(name, lines))
 
 
 def show(project, name):
@@ -656,7 +674,7 @@ def answer(project, line):
         if command not in COMMANDS:
             raise Wrong('no such command')
         lines = COMMANDS[command](project, words) + [b'ok']
-    except (Wrong, Unreadable, Ended) as wrong:
+    except (Wrong, Refused, Unreadable, Ended) as wrong:
         lines = [os.fsencode(str(wrong)), b'no']
     notices, project.notices = project.notices, []
     return [os.fsencode(notice) for notice in notices] + lines
@@ -672,8 +690,8 @@ def main():
     try:
         project = Retangle(*[None if name is None else os.fsencode(name) for name in names])
     except Ended as ended:
-        print('retangle: %s' % ended.reason, file=sys.stderr)
-        return ended.status
+        print('retangle: %s' % (ended.reason or ended), file=sys.stderr)
+        return exit_status(ended.status)
     for line in sys.stdin.buffer:
         line = line.removesuffix(b'\n')
         lines = [b'ok'] if line == b'quit' else answer(project, line)
@@ -681,7 +699,12 @@ def main():
         sys.stdout.buffer.flush()
         if line == b'quit':
             break
-    return project.close()
+    return exit_status(project.close())
+
+
+def exit_status(status):
+    """A signal that ended retangle is above 128, as a shell has it."""
+    return status if status >= 0 else 128 - status
 
 
 if __name__ == '__main__':
