@@ -193,7 +193,7 @@ class Run:
 
 Text = collections.namedtuple('Text', 'stamp lines inclusions')
 Text.__doc__ = """A file as retangle takes it: its lines, and the names that they may include. The
-stamp of a file on the disk is another one when the file was written."""
+stamp of a file on the disk is another one when the file was written, or moved there."""
 
 INCLUSION = re.compile(rb'@[iI][ \t\r\v\f]*(?:"([^"]*)|([^ \t\r\v\f"]+))')
 
@@ -216,7 +216,7 @@ def read_text(name, path, known=None):
     """The text of a file on the disk; the one that is known if it was not written since."""
     try:
         status = os.stat(path)
-        stamp = (status.st_dev, status.st_ino, status.st_mtime_ns, status.st_size)
+        stamp = (status.st_dev, status.st_ino, status.st_ctime_ns, status.st_size)
         if known is not None and known.stamp == stamp:
             return known
         if stat.S_ISDIR(status.st_mode):
@@ -270,7 +270,7 @@ class Retangle:
 
     def start(self):
         """Starts retangle, and gives it what the editor has not saved."""
-        self.shown = {}
+        self.forget()
         self.run, texts = self.start_on(self.texts_on_disk())
         self.held = {}
         for name, text in texts.items():
@@ -370,8 +370,16 @@ class Retangle:
         """The file is these lines in the editor. The number of edits that were made for that."""
         if b'\n' in b''.join(lines):
             raise ValueError('a line with a line feed')
-        self.buffers[self.path(name)] = text_of([line.rstrip(b' ') for line in lines])
-        return self.answer(self.bring)
+        path = self.path(name)
+        before = {path: self.buffers[path]} if path in self.buffers else {}
+        self.buffers[path] = text_of([line.rstrip(b' ') for line in lines])
+        try:
+            return self.answer(self.bring)
+        except Refused as refused:
+            if self.path(refused.name) == path:
+                del self.buffers[path]
+                self.buffers.update(before)
+            raise
 
     def save(self, name):
         """The file is as it is on the disk, from now on. The number of edits."""
@@ -388,7 +396,7 @@ class Retangle:
     def bring(self):
         """Sends all that is not as retangle has it. The number of edits."""
         texts, first = self.texts(self.buffers), None
-        self.shown = {}
+        self.forget()
         while True:
             made = self.edits(texts)
             try:
@@ -452,10 +460,16 @@ class Retangle:
 
     def outputs(self):
         """The names of the output files, the main file first."""
-        names = [self.main]
-        for lines in filter(None, self.held.values()):
-            names += file_names(b'\n'.join(lines))
-        return [name for name in dict.fromkeys(names) if self.show(name) is not None]
+        if self.listed is None:
+            names = [self.main]
+            for lines in filter(None, self.held.values()):
+                names += file_names(b'\n'.join(lines))
+            self.listed = [name for name in dict.fromkeys(names) if self.show(name) is not None]
+        return self.listed
+
+    def forget(self):
+        """Before the outputs change: what is kept of them is dropped."""
+        self.shown, self.mapped, self.listed = {}, {}, None
 
     def close(self):
         """Ends the conversation. The exit status of retangle."""
@@ -465,7 +479,10 @@ class Retangle:
 
     def origins(self, output):
         """Of each line of an output file the file and line from which it was written, or None."""
-        return origins(self.show(output) or b'', self.held)
+        shown = self.show(output) or b''
+        if output not in self.mapped:
+            self.mapped[output] = origins(shown, self.held)
+        return self.mapped[output]
 
     def origin(self, output, line):
         """The file and line from which a line of an output was written, or None. A #line has the

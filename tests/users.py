@@ -4,13 +4,11 @@ usage: users.py CTANGLE RETANGLE TOP       TOP is the folder of the repository
 
 - README.md: the web, its C and its fault, the rule for a Makefile, the conversation.
 - make install and make uninstall, with the manual pages.
-- examples/editor.py: as a program, and each save against what ctangle makes of the files.
 - examples/several: both recipes.
 
 The last line is 'N passed, M failed'.
 """
 import os
-import random
 import re
 import shutil
 import subprocess
@@ -18,11 +16,7 @@ import sys
 import tempfile
 
 ctangle, retangle, top = (os.path.abspath(path) for path in sys.argv[1:4])
-sys.path[:0] = [os.path.join(top, below) for below in ('examples', 'tests', 'tests/reference')]
-import editor
 from checks import blocks_of, check, finish, lay, read, same, turns_of, write
-from limits import LINE_BYTES
-from sessions import edited_lines
 
 PATIENCE = 60           # seconds for a run
 
@@ -157,164 +151,7 @@ def test_names():
         check(is_there(top, name), 'README.md', '%s is not there' % name)
 
 
-# ---------------------------------------------------------------------- the editor's client
-
-CLIENT = [sys.executable, '-B', os.path.join(top, 'examples', 'editor.py')]
-
-
-class Client:
-    """The client as a program: each command is answered before the next one is sent."""
-
-    def __init__(self, folder, *arguments):
-        self.folder = folder
-        self.process = subprocess.Popen(CLIENT + list(arguments), cwd=folder,
-                                        stdin=subprocess.PIPE, stdout=subprocess.PIPE,
-                                        env=dict(os.environ, RETANGLE=retangle))
-
-    def prints(self, command, expected):
-        """Compares what is printed, up to the answer to a line that is no command."""
-        self.process.stdin.write(command + b'\nend\n')
-        self.process.stdin.flush()
-        printed = b''
-        for line in self.process.stdout:
-            if line == b'no such command\n':
-                break
-            printed += line
-        same(printed, expected, 'editor.py, %s' % command.decode())
-
-    def saves(self, name, text, expected):
-        """The same when a file was saved with this text, or removed."""
-        if text is None:
-            os.remove(os.path.join(self.folder, name))
-        else:
-            write(text, self.folder, name)
-        self.prints(b'save ' + name.encode(), expected)
-
-    def ends(self, status):
-        self.process.stdin.close()
-        same(self.process.stdout.read(), b'', 'editor.py, the end')
-        same(self.process.wait(PATIENCE), status, 'editor.py, the status')
-
-
-WITH_B_AND_C = b'''\
-/*1:*/
-#line 2 "a.w"
-
-int z= /*2:*/
-#line 2 "b.w"
-
-1
-/*:2*/
-#line 3 "a.w"
-;
-#line 1 "b.w"
-int b;
-/*:1*//*3:*/
-#line 4 "b.w"
-
-#line 1 "c.w"
-int c;
-/*:3*/
-'''
-NO_C = b'a.w:5: error: included file not found: c.w\n'
-NO_V = b'a.w:3: error: undefined: <v>\n'
-
-
-def test_client(temporary):
-    folder = new_folder(temporary, 'client', a_w=b'@ A.\n@c\nint x;\n@i b.w\n', b_w=b'int y;\n')
-    client = Client(folder, 'a')
-    client.prints(b'faults', b'')
-    client.prints(b'show a.h', b'no output file a.h\n')
-
-    # spaces at the end of a line are no change
-    web = b'@ A.\n@c  \nint z=@<v@>;\n@i b.w\n@i c.w\n'
-    client.saves('a.w', web, NO_C + NO_V + b'saved a.w: edits 2, faults 2\n')
-    client.prints(b'faults', NO_C + NO_V)
-    client.prints(b'work', b'1\n')
-
-    # a new file, one that was included from the start, and one that is removed
-    client.saves('c.w', b'int c;\n', NO_V + b'saved c.w: edits 2, faults 1\n')
-    client.saves('b.w', b'int b;\n@ @<v@>=\n1\n@ @c\n', b'saved b.w: edits 5, faults 0\n')
-    client.prints(b'show a.c', WITH_B_AND_C)
-    client.saves('c.w', None, NO_C + b'saved c.w: edits 1, faults 1\n')
-
-    # a refused list changes nothing, and the file can be saved again
-    long = web.replace(b'int z', b'int zz').replace(b'@i c.w', b'x' * (LINE_BYTES + 1))
-    client.saves('a.w', long, b'a.w was not saved: edit 1: LineTooLong\n')
-    client.prints(b'faults', NO_C)
-    client.saves('a.w', None, b'a.w was not saved: edit 1: RoleFile\n')
-    client.saves('a.w', web.replace(b'@i c.w\n', b''), b'saved a.w: edits 1, faults 0\n')
-    client.ends(0)
-
-
-def test_ends_of_the_client(temporary):
-    folder = new_folder(temporary, 'ends')
-    same(run(CLIENT + ['a'], folder, b'faults\n', RETANGLE=retangle),
-         (b'', b'retangle: cannot read a.w\n', 3), 'editor.py without a web')
-    write(b'@ A.\n@c\n@<v@>\n', folder, 'a.w')
-    same(run(CLIENT + ['a'], folder, b'faults\nquit\nwork\n', RETANGLE=retangle),
-         (NO_V, b'', 1), 'editor.py, a fault at the end')
-    write(b'@x\n@<v@>\n@y\n1\n@z\n', folder, 'b.ch')
-    output = b'/*1:*/\n#line 2 "a.w"\n\n#line 4 "b.ch"\n1\n/*:1*/\n'
-    arguments = ['--change', 'b', '--out', 'z', 'a']
-    same(run(CLIENT + arguments, folder, b'show z.c\n', RETANGLE=retangle), (output, b'', 0),
-         'editor.py, change and out')
-
-
-def test_edits():
-    """The edits of a save turn any lines into any others."""
-    name, chance = 'the edits of a save', random.Random(1)
-    for _ in range(500):
-        old, new = ([chance.choice([b'', b'a', b'b', b'c']) for _ in range(chance.randrange(9))]
-                    for _ in range(2))
-        lines = old
-        for request, text in editor.edits(b'f', old, new):
-            kind, line, _ = request.decode().split(' ')
-            lines = edited_lines(lines, kind, int(line), text or b'')
-        same(lines, new, name)
-    same(editor.edits(b'f', [b'a', b'b', b'c'], [b'a', b'x', b'c']), [(b'replace 2 f', b'x')], name)
-
-
 OUTPUTS = ['calc.c', 'stack.c', 'stack.h']
-
-
-def mutated(lines, chance):
-    """The lines with a few of them removed, doubled, moved or swapped."""
-    lines = list(lines)
-    for _ in range(chance.randrange(1, 5)):
-        at, others = chance.randrange(len(lines) + 1), min(len(lines), chance.randrange(3))
-        lines[at:at + chance.randrange(3)] = chance.sample(lines, others)
-    return lines
-
-
-def test_saves(temporary):
-    """After each save the client shows what ctangle makes of the files."""
-    folder, chance, before = os.path.join(temporary, 'saves'), random.Random(2), os.getcwd()
-    shutil.copytree(os.path.join(top, 'examples', 'several'), folder)
-    os.environ['RETANGLE'] = retangle
-    os.chdir(folder)
-    try:
-        first = lines = read('calc.w').split(b'\n')[:-1]
-        client = editor.Retangle(b'calc')
-        for _ in range(60):
-            lines = mutated(lines, chance) if chance.randrange(8) else first
-            write(b''.join(line + b'\n' for line in lines), 'calc.w')
-            client.save(b'calc.w')
-            check_shown(client)
-        client.quit()
-    finally:
-        os.chdir(before)
-        del os.environ['RETANGLE']
-
-
-def check_shown(client):
-    for name in filter(os.path.exists, OUTPUTS):
-        os.remove(name)
-    errors = run([ctangle, 'calc'], '.')[1]
-    same(client.faults(), errors.split(b'\n')[:-1], 'the faults after a save')
-    for name in OUTPUTS:
-        expected = read(name) if os.path.exists(name) else None
-        same(client.show(name.encode()), expected, 'an output after a save')
 
 
 # ---------------------------------------------------------------------- recipes
@@ -407,10 +244,6 @@ def main():
         programs = test_install(temporary)
         test_readme(temporary, programs)
         test_names()
-        test_client(temporary)
-        test_ends_of_the_client(temporary)
-        test_edits()
-        test_saves(temporary)
         test_several(temporary)
         test_unchanged(temporary)
     return finish()
