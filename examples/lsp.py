@@ -131,20 +131,18 @@ class Messages:
         self.source, self.sink = source, sink
 
     def read(self):
-        """The next message, or None at the end of the input."""
+        """The next message. EOFError at the end of the input."""
         length = self.length()
-        if length is None:
-            return None
         body = self.source.read(length)
         if len(body) < length:
-            return None
+            raise EOFError
         try:
             return json.loads(decoded(body), parse_constant=self.refuse)
         except (ValueError, RecursionError) as error:
             raise Problem(PARSE_ERROR, 'no JSON: %s' % error) from None
 
     def length(self):
-        """The length in the next header, or None at the end of the input.
+        """The length in the next header.
 
         Where a header has none, its body is read as lines of the next header, whose length may be
         on the same line as the end of that body.
@@ -160,7 +158,7 @@ class Messages:
                 return length
             elif not is_empty:
                 raise Problem(PARSE_ERROR, 'a header without a length that can be taken')
-        return None
+        raise EOFError
 
     @staticmethod
     def refuse(constant):
@@ -182,7 +180,7 @@ def part(value, *keys, kind=object):
         if not isinstance(value, dict) or key not in value:
             raise Problem(INVALID_PARAMS, 'no %s' % '.'.join(keys))
         value = value[key]
-    if not isinstance(value, kind) or kind is int and (value is True or value < 0):
+    if not isinstance(value, kind) or kind is int and (isinstance(value, bool) or value < 0):
         raise Problem(INVALID_PARAMS, 'a wrong %s' % '.'.join(keys))
     return value
 
@@ -215,10 +213,10 @@ def range_of(*places):
 
 def path_of(uri):
     """The path that a URI names, or None where it names no file here."""
-    if not uri.startswith('file://'):
-        return None
-    path = urllib.parse.unquote_to_bytes(uri[uri.find('/', len('file://')):])
-    return None if b'\0' in path or not path.startswith(b'/') else os.path.normpath(path)
+    found = re.match('file://[^/]*(/.*)', uri, re.S)
+    path = urllib.parse.unquote_to_bytes(found[1]) if found else b''
+    is_path = path.startswith(b'/') and b'\0' not in path and b'\n' not in path
+    return os.path.normpath(path) if is_path else None
 
 
 def uri_of(path):
@@ -236,9 +234,10 @@ class Workspace:
         self.documents = {}         # path: document
         self.retangle = None
         self.scanned = None         # the names of the web, until it changes
-        self.refusals = {}          # name: why retangle did not take the file's text
+        self.refusals = {}          # name: why a text was not taken, and the lines it has instead
         self.published = {}         # uri: diagnostics, where there are some
         self.said = set()           # what was shown, so that it is shown once
+        self.trouble = None         # why retangle did not answer last
         self.outside = set()        # the URIs of open files that are not the web's
         self.copies = None          # a folder with outputs that are not on the disk as they are now
 
@@ -264,8 +263,7 @@ class Workspace:
 
     def names(self, path):
         """The names by which the web has a file."""
-        return {name for name in self.retangle.held
-                if os.path.realpath(os.path.join(self.root, name)) == os.path.realpath(path)}
+        return self.retangle.names(path) if self.retangle else []
 
     # ------------------------------------------------------------------ starting
 
@@ -343,7 +341,7 @@ class Workspace:
         """Whether a file is under the root, or the web has it from elsewhere."""
         if self.root is None:
             return False
-        return self.name_of(path) is not None or self.retangle is not None and self.names(path)
+        return self.name_of(path) is not None or self.names(path)
 
     def changed(self, document):
         """A document has another text now, or files on the disk may have."""
@@ -354,32 +352,39 @@ class Workspace:
         self.publish(document.uri)
 
     def close(self, document):
+        """A file is closed: from now on it is as it is on the disk."""
         del self.documents[os.path.realpath(document.path)]
         if self.retangle:
-            self.asked(lambda: self.retangle.save(self.name_here(document)))
+            name, self.scanned = self.name_here(document), None
+            self.retangle.buffers.pop(self.retangle.path(name), None)
+            self.asked(lambda: self.retangle.save(name))
             self.publish(document.uri)
 
     def name_here(self, document):
         return self.name_of(document.path) or document.path
 
     def bring(self, document):
-        """Brings the text of a document to retangle."""
-        for name in self.names(document.path):
-            self.refusals.pop(name, None)
+        """Brings the text of a document to retangle, and what is another file on the disk now."""
+        for name in list(self.refusals):
+            if self.retangle.path(name) == self.retangle.path(document.path):
+                del self.refusals[name]
         lines = document.file_lines()
+        self.scanned = None
         self.asked(lambda: self.retangle.update(self.name_here(document), lines))
 
     def asked(self, question):
         """The answer of retangle, or None where there is none; then the user is shown why."""
-        self.scanned = None
         try:
-            return question()
+            answer = question()
+            self.said.discard(self.trouble)
+            return answer
         except editor.Refused as refused:
-            self.refusals[refused.name] = str(refused)
+            self.refusals[refused.name] = str(refused), self.retangle.held.get(refused.name)
         except editor.Unreadable:
-            pass                        # a file that was never saved was closed
+            pass                        # a file that was closed and never saved
         except editor.Ended as ended:
-            self.say(str(ended))
+            self.trouble = str(ended)
+            self.say(self.trouble)
         finally:
             for notice in self.retangle.notices:
                 self.messages.show(WARNING, notice)
@@ -412,9 +417,10 @@ class Workspace:
             severity = WARNING if fault.severity == 'warning' else ERROR
             made = self.diagnostic(file, fault.line or 1, severity, shown(fault.text))
             found.setdefault(self.uri(file), []).append(made)
-        for name, why in self.refusals.items():
-            made = self.diagnostic(name, 1, ERROR, why)
-            found.setdefault(self.uri(name), []).append(made)
+        for name, (why, lines) in self.refusals.items():
+            if lines is self.retangle.held.get(name):
+                made = self.diagnostic(name, 1, ERROR, why)
+                found.setdefault(self.uri(name), []).append(made)
         return found
 
     def diagnostic(self, name, number, severity, message):
@@ -447,14 +453,15 @@ class Workspace:
         if line >= len(lines):
             return []
         text = decoded(lines[line])
-        name = web.name_at(files, line + 1, len(encoded(text[:index_of(text, count)])))
+        column = len(encoded(text[:index_of(text, count)]))
+        name = web.name_at(files, line + 1, column) or web.name_in(lines[line], column)
         found = [] if name is None else map(web.places, web.named(name, roles))
         return [{'uri': self.uri(start[0].file), 'range': range_of(start, end)}
                 for start, end in found]
 
     def symbols(self, path):
         """The sections of a file: title, whether it is starred, and the first and last lines."""
-        web, files = self.scan(), self.names(path) if self.retangle else ()
+        web, files = self.scan(), self.names(path)
         for number in range(len(web.sections) if web else 0):
             first, last = web.rows(number)
             if web.source[first].file in files:
@@ -477,7 +484,8 @@ class Workspace:
                 if origin and origin[0] in files and not rows[row].startswith(b'#line '):
                     distance = origin[1] - number
                     key = (not rows[row].strip(), distance < 0, abs(distance))
-                    best = min(best or (key, output, row, text), (key, output, row, text))
+                    if best is None or key < best[0]:
+                        best = key, output, row, text
         return best and best[1:]
 
     def file_of_c(self, output, text):
@@ -501,6 +509,7 @@ class Workspace:
             self.copies.cleanup()
         if self.retangle:
             self.retangle.close()
+        self.copies = self.retangle = None
 
 
 # ---------------------------------------------------------------------- the server
@@ -543,9 +552,11 @@ class Server:
         while True:
             try:
                 message = self.messages.read()
-                if message is None or part_or_none(message, 'method') == 'exit':
-                    return 0 if message and self.state == 'shut' else 1
+                if part_or_none(message, 'method') == 'exit':
+                    return 0 if self.state == 'shut' else 1
                 self.take(message)
+            except EOFError:
+                return 1
             except Problem as problem:
                 self.fail(None, problem)
 
@@ -576,20 +587,18 @@ class Server:
         """What a message is answered by."""
         if not isinstance(method, str):
             raise Problem(INVALID_REQUEST, 'no method')
+        found = self.requests.get(method) if is_request else self.notices.get(method)
+        if not is_request and (not found or self.state != 'open'):
+            return None                 # these are ignored
         if self.state == 'new' and method != 'initialize':
-            if is_request:
-                raise Problem(NOT_INITIALIZED, 'no initialize yet')
-            return None
+            raise Problem(NOT_INITIALIZED, 'no initialize yet')
         if self.state == 'shut' or self.state == 'open' and method == 'initialize':
             raise Problem(INVALID_REQUEST, '%s at the wrong time' % method)
-        found = self.requests.get(method) or self.notices.get(method)
-        if not found or method in self.requests and not is_request:
-            if is_request:
-                raise Problem(NO_METHOD, 'no method %s' % method)
-            return None                 # others may be ignored
+        if not found:
+            raise Problem(NO_METHOD, 'no method %s' % method)
         try:
             return found({} if params is None else params)
-        except Problem:
+        except (Problem, BrokenPipeError):
             raise
         except Exception as error:      # a fault of this program must not end it
             traceback.print_exc()
@@ -722,6 +731,7 @@ def main():
     try:
         return server.serve()
     except BrokenPipeError:             # the client has ended
+        os.dup2(os.open(os.devnull, os.O_WRONLY), sys.stdout.fileno())
         return 1
     finally:
         if server.workspace:

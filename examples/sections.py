@@ -81,7 +81,7 @@ DEFINITION, USE, MENTION = 'definition', 'use', 'mention'       # the roles
 # What docs/scanning.md says, as far as it decides where names are. A control code is two bytes.
 CODE = re.compile(rb'@(.)', re.S)
 STARTS = frozenset((b'*', b' ', b'\t', b'\r', b'\v', b'\f', b'\n'))
-MACRO_ENDS = frozenset(b'@d @f @s @c @p @< @('.replace(b'@', b'').split())
+MACRO_ENDS = frozenset(b'd f s c p < ('.split())
 NAME = re.compile(rb'@[<(]((?:[^@]+|@[^<(>* \t\r\v\f\n])*)(?:@>)?')
 HEAD = re.compile(rb'[ \t\r\v\f]*(?:\+[ \t\r\v\f]*)?==?')
 C_TEXT = re.compile(rb'''
@@ -89,12 +89,12 @@ C_TEXT = re.compile(rb'''
     | //(?:[^@\n]+|@[^* \t\r\v\f\n])*
     | "(?:[^"\\\n]+|\\[^@]|\\)*"?                             # quoted texts
     | '(?:[^'\\\n]+|\\[^@]|\\)*'?
-    | \#[ \t\r\v\f]*include[ \t\r\v\f]*<[^>\n]*
+    | ^[ \t\r\v\f]*\#[ \t\r\v\f]*include[ \t\r\v\f]*<[^>\n]*
     | @'(?:(?:@@|\\[0-7]{1,3}|\\["'?\\abtnvfr]|[^\\'@\n])'|[^'\n]*'?)
     | @=(?:[^@\n]+|@@|@(?![@>]))*(?:@>)?                       # verbatim texts
     | @[\^.:tTqQ](?:[^@]+|@@)*(?:@>)?                          # control texts
     | @(.)
-    ''', re.S | re.X)
+    ''', re.M | re.S | re.X)
 
 
 def plain_name(text):
@@ -194,6 +194,13 @@ class Names:
                 for one in self.occurrences:
                     if one.start <= at < one.end:
                         return self.resolved(one.text)
+        return None
+
+    def name_in(self, line, column):
+        """The same, where the line was not read as C or as documentation: a change took it, say."""
+        for found in NAME.finditer(line):
+            if found.start() <= column < found.end():
+                return self.resolved(plain_name(found[1]))
         return None
 
     # ------------------------------------------------------------------ places

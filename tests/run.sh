@@ -5,7 +5,7 @@
 #
 # usage: tests/run.sh [PART..]
 #
-# The parts are documents, users, editor, example, cases, compiler, conversations, machine, streams,
+# The parts are documents, users, editor, lsp, example, cases, compiler, conversations, machine, streams,
 # limits, sizes, memory, comparison, cuts and scripts; without one all are run. Several run side by
 # side, as many at a time as there are processors; what each says is shown when all have ended.
 #
@@ -30,7 +30,7 @@ chmod 755 "$temporary"
 . "$top/tests/lib.sh"
 
 # The longest parts come first.
-[ $# -gt 0 ] || set -- scripts comparison limits sizes cuts memory conversations compiler streams cases machine editor \
+[ $# -gt 0 ] || set -- scripts comparison limits sizes cuts memory conversations compiler streams cases machine lsp editor \
     users example documents
 if [ $# -gt 1 ]; then
     printf '%s\n' "$@" | xargs -P "$(nproc)" -I PART sh -c '"$0" "$1" >"$2/$1" 2>&1' "$0" PART "$temporary"
@@ -48,6 +48,7 @@ chmod 755 "$temporary/ctangle"
 . "$top/tests/documents.sh"
 . "$top/tests/users.sh"
 . "$top/tests/editor.sh"
+. "$top/tests/lsp.sh"
 . "$top/tests/example.sh"
 . "$top/tests/cases.sh"
 . "$top/tests/compiler.sh"

@@ -1,0 +1,195 @@
+"""An editor's side of a conversation with examples/lsp.py over pipes.
+
+usage: lsp_client.py WEB
+
+As a program it changes a line of the web 100 times, and prints the median and the longest time from
+sending a change to receiving the diagnostics. RETANGLE in the environment names the program.
+"""
+import json
+import os
+import re
+import select
+import statistics
+import subprocess
+import sys
+import time
+
+from checks import folder_with, read, same
+
+TOP = os.path.dirname(os.path.dirname(os.path.abspath(__file__)))
+
+PATIENCE = 60           # seconds for an answer
+SERVER = [sys.executable, '-B', os.path.join(TOP, 'examples', 'lsp.py')]
+
+
+def framed(body):
+    return b'Content-Length: %d\r\n\r\n%s' % (len(body), body)
+
+
+def message(**parts):
+    return framed(json.dumps(dict(parts, jsonrpc='2.0')).encode())
+
+
+class Client:
+    """An editor's side of a conversation with the server."""
+
+    def __init__(self, files, program=None, options=None, capabilities=None, **parts):
+        self.folder = folder_with(files)
+        arguments = [] if program is None else ['--retangle', program]
+        self.process = subprocess.Popen(SERVER + arguments, cwd='/', stdin=subprocess.PIPE,
+                                        stdout=subprocess.PIPE)
+        self.read, self.number, self.version = b'', 0, 0
+        self.diagnostics, self.shown, self.logged, self.asked = {}, [], [], []
+        if parts.get('initialize', True):
+            params = {'rootUri': self.uri(''), 'capabilities': capabilities or {}}
+            if options is not None:
+                params['initializationOptions'] = options
+            self.capabilities = self.ask('initialize', params)['result']['capabilities']
+            self.notify('initialized', {})
+
+    def path(self, name):
+        return os.path.join(self.folder.name, name)
+
+    def uri(self, name):
+        return 'file://' + self.path(name)
+
+    def name(self, uri):
+        return os.path.relpath(uri[len('file://'):], self.folder.name)
+
+    # ------------------------------------------------------------------ messages
+
+    def send(self, text):
+        self.process.stdin.write(text)
+        self.process.stdin.flush()
+
+    def notify(self, method, params):
+        self.send(message(method=method, params=params))
+
+    def ask(self, method, params=None):
+        """The whole answer to a request; what comes before it is kept."""
+        self.number += 1
+        self.send(message(id=self.number, method=method, params=params))
+        return self.answer(self.number)
+
+    def result(self, method, params):
+        return self.ask(method, params).get('result')
+
+    def answer(self, number):
+        while True:
+            received = self.receive()
+            if received is None or 'method' not in received and received.get('id') == number:
+                return received
+
+    def receive(self):
+        """The next message, or None at the end. It is kept by what it is."""
+        while True:
+            head = re.match(rb'Content-Length: (\d+)\r\n\r\n', self.read)
+            if head and len(self.read) >= head.end() + int(head[1]):
+                body = self.read[head.end():head.end() + int(head[1])]
+                self.read = self.read[head.end() + int(head[1]):]
+                break
+            if not select.select([self.process.stdout], [], [], PATIENCE)[0]:
+                raise TimeoutError('no answer')
+            some = os.read(self.process.stdout.fileno(), 1 << 16)
+            if not some:
+                return None
+            self.read += some
+        received = json.loads(body)
+        self.keep(received, received.get('params'))
+        return received
+
+    def keep(self, received, params):
+        method = received.get('method')
+        if method == 'textDocument/publishDiagnostics':
+            self.diagnostics[self.name(params['uri'])] = params['diagnostics']
+        elif method == 'window/showMessage':
+            self.shown.append(params['message'])
+        elif method == 'window/logMessage':
+            self.logged.append(params['message'])
+        elif method:
+            self.asked.append(received)
+
+    def settle(self):
+        """Reads up to the answer to a request that is sent now."""
+        same(self.ask('no/such')['error']['code'], -32601, 'lsp.py, an unknown request')
+
+    # ------------------------------------------------------------------ documents
+
+    def open(self, name, text, uri=None):
+        self.version += 1
+        item = {'uri': uri or self.uri(name), 'languageId': 'cweb', 'version': self.version}
+        self.notify('textDocument/didOpen', {'textDocument': dict(item, text=text)})
+
+    def change(self, name, *changes):
+        self.version += 1
+        item = {'uri': self.uri(name), 'version': self.version}
+        made = [{'text': text} if place is None else {'range': range_of(*place), 'text': text}
+                for place, text in changes]
+        self.notify('textDocument/didChange', {'textDocument': item, 'contentChanges': made})
+
+    def about(self, method, name):
+        self.notify('textDocument/' + method, {'textDocument': {'uri': self.uri(name)}})
+
+    def faults(self):
+        """The diagnostics as lines, as ctangle reports them but without an order."""
+        self.settle()
+        found = []
+        for name, these in self.diagnostics.items():
+            for one in these:
+                kind = {1: 'error', 2: 'warning'}[one['severity']]
+                line = one['range']['start']['line'] + 1
+                found.append('%s:%d: %s: %s' % (name, line, kind, one['message']))
+        return sorted(found)
+
+    def has(self, expected, name):
+        same(self.faults(), sorted(expected), 'lsp.py, ' + name)
+
+    def places(self, method, name, line, character, **parts):
+        """What a question on a place is answered by, as FILE:LINE:FROM-TO."""
+        found = self.result('textDocument/' + method, dict(
+            parts, textDocument={'uri': self.uri(name)},
+            position={'line': line - 1, 'character': character}))
+        return ['%s:%d:%d-%d' % (self.name(one['uri']), one['range']['start']['line'] + 1,
+                                 one['range']['start']['character'],
+                                 one['range']['end']['character']) for one in found]
+
+    def c_of(self, name, line):
+        """The answer to the command that shows the C of a line."""
+        return self.ask('workspace/executeCommand', {
+            'command': 'retangle.showC', 'arguments': [self.uri(name), line - 1]})
+
+    def end(self, status=0):
+        self.ask('shutdown')
+        self.send(message(method='exit'))
+        same(self.process.wait(PATIENCE), status, 'lsp.py, the status')
+        self.process.stdin.close()
+        self.process.stdout.close()
+        self.folder.cleanup()
+
+
+def range_of(start, end):
+    start, end = ({'line': line, 'character': count} for line, count in (start, end))
+    return {'start': start, 'end': end}
+
+
+def times(web):
+    """The seconds from each change to its diagnostics."""
+    text = read(web).decode('utf-8', 'surrogateescape')
+    client, count, found = Client({'a.w': read(web)}), text.count('\n'), []
+    client.open('a.w', text)
+    client.settle()
+    for number in range(100):
+        line = number * 347 % count
+        start, client.diagnostics = time.perf_counter(), {}
+        client.change('a.w', (((line, 0), (line, 0)), ['x', '@<a@>', '"', '\n'][number % 4]))
+        while 'a.w' not in client.diagnostics:
+            client.receive()
+        found.append(time.perf_counter() - start)
+    client.end()
+    return found
+
+
+if __name__ == '__main__':
+    seconds = times(sys.argv[1])
+    print('median %.0f ms' % (1000 * statistics.median(seconds)))
+    print('longest %.0f ms' % (1000 * max(seconds)))
