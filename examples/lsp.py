@@ -45,7 +45,7 @@ def encoded(text):
     """The bytes of a text. A byte that is no UTF-8 is a lone surrogate in it."""
     try:
         return text.encode('utf-8', 'surrogateescape')
-    except UnicodeEncodeError:          # a surrogate that stands for no byte
+    except UnicodeEncodeError:          # a surrogate that is no byte
         return text.encode('utf-8', 'surrogatepass')
 
 
@@ -94,6 +94,7 @@ class Document:
 
     def __init__(self, uri, path, version, text):
         self.uri, self.path, self.version = uri, path, version
+        self.real_path = os.path.realpath(path)
         self.replace_all(text)
 
     def replace_all(self, text):
@@ -231,7 +232,7 @@ class Workspace:
     def __init__(self, root, options, program, messages):
         self.root, self.options, self.program = root, options, program
         self.messages = messages
-        self.documents = {}         # path: document
+        self.documents = {}         # uri: document
         self.retangle = None
         self.scanned = None         # the names of the web, until it changes
         self.refusals = {}          # name: why a text was not taken, and the lines it has instead
@@ -258,8 +259,10 @@ class Workspace:
     def uri(self, name):
         """The URI of a file of the web, as the client writes it if it has the file open."""
         path = os.path.join(self.root, name)
-        document = self.documents.get(os.path.realpath(path))
-        return document.uri if document else uri_of(os.path.normpath(path))
+        for document in self.documents.values():
+            if document.real_path == os.path.realpath(path):
+                return document.uri
+        return uri_of(os.path.normpath(path))
 
     def names(self, path):
         """The names by which the web has a file."""
@@ -333,9 +336,8 @@ class Workspace:
             self.outside.add(uri)
             self.say('%s is not under the root' % uri, WARNING)
             return
-        document = Document(uri, path, version, text)
-        self.documents[os.path.realpath(path)] = document
-        self.changed(document)
+        self.documents[uri] = Document(uri, path, version, text)
+        self.changed(self.documents[uri])
 
     def is_known(self, path):
         """Whether a file is under the root, or the web has it from elsewhere."""
@@ -353,7 +355,7 @@ class Workspace:
 
     def close(self, document):
         """A file is closed: from now on it is as it is on the disk."""
-        del self.documents[os.path.realpath(document.path)]
+        del self.documents[document.uri]
         if self.retangle:
             name, self.scanned = self.name_here(document), None
             self.retangle.buffers.pop(self.retangle.path(name), None)
@@ -404,9 +406,8 @@ class Workspace:
 
     def send(self, uri, diagnostics):
         params = {'uri': uri, 'diagnostics': diagnostics}
-        versions = [document.version for document in self.documents.values() if document.uri == uri]
-        if versions and versions[0] is not None:
-            params['version'] = versions[0]
+        if uri in self.documents and self.documents[uri].version is not None:
+            params['version'] = self.documents[uri].version
         self.messages.write(method='textDocument/publishDiagnostics', params=params)
 
     def diagnostics(self):
@@ -636,8 +637,7 @@ class Server:
     def document(self, params):
         """The open document of a message, or None where it is outside the root."""
         uri = part(params, 'textDocument', 'uri', kind=str)
-        path = path_of(uri)
-        document = path and self.workspace.documents.get(os.path.realpath(path))
+        document = self.workspace.documents.get(uri)
         if not document and uri not in self.workspace.outside:
             raise Problem(INVALID_PARAMS, '%s is not open' % uri)
         return document
