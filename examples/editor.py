@@ -121,8 +121,9 @@ class Run:
         try:
             self.process = subprocess.Popen(arguments, cwd=folder, stdin=subprocess.PIPE,
                                             stdout=subprocess.PIPE, stderr=self.errors)
-        except OSError as error:
-            raise Ended(127, 'it cannot be run: %s' % error.strerror) from None
+        except (OSError, ValueError) as error:
+            reason = getattr(error, 'strerror', error)
+            raise Ended(127, 'it cannot be run: %s' % reason) from None
 
     def make_room(self, request, size):
         """Nothing of a request is sent where all of it is more than the script may have."""
@@ -257,8 +258,8 @@ class Retangle:
                 self.roles.append(with_extension(change, b'.ch'))
         if out is not None:
             self.arguments[1:1] = [b'--out=' + out]
-        main = web.rsplit(b'/', 1)[-1].rsplit(b'.', 1)[0]
-        self.main = with_extension(out or main, b'.c')
+        main = web.rsplit(b'/', 1)[-1].rsplit(b'.', 1)[0] + b'.c'
+        self.main = main if out is None else with_extension(out, b'.c')
         self.buffers = {}       # path: text, of the files that the editor has not saved
         self.readings = {}      # path: text, of the files on the disk
         self.held = {}          # name: lines, of the files as retangle has them
@@ -335,8 +336,8 @@ class Retangle:
 
     def path(self, name):
         """Where a file is. Two names of it have one path."""
-        if b'\0' in name or b'\n' in name:
-            raise Unreadable(name.replace(b'\n', b' '), 'this is no name of a file')
+        if not name or b'\0' in name or b'\n' in name:
+            raise Unreadable(name.replace(b'\n', b' ') or b'the empty name', 'no file has this name')
         return os.path.realpath(os.path.join(self.folder, name))
 
     def names(self, name):
@@ -346,15 +347,16 @@ class Retangle:
                 if lines is not None and self.path(known) == path]
 
     def text(self, name, buffers):
-        """The text of a file, or None where it cannot be read: it cannot be included then."""
+        """The text of a file, or None where it cannot be read: it cannot be included then. The web
+        and the change file stay as they were, since retangle does not discard them."""
+        path = None
         try:
             path = self.path(name)
-            if path in buffers:
-                return buffers[path]
-            self.readings[path] = read_text(name, path, self.readings.get(path))
-            return self.readings[path]
+            if path not in buffers:
+                self.readings[path] = read_text(name, path, self.readings.get(path))
         except Unreadable:
-            return None
+            return self.readings.get(path) if name in self.roles else None
+        return buffers.get(path) or self.readings[path]
 
     def texts(self, buffers):
         """The files of the web by name: those of the arguments, and what lines of them include."""
@@ -371,6 +373,8 @@ class Retangle:
         if b'\n' in b''.join(lines):
             raise ValueError('a line with a line feed')
         path = self.path(name)
+        if os.path.isdir(path):
+            raise Unreadable(name, 'it is a folder')
         before = {path: self.buffers[path]} if path in self.buffers else {}
         self.buffers[path] = text_of([line.rstrip(b' ') for line in lines])
         try:
@@ -419,8 +423,7 @@ class Retangle:
         made = []
         for name, text in texts.items():
             old, new = self.held.get(name), text and text.lines
-            is_kept = text is None and name in self.roles       # these cannot be discarded
-            if new is not old and not is_kept and self.refused.get(name, '') is not text:
+            if new is not old and self.refused.get(name, '') is not text:
                 made += [(name,) + edit for edit in edits(name, old, new)]
         return made
 
@@ -454,9 +457,16 @@ class Retangle:
 
     def show(self, name):
         """The bytes of an output file, or None where there is none of this name."""
-        if name not in self.shown:
+        if name not in self.shown and b'\n' not in name:
             self.shown[name] = self.answer(lambda: self.run.output(name))
-        return self.shown[name]
+        return self.shown.get(name)
+
+    def output(self, name):
+        """The name that the web has for an output file, of which this may be another name."""
+        if self.show(name) is not None:
+            return name
+        path = self.path(name)
+        return next((known for known in self.outputs() if self.path(known) == path), None)
 
     def outputs(self):
         """The names of the output files, the main file first."""
@@ -624,8 +634,8 @@ class Wrong(Exception):
 
 def number_after(words):
     """What is before the last space, and the number after it."""
-    name, _, number = words.rpartition(b' ')
-    if not name or not re.fullmatch(rb'[0-9]{1,9}', number):
+    name, space, number = words.rpartition(b' ')
+    if not space or not re.fullmatch(rb'[0-9]{1,9}', number):
         raise Wrong('a name and a number must follow')
     return name, int(number)
 
@@ -637,8 +647,6 @@ def sent(project, done, name, count):
 
 
 def save(project, name):
-    if not name:
-        raise Wrong('a name must follow')
     return sent(project, b'saved', name, project.save(name))
 
 
@@ -650,17 +658,22 @@ def update(project, words):
     return sent(project, b'updated', name, project.update(name, lines))
 
 
-def show(project, name):
-    output = project.show(name)
+def output_of(project, name):
+    output = project.output(name)
     if output is None:
-        raise Wrong('no output file %s' % os.fsdecode(name))
+        raise Wrong('%s: no output file' % os.fsdecode(name))
+    return output
+
+
+def show(project, name):
+    name = output_of(project, name)
+    output = project.show(name)
     return [b'= %s %d' % (name, len(output))] + output.split(b'\n')[:-1]
 
 
 def origin(project, words):
     name, line = number_after(words)
-    show(project, name)
-    found = project.origin(name, line)
+    found = project.origin(output_of(project, name), line)
     if found is None:
         raise Wrong('%s:%d: from no line of the web' % (os.fsdecode(name), line))
     return [b'%s:%d' % found]

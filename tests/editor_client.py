@@ -127,7 +127,7 @@ def test_client(temporary):
     folder = new_folder(temporary, 'client', a_w=b'@ A.\n@c\nint x;\n@i b.w\n', b_w=b'int y;\n')
     client = Client(folder, 'a')
     client.prints(b'faults', b'')
-    client.refuses(b'show a.h', b'no output file a.h')
+    client.refuses(b'show a.h', b'a.h: no output file')
 
     # spaces at the end of a line are no change
     web = b'@ A.\n@c  \nint z=@<v@>;\n@i b.w\n@i c.w\n'
@@ -142,12 +142,21 @@ def test_client(temporary):
     client.saves('c.w', None, NO_C + b'saved c.w: edits 1, faults 1\n')
     client.refuses(b'save c.w', b'c.w: there is no such file')
 
+    # from C to web and back
+    client.prints(b'origin a.c 7', b'b.w:3\n')
+    client.prints(b'origin ./a.c 9', b'a.w:3\n')
+    client.refuses(b'origin a.c 1', b'a.c:1: from no line of the web')
+    client.refuses(b'origin b.w 1', b'b.w: no output file')
+    client.prints(b'where a.w 3', b'a.c:4\na.c:10\n')
+    client.refuses(b'where a.w 5', b'a.w:5: in no output')
+
     # a refused file changes nothing, the others are saved, and it can be saved again
     long = web.replace(b'int z', b'int zz').replace(b'@i c.w', b'x' * (LINE_BYTES + 1))
     client.saves('a.w', long, TOO_LONG, b'no\n')
     client.prints(b'faults', NO_C)
     client.saves('b.w', b'@ @<v@>=\n1\n', NO_C + b'saved b.w: edits 2, faults 1\n')
     client.saves('a.w', None, b'a.w: there is no such file\n', b'no\n')
+    client.saves('b.w', b'@ @<v@>=\n2\n', NO_C + b'saved b.w: edits 1, faults 1\n')
     client.saves('a.w', web.replace(b'@i c.w\n', b''), b'saved a.w: edits 1, faults 0\n')
     client.prints(b'quit', b'')
     client.ends(0)
@@ -176,8 +185,12 @@ def test_names(temporary):
     os.mkfifo(os.path.join(folder, 'pipe'))
     os.symlink(folder, os.path.join(temporary, 'link'))
     client, full = Client(folder, 'a'), os.fsencode(folder)
-    for name in (b'./a.w', b'below/../a.w', full + b'/a.w', full.replace(b'names', b'link/a.w')):
+    for name in (b'./a.w', b'below/../a.w', full + b'/a.w', os.path.dirname(full) + b'/link/a.w'):
         client.prints(b'save ' + name, b'saved %s: edits 0, faults 0\n' % name)
+        client.refuses(b'where %s 1' % name, b'%s:1: in no output' % name)
+    output = b'/*1:*/\n#line 2 "a.w"\n\n' + 2 * b'#line 1 "b.w"\nint b;\n' + b'/*:1*/\n'
+    output = output.replace(b'"b', b'"./b').replace(b'"./b', b'"b', 1)
+    client.prints(b'show %s/a.c' % full, b'= a.c %d\n' % len(output) + output)
     write(web + b'int z;\n', folder, 'a.w')
     client.prints(b'save ./a.w', b'saved ./a.w: edits 1, faults 0\n')
     client.prints(b'where %s/a.w 5' % full, b'a.c:9\n')
@@ -192,9 +205,11 @@ def test_names(temporary):
     client.refuses(b'where o.w 1', b'o.w: no file of the web')
     for name, reason in ((b'below', b'it is a folder'), (b'none.w', b'there is no such file'),
                          (b'a.w/x', b'there is no such file'), (b'pipe', b'it is no file with a text'),
-                         (b'a\0w', b'this is no name of a file')):
+                         (b'a\0w', b'no file has this name')):
         client.refuses(b'save ' + name, b'%s: %s' % (name, reason))
-    client.refuses(b'save ', b'a name must follow')
+    client.refuses(b'save ', b'the empty name: no file has this name')
+    client.refuses(b'update  1\nfaults', b'the empty name: no file has this name')
+    client.refuses(b'update ./below 1\nfaults', b'./below: it is a folder')
     client.refuses(b'update ' + b'a' * 300, b'a name and a number must follow')
     client.prints(b'update %s 0' % (b'a' * 300), b'updated %s: edits 0, faults 0\n' % (b'a' * 300))
     client.refuses(b'', b'no such command')
@@ -270,7 +285,8 @@ def test_retangle_that_ends(temporary):
     write(web, folder, 'a.w')
     client.prints(b'faults', b'c:2: error: quoted text did not end\n')
     client.saves('c', b'2\n', b'saved c: edits 2, faults 0\n')
-    client.ends(0)
+    kill()
+    client.ends(128 + signal.SIGKILL)
 
 
 def test_a_last_line_of_spaces(temporary):
@@ -510,6 +526,19 @@ def test_the_longest_script(temporary):
     same((client.close(), client.run.errors.read()), (0, b''), 'the longest script, the end')
 
 
+def test_long_lists(temporary):
+    """More edits than there is room for their answers in a pipe."""
+    files = {'a.b.w': b'@ A.\n@c\n' + b'1\n' * 40000}
+    folder = new_folder(temporary, 'lists')
+    lay(folder, files)
+    client = open_client(folder, b'a.b.w')
+    lines = [b'@ A.', b'@c'] + [b'2'] * 40000
+    same(client.update(b'a.b.w', lines), 40000, 'a long list')
+    same(client.outputs(), [b'a.b.c'], 'outputs of a.b.w')
+    same(client.show(b'a.b.c').count(b'\n2'), 40000, 'the output after a long list')
+    client.close()
+
+
 # ---------------------------------------------------------------------- from C to web and back
 
 MAPPED = {
@@ -558,6 +587,7 @@ def main():
         test_files_that_always_change(temporary)
         test_long_scripts(temporary)
         test_the_longest_script(temporary)
+        test_long_lists(temporary)
         test_maps(temporary)
     return finish()
 
