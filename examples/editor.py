@@ -3,31 +3,39 @@
 
 usage: editor.py [--change FILE] [--out FILE] WEB
 
-It starts retangle on the web and reads commands from standard input, a line each. FILE is the rest
-of the line, without N where there is one; `./a.w` and a full path name the file `a.w` too.
+It starts retangle on the web and reads commands from standard input, a line each:
 
-    save FILE       the editor has written FILE, or removed it: sends what is not as retangle has it
-    update FILE N   FILE in the editor is the next N lines of the input, which are not saved
+    save FILE       FILE is what it is on the disk: the editor has written it, or closed or removed
+                    it. Sends all that retangle has otherwise
+    update FILE N   FILE is what the next N lines of the input are, until it is saved. Sends this
     faults          the faults of the web
     work            how many names, the program being one, the last edits affected
-    outputs         the names of the output files
-    show FILE       an output file
+    outputs         the output files, and how many bytes each of them has
+    show FILE       the bytes of an output file
     origin FILE N   from C to web: the file and line from which line N of an output was written
     where FILE N    from web to C: the lines of the outputs that were written from line N
     quit            ends the conversation, as does the end of the input
 
-Every answer ends with a line `ok`, or with a line that says what is wrong and then a line `no`.
-Neither is a line of an answer in another place, except in the answer to `show`: that is a line
-`= FILE LENGTH`, so many bytes, and `ok`. The other lines of an answer:
+FILE may have spaces. `./a.w` and a full path name the file `a.w` too. A file that is not updated is
+what it is on the disk, also where a line begins to include it.
 
-    save, update        the faults, as `FILE:LINE: error: TEXT`, then `saved a.w: edits 2, faults 1`
+Every answer ends with the line `ok`; where a command cannot be carried out, with a line that says
+why and the line `no`. No other line of an answer is one of these two, but for the bytes of `show`,
+which come after their number:
+
+    save, update        FILE:LINE: error: TEXT              each fault; or `warning` for `error`,
+                        error: TEXT                         and without a place if it has none
+                        saved FILE: edits N, faults N       or `updated`
     faults              the faults
-    origin, where       FILE:LINE each
+    work                N
+    outputs             FILE LENGTH                         each file, the main file first
+    show                = FILE LENGTH                       and so many bytes
+    origin              FILE:LINE
+    where               FILE:LINE                           each line
 
-An answer may begin with a line that says that retangle ended, or that it could not take a longer
-script, and was started again. It is given the files as they are on the disk then, and after them
-the lines of each update that was not saved. A file that is updated is the editor's until it is
-saved; any other is as it is on the disk, also one that a line begins to include.
+An answer begins with another line where retangle has ended, or where its script has no room for
+more: it says so, with the status. retangle was started again then, with the files of the disk and
+with what was updated and not saved.
 
 The exit status is that of retangle: 1 if there is an error among the faults at the end.
 RETANGLE in the environment names the program, if it is not `retangle` on the path.
@@ -337,7 +345,8 @@ class Retangle:
     def path(self, name):
         """Where a file is. Two names of it have one path."""
         if not name or b'\0' in name or b'\n' in name:
-            raise Unreadable(name.replace(b'\n', b' ') or b'the empty name', 'no file has this name')
+            shown = name.replace(b'\n', b' ') or b'the empty name'
+            raise Unreadable(shown, 'no file has this name')
         return os.path.realpath(os.path.join(self.folder, name))
 
     def names(self, name):
@@ -665,6 +674,10 @@ def output_of(project, name):
     return output
 
 
+def outputs(project, _):
+    return [b'%s %d' % (name, len(project.show(name))) for name in project.outputs()]
+
+
 def show(project, name):
     name = output_of(project, name)
     output = project.show(name)
@@ -693,7 +706,7 @@ COMMANDS = {
     b'save': save, b'update': update, b'show': show, b'origin': origin, b'where': where,
     b'faults': lambda project, _: [fault_line(fault) for fault in project.faults()],
     b'work': lambda project, _: [b'%d' % project.work()],
-    b'outputs': lambda project, _: project.outputs(),
+    b'outputs': outputs,
 }
 
 

@@ -6,6 +6,7 @@ test_editor() {
         fail editor "$retangle is not there: run make first"
         return
     fi
-    python3 -B "$top/tests/editor_client.py" "$temporary/ctangle" "$retangle" "$top" >"$temporary/log" 2>&1
+    python3 -B "$top/tests/editor_client.py" "$temporary/ctangle" "$retangle" "$top" \
+        >"$temporary/log" 2>&1
     count_last_line editor "$temporary/log"
 }

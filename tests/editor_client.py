@@ -178,6 +178,13 @@ def test_ends_of_the_client(temporary):
          (b'= z.c %d\n%sok\n' % (len(output), output), b'', 0), 'editor.py, change and out')
 
 
+REASONS = {         # why a file cannot be saved
+    b'below': b'it is a folder', b'pipe': b'it is no file with a text',
+    b'none.w': b'there is no such file', b'a.w/x': b'there is no such file',
+    b'a\0w': b'no file has this name',
+}
+
+
 def test_names(temporary):
     web = b'@ A.\n@c\n@i b.w\n@i ./b.w\n'
     folder = new_folder(temporary, 'names', a_w=web, b_w=b'int b;\n', o_w=b'@i c.w\n')
@@ -203,9 +210,7 @@ def test_names(temporary):
     # a file that the web has not
     client.prints(b'save o.w', b'saved o.w: edits 0, faults 0\n')
     client.refuses(b'where o.w 1', b'o.w: no file of the web')
-    for name, reason in ((b'below', b'it is a folder'), (b'none.w', b'there is no such file'),
-                         (b'a.w/x', b'there is no such file'), (b'pipe', b'it is no file with a text'),
-                         (b'a\0w', b'no file has this name')):
+    for name, reason in REASONS.items():
         client.refuses(b'save ' + name, b'%s: %s' % (name, reason))
     client.refuses(b'save ', b'the empty name: no file has this name')
     client.refuses(b'update  1\nfaults', b'the empty name: no file has this name')
@@ -240,8 +245,8 @@ def test_permissions(temporary):
 def test_update(temporary):
     folder = new_folder(temporary, 'update', a_w=b'@ A.\n@c\nint x;\n')
     client = Client(folder, 'a')
-    client.prints(b'update a.w 4\n@ A.\n@c\nint y;   \n@i b c.w', b'a.w:4: error: included file not '
-                  b'found: b\nupdated a.w: edits 2, faults 1\n')
+    client.prints(b'update a.w 4\n@ A.\n@c\nint y;   \n@i b c.w',
+                  b'a.w:4: error: included file not found: b\nupdated a.w: edits 2, faults 1\n')
     client.prints(b'update ./b 2\nint z;\nok', b'updated ./b: edits 3, faults 0\n')
     output = b'/*1:*/\n#line 2 "a.w"\n\nint y;\n#line 1 "b"\nint z;\nok\n/*:1*/\n'
     client.prints(b'show a.c', b'= a.c %d\n' % len(output) + output)
@@ -249,7 +254,7 @@ def test_update(temporary):
     client.refuses(b'update a.w x', b'a name and a number must follow')
     client.prints(b'update a.w 1\n' + b'x' * (LINE_BYTES + 1), TOO_LONG, b'no\n')
     client.saves('a.w', b'@ A.\n@c\nint x;\n', b'saved a.w: edits 2, faults 0\n')
-    client.prints(b'outputs', b'a.c\n')
+    client.prints(b'outputs', b'a.c 36\n')
 
     # the input ends before all lines
     client.process.stdin.write(b'update a.w 2\n1\n')
@@ -360,9 +365,11 @@ def check_origins(client, output, files):
 
 
 WEBS = {
-    'a.w': b'limbo\n@ @d M 1\n@c\nint x=@<v@>; @h\n@i b.w\nint y;\n@i "c.w" \n@i ./b.w\n@i below/d\n',
+    'a.w': b'limbo\n@ @d M 1\n@c\nint x=@<v@>; @h\n@i b.w\nint y;\n@i "c.w" \n'
+           b'@i ./b.w\n@i below/d\n',
     'a.ch': b'@x\nint y;\n@y\nint z;\n@z\n@x\n@i d.w\n@y\n@i e.w\n@z\n',
-    'b.w': b'@ @<v@>=\n 1  \n@ @(a.h@>=\nint @<v...@>;\n  ', 'c.w': b'@ @(b  \n  h@>=\nb\n@ @c\nint c;',
+    'b.w': b'@ @<v@>=\n 1  \n@ @(a.h@>=\nint @<v...@>;\n  ',
+    'c.w': b'@ @(b  \n  h@>=\nb\n@ @c\nint c;',
     'd.w': b'int d;\n', 'e.w': b'int e;\n@i d.w\n', 'below/d': b'@ @d N @<v@>\n@c N\n\n \n',
 }
 
@@ -378,7 +385,7 @@ def mutated(text, chance):
 
 
 class Tour:
-    """Somebody works on the files of WEBS: `files` are those of the disk, with what is not saved."""
+    """Somebody works on the files of WEBS. `files` are those of the disk, `unsaved` the others."""
 
     def __init__(self, folder, chance):
         self.folder, self.chance, self.files = folder, chance, dict(WEBS)
@@ -390,7 +397,7 @@ class Tour:
         chance = self.chance
         name = chance.choice(sorted(WEBS))
         text = WEBS[name] if chance.randrange(3) == 0 else mutated(WEBS[name], chance)
-        kind = chance.choice(['save', 'save', 'save', 'update', 'update', 'write', 'remove', 'kill'])
+        kind = chance.choice('save save save update update write remove kill'.split())
         if kind == 'update':
             self.unsaved[name] = text
             self.client.update(os.fsencode(name), editor.lines_of(text))
@@ -542,11 +549,13 @@ def test_long_lists(temporary):
 # ---------------------------------------------------------------------- from C to web and back
 
 MAPPED = {
-    'a.w': b'\n@ @d M 1\n@d N 2\n@c\n@h\n#define O 3\nint x=@<v@>+\n  M;\n@i "b\\".w"\n@ @(a.h@>=\n@<v@>',
+    'a.w': b'\n@ @d M 1\n@d N 2\n@c\n@h\n#define O 3\nint x=@<v@>+\n  M;\n@i "b\\".w"\n'
+           b'@ @(a.h@>=\n@<v@>',
     'a.ch': b'@x\n  M;\n@y\n  N\n;\n@z\n', 'b\\': b'@ @<v@>=\n(1\n)\n',
 }
 ORIGINS = {         # of each line of the outputs, where it is not a #line or one that has none
-    b'a.c': '. . a.w:4 a.w:5 . . . . a.w:5 a.w:6 a.w:7 . b\\:1 b\\:2 b\\:3 . . . a.w:7 . a.ch:4 a.ch:5 . .',
+    b'a.c': '. . a.w:4 a.w:5 . . . . a.w:5 a.w:6 a.w:7 . b\\:1 b\\:2 b\\:3 . . . a.w:7 . '
+            'a.ch:4 a.ch:5 . .',
     b'a.h': '. . a.w:10 . . b\\:1 b\\:2 b\\:3 . . . a.w:11 .',
 }
 

@@ -5,9 +5,10 @@
 #
 # usage: tests/run.sh [PART..]
 #
-# The parts are documents, users, editor, lsp, example, cases, compiler, conversations, machine, streams,
-# limits, sizes, memory, comparison, cuts and scripts; without one all are run. Several run side by
-# side, as many at a time as there are processors; what each says is shown when all have ended.
+# The parts are documents, users, editor, lsp, example, cases, compiler, conversations, machine,
+# streams, limits, sizes, memory, comparison, cuts and scripts; without one all are run. Several run
+# side by side, as many at a time as there are processors; what each says is shown when all have
+# ended.
 #
 # CTANGLE=PATH and RETANGLE=PATH take other programs.
 # The last line is 'N passed, M failed'.
@@ -30,8 +31,8 @@ chmod 755 "$temporary"
 . "$top/tests/lib.sh"
 
 # The longest parts come first.
-[ $# -gt 0 ] || set -- scripts comparison limits sizes cuts memory conversations compiler streams cases machine lsp editor \
-    users example documents
+[ $# -gt 0 ] || set -- scripts comparison limits sizes cuts memory conversations compiler streams \
+    cases machine lsp editor users example documents
 if [ $# -gt 1 ]; then
     printf '%s\n' "$@" | xargs -P "$(nproc)" -I PART sh -c '"$0" "$1" >"$2/$1" 2>&1' "$0" PART "$temporary"
     for part; do
