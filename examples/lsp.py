@@ -321,7 +321,8 @@ class Workspace:
             self.retangle = editor.Retangle(found['web'], found['change'], found['out'],
                                             cwd=self.root, program=self.program)
         except editor.Ended as ended:
-            self.say(str(ended))
+            self.trouble = str(ended)
+            self.say(self.trouble)
             return
         for document in self.documents.values():
             self.bring(document)
@@ -417,12 +418,14 @@ class Workspace:
             file = self.retangle.roles[0] if fault.file is None else fault.file
             severity = WARNING if fault.severity == 'warning' else ERROR
             made = self.diagnostic(file, fault.line or 1, severity, shown(fault.text))
-            found.setdefault(self.uri(file), []).append(made)
+            found.setdefault(file, []).append(made)
         for name, (why, lines) in self.refusals.items():
             if lines is self.retangle.held.get(name):
-                made = self.diagnostic(name, 1, ERROR, why)
-                found.setdefault(self.uri(name), []).append(made)
-        return found
+                found.setdefault(name, []).append(self.diagnostic(name, 1, ERROR, why))
+        by_uri = {}
+        for name, these in found.items():       # a file may have two names
+            by_uri.setdefault(self.uri(name), []).extend(these)
+        return by_uri
 
     def diagnostic(self, name, number, severity, message):
         """A diagnostic on the text of a line."""

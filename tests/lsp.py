@@ -109,6 +109,13 @@ def test_bad_messages():
         body = b'{"jsonrpc":"2.0","id":"h","method":"x"}'
         client.send(header % len(body) + body)
         same(client.receive()['id'], 'h', 'lsp.py, %r' % header)
+    whole = b'{"jsonrpc":"2.0","method":"exit"}'
+    for length in range(1, len(whole) + 30):
+        if length != len(whole):
+            client.send(b'Content-Length: %d\r\n\r\n' % length + whole + message(method='x'))
+            same(code_of(client.receive()), -32700, 'lsp.py, length %d' % length)
+            client.send(message(method='x'))
+            client.has([NO_V], 'after a wrong length')
     client.send(framed(b'{"jsonrpc":"2.0","id":"show-1","result":{"success":true}}'))
     client.send(framed(b'{"jsonrpc":"2.0","id":"show-1","error":{}}'))
     client.notify('$/cancelRequest', {'id': 1})
@@ -358,6 +365,11 @@ def test_files():
     same(client.diagnostics.pop('d/c%20w.w')[0]['message'], 'undefined: <x>', 'lsp.py, a URI')
     client.has(['a.w:2: error: included file not found: d/c', 'b.w:1: error: undefined: <b>'],
                'names of files')
+    client.change('a.w', (None, '@ @c\n@i café.w\n@i \udce9.w\n'))
+    client.open('é', '@<e@>\n', client.uri('caf%C3%A9.w'))
+    client.open('é', '@<f@>\n', client.uri('%e9.w'))
+    client.has(['caf%C3%A9.w:1: error: undefined: <e>', '%e9.w:1: error: undefined: <f>'],
+               'names of files beyond ASCII')
     client.end()
 
 
@@ -424,6 +436,25 @@ def test_first_web():
     client.about('didSave', 'a.w')
     client.has([NO_V], 'a web that is saved now')
     client.end()
+
+
+def test_lists():
+    """A change is one list of edits, and one that leaves the text as it was is none."""
+    program = b'#!/bin/sh\ntee script | "%s" "$@"\n' % retangle.encode()
+    with folder_with({'run': program}) as folder:
+        os.chmod(os.path.join(folder, 'run'), 0o755)
+        client = Client({'a.w': WEB}, os.path.join(folder, 'run'))
+        client.open('a.w', WEB.decode())
+        for count, changes in enumerate((
+                [(((0, 0), (0, 0)), '\n'), (((3, 4), (3, 5)), 'y'), (((1, 0), (2, 0)), '@ B.\n\n')],
+                [(None, '@ B.\n@c\nint z;\n\n@ C.\n')], [(((0, 2), (0, 3)), 'b')]), 1):
+            client.change('a.w', *changes)
+            client.change('a.w', (((0, 0), (0, 0)), 'x'), (((0, 0), (0, 1)), ''))
+            client.settle()
+            lines = read(client.path('script')).split(b'\n')
+            same((lines.count(b'begin'), lines.count(b'commit')), (count, count),
+                 'lsp.py, lists of edits')
+        client.end()
 
 
 def test_refusals():
@@ -606,4 +637,5 @@ def compare(files, roles, name):
 if __name__ == '__main__':
     sys.exit(run_all([test_splits, test_bad_messages, test_wrong_parameters, test_order, test_texts,
                       test_positions, test_generated, test_files, test_change_file, test_options,
-                      test_refusals, test_ends, test_names, test_symbols, test_c, test_scanner]))
+                      test_lists, test_refusals, test_ends, test_names, test_symbols, test_c,
+                      test_scanner]))
