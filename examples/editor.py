@@ -194,8 +194,8 @@ class Run:
         """The exception that says how the run ended."""
         status = self.close()
         self.errors.seek(0)
-        said = b' '.join(self.errors.read().split(b'\n')).strip().decode(errors='replace')
-        return Ended(status, said[len('retangle: '):] if said.startswith('retangle: ') else said)
+        said = b' '.join(self.errors.read().split(b'\n')).strip()
+        return Ended(status, os.fsdecode(said.removeprefix(b'retangle: ')))
 
 
 # ---------------------------------------------------------------------- files as lines
@@ -552,7 +552,7 @@ def file_names(text):
 
 MARK = re.compile(rb'#line (\d+) "((?:[^"\\]|\\.)*)"')
 NUMBERS = re.compile(rb'(?: ?/\*:?\d+:?\*/)+ ?')      # the comments around a piece alone
-MACRO = re.compile(rb'#define (\w+)')
+MACRO = re.compile(rb'#\s*define\s+(\w+)')
 
 
 def marked(text):
@@ -566,7 +566,7 @@ def origins(output, files):
     None. The macros that @h gives have no #line: the C would count them as lines of the web."""
     found, file, number, is_macro = [], None, 0, False
     for text in output.split(b'\n')[:-1]:
-        mark, macro = marked(text), MACRO.match(text)
+        mark = marked(text)
         if mark:
             file, number = mark
             is_macro = False
@@ -574,7 +574,8 @@ def origins(output, files):
             continue
         lines = files.get(file) or ()
         is_line = 1 <= number <= len(lines)
-        is_macro = is_macro or bool(macro and is_line and macro[1] not in lines[number - 1])
+        if is_line and text.startswith(b'#define '):
+            is_macro = is_macro or MACRO.findall(text)[:1] != MACRO.findall(lines[number - 1])[:1]
         is_written = is_line and not is_macro and not NUMBERS.fullmatch(text)
         found.append((file, number) if is_written else None)
         number += 1
@@ -733,8 +734,8 @@ def main():
     try:
         project = Retangle(*[None if name is None else os.fsencode(name) for name in names])
     except Ended as ended:
-        print('retangle: %s' % (ended.reason or ended), file=sys.stderr)
-        return exit_status(ended.status)
+        print('retangle: ' + ended.reason if ended.reason else ended, file=sys.stderr)
+        return exit_status(ended.status) or 3
     for line in sys.stdin.buffer:
         line = line.removesuffix(b'\n')
         lines = [b'ok'] if line == b'quit' else answer(project, line)

@@ -26,7 +26,7 @@ from checks import check, finish, lay, read, same, write
 from limits import LINE_BYTES
 from sessions import edited_lines
 
-PATIENCE = 60           # seconds for a run
+PATIENCE = 60           # seconds for a run; ten times that for all tests
 PROGRAM = [sys.executable, '-B', os.path.join(top, 'examples', 'editor.py')]
 AS_NOBODY = ['setpriv', '--reuid=65534', '--regid=65534', '--clear-groups']
 
@@ -169,6 +169,8 @@ def test_ends_of_the_client(temporary):
     same(run(PROGRAM + ['a'], folder, program='./none'),
          (b'', b'retangle: it cannot be run: No such file or directory\n', 127),
          'editor.py without retangle')
+    same(run(PROGRAM + ['a'], folder, program='true'),
+         (b'', b'retangle ended with status 0\n', 3), 'editor.py, another program')
     write(b'@ A.\n@c\n@<v@>\n', folder, 'a.w')
     same(run(PROGRAM + ['a'], folder, b'faults\nquit\nwork\n'), (NO_V + b'ok\nok\n', b'', 1),
          'editor.py, a fault at the end')
@@ -549,7 +551,7 @@ def test_long_lists(temporary):
 # ---------------------------------------------------------------------- from C to web and back
 
 MAPPED = {
-    'a.w': b'\n@ @d M 1\n@d N 2\n@c\n@h\n#define O 3\nint x=@<v@>+\n  M;\n@i "b\\".w"\n'
+    'a.w': b'\n@ @d M 1\n@d N 2\n@c\n@h\n#define O M\nint x=@<v@>+\n  M;\n@i "b\\".w"\n'
            b'@ @(a.h@>=\n@<v@>',
     'a.ch': b'@x\n  M;\n@y\n  N\n;\n@z\n', 'b\\': b'@ @<v@>=\n(1\n)\n',
 }
@@ -582,6 +584,7 @@ def test_maps(temporary):
 
 
 def main():
+    signal.alarm(10 * PATIENCE)         # a test that waits for an answer ends
     with tempfile.TemporaryDirectory() as temporary:
         test_client(temporary)
         test_ends_of_the_client(temporary)
