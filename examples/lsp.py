@@ -170,9 +170,14 @@ class Messages:
         self.sink.write(b'Content-Length: %d\r\n\r\n%s' % (len(body), body))
         self.sink.flush()
 
-    def show(self, kind, text):
-        """Has the client show a line to its user."""
-        self.write(method='window/showMessage', params={'type': kind, 'message': text})
+    def show(self, kind, text, method='window/showMessage'):
+        """Has the client show a line to its user, or by another method write it into its log."""
+        self.write(method=method, params={'type': kind, 'message': shown(encoded(text))})
+
+    def fail(self, number, problem):
+        """Answers a request by an error."""
+        error = {'code': problem.code, 'message': shown(encoded(problem.text))}
+        self.write(id=number, error=error)
 
 
 def part(value, *keys, kind=object):
@@ -215,7 +220,7 @@ def range_of(*places):
 def path_of(uri):
     """The path that a URI names, or None where it names no file here."""
     found = re.match('file://[^/]*(/.*)', uri, re.S)
-    path = urllib.parse.unquote_to_bytes(found[1]) if found else b''
+    path = urllib.parse.unquote_to_bytes(encoded(found[1])) if found else b''
     is_path = path.startswith(b'/') and b'\0' not in path and b'\n' not in path
     return os.path.normpath(path) if is_path else None
 
@@ -562,11 +567,7 @@ class Server:
             except EOFError:
                 return 1
             except Problem as problem:
-                self.fail(None, problem)
-
-    def fail(self, number, problem):
-        error = {'code': problem.code, 'message': problem.text}
-        self.messages.write(id=number, error=error)
+                self.messages.fail(None, problem)
 
     def take(self, message):
         """Obeys a message. A request is answered, and a notification never is."""
@@ -581,11 +582,10 @@ class Server:
                 self.messages.write(id=number, result=result)
         except Problem as problem:
             if 'id' in message:
-                self.fail(number, problem)
+                self.messages.fail(number, problem)
             else:
                 text = '%s: %s' % (method, problem.text)
-                self.messages.write(method='window/logMessage',
-                                    params={'type': ERROR, 'message': text})
+                self.messages.show(ERROR, text, 'window/logMessage')
 
     def result(self, method, params, is_request):
         """What a message is answered by."""

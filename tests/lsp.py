@@ -174,6 +174,48 @@ def check_wrong_notices(client, uri):
     same(len(client.logged), len(wrong), 'lsp.py, wrong notices')
 
 
+VALUES = [None, 1, -1, 1.5, True, 'x', '', [], {}, [1], 10 ** 9, '\udce9', '\ud800', POSITION,
+          'file:///%00', 'file:///%0a', 'file:///../..', 'file://' + '/x' * 3000]
+
+
+def mutated(chance, value, likely):
+    """A value with some of its parts replaced or left out."""
+    if chance.random() < likely:
+        return chance.choice(VALUES)
+    if isinstance(value, list):
+        return [mutated(chance, one, likely) for one in value]
+    if isinstance(value, dict):
+        return {key: mutated(chance, one, likely) for key, one in value.items()
+                if chance.random() > likely / 4}
+    return value
+
+
+def test_mutated_messages():
+    """No message makes the server fail: that would be an error -32603."""
+    chance, client = random.Random(4), Client({'a.w': WEB})
+    here = {'textDocument': {'uri': client.uri('a.w'), 'version': 1, 'text': WEB.decode()},
+            'position': {'line': 2, 'character': 8}, 'context': {'includeDeclaration': True},
+            'contentChanges': [{'range': range_of((1, 0), (2, 1)), 'text': 'q'}],
+            'command': 'retangle.showC', 'arguments': [client.uri('a.w'), 2]}
+    methods = ['textDocument/' + method for method in (
+        'didOpen', 'didChange', 'didSave', 'didClose', 'definition', 'references',
+        'documentSymbol')]
+    methods += ['workspace/executeCommand', 'initialized', 'initialize']
+    for number in range(1500):
+        parts = {'method': chance.choice(methods), 'params': mutated(chance, here, .04)}
+        if chance.random() < .6:
+            parts['id'] = 'm%d' % number
+        body = bytearray(json.dumps(dict(parts, jsonrpc='2.0')).encode())
+        if chance.random() < .1:
+            body[chance.randrange(len(body))] = chance.randrange(256)
+        client.send(framed(body))
+        client.settle()
+    failed = [one for one in client.errors if one['code'] == -32603]
+    failed += [line for line in client.logged if 'Error(' in line]
+    check(len(client.errors) > 500 and not failed, 'lsp.py, mutated messages', failed)
+    client.end()
+
+
 def test_order():
     client = Client({'a.w': WEB}, initialize=False)
     same(code_of(client.ask('shutdown')), -32002, 'lsp.py, before initialize')
@@ -224,7 +266,8 @@ def place_of(text, at):
 
 
 PIECES = ['a', 'b c', 'é', '€', '😀', '𝒳y', '\udce9', '\udcff', ' ', '\n', '\r\n', '\t', '@<', '@>',
-          '@>=', '@<v é😀@>', '@<v...@>', '\n@ @c\n', '\n@ @<v é😀@>=\n', '"', '"é"', '@', '/*', '*/', '@(h.h@>=']
+          '@>=', '@<v é😀@>', '@<v...@>', '\n@ @c\n', '\n@ @<v é😀@>=\n', '"', '"é"', '@', '/*',
+          '*/', '@(h.h@>=']
 
 
 def some_text(chance, most):
@@ -635,7 +678,7 @@ def compare(files, roles, name):
 
 
 if __name__ == '__main__':
-    sys.exit(run_all([test_splits, test_bad_messages, test_wrong_parameters, test_order, test_texts,
-                      test_positions, test_generated, test_files, test_change_file, test_options,
-                      test_lists, test_refusals, test_ends, test_names, test_symbols, test_c,
-                      test_scanner]))
+    sys.exit(run_all([test_splits, test_bad_messages, test_wrong_parameters, test_mutated_messages,
+                      test_order, test_texts, test_positions, test_generated, test_files,
+                      test_change_file, test_options, test_lists, test_refusals, test_ends,
+                      test_names, test_symbols, test_c, test_scanner]))

@@ -39,7 +39,7 @@ class Client:
         self.process = subprocess.Popen(SERVER + arguments, cwd='/', stdin=subprocess.PIPE,
                                         stdout=subprocess.PIPE)
         self.read, self.number, self.version = b'', 0, 0
-        self.diagnostics, self.shown, self.logged, self.asked = {}, [], [], []
+        self.diagnostics, self.shown, self.logged, self.asked, self.errors = {}, [], [], [], []
         if parts.get('initialize', True):
             params = {'rootUri': self.uri(''), 'capabilities': capabilities or {}}
             if options is not None:
@@ -108,6 +108,8 @@ class Client:
             self.logged.append(params['message'])
         elif method:
             self.asked.append(received)
+        elif 'error' in received:
+            self.errors.append(received['error'])
 
     def settle(self):
         """Reads up to the answer to a request that is sent now."""
