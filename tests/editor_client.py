@@ -354,7 +354,10 @@ WORD = re.compile(rb'\w+')
 
 def check_origins(client, output, files):
     """Each word of a line of an output is in the line from which it was written, and back."""
+    in_macro, before = False, b''
     for at, text in enumerate(client.show(output).split(b'\n')[:-1]):
+        in_macro = text.startswith(b'#define') or in_macro and before.endswith(b'\\')
+        before = text
         origin = client.origins(output)[at]
         if origin:
             name = os.path.normpath(os.fsdecode(origin[0]))
@@ -362,7 +365,7 @@ def check_origins(client, output, files):
             words = set(WORD.findall(re.sub(rb'/\*:?\d+:?\*/', b'', text)))
             check(words <= set(WORD.findall(line)), 'origin', '%s in %s' % (text, line))
             check((output, at + 1) in client.places(*origin), 'places', origin)
-        elif not text.startswith((b'#line', b'/*', b' /*', b'#define')):
+        elif not in_macro and not text.startswith((b'#line', b'/*', b' /*')):
             same(text, b'', 'a line without an origin')
 
 
