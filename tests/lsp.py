@@ -401,7 +401,13 @@ def test_files():
     client.about('didSave', 'a.w')
     client.has(['a.w:5: error: included file not found: b.w', 'a.w:4: error: undefined: <v>'],
                'a file that was removed')
-    client.change('a.w', (None, '@ @c\n@i d/c w.w\n@i "d/c w.w"\n@i ./b.w\n'))
+    client.end()
+    test_names_of_files()
+
+
+def test_names_of_files():
+    client = Client({'a.w': b''})
+    client.open('a.w', '@ @c\n@i d/c w.w\n@i "d/c w.w"\n@i ./b.w\n')
     client.open('d/c w.w', 'int x; @<x@>\n', client.uri('d/c%20w.w'))
     client.open('b.w', '@<b@>\n')
     client.settle()
