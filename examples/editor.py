@@ -29,7 +29,7 @@ which come after their number:
     faults              the faults
     work                N
     outputs             FILE LENGTH                         each file, the main file first
-    show                = FILE LENGTH                       and so many bytes
+    show                = FILE LENGTH                       and LENGTH bytes
     origin              FILE:LINE
     where               FILE:LINE                           each line
 
@@ -154,7 +154,7 @@ class Run:
         return line[:-1]
 
     def bytes(self, length):
-        """So many bytes of an answer."""
+        """The next `length` bytes of an answer."""
         found = self.process.stdout.read(length)
         if len(found) < length:
             raise self.ended()
@@ -628,7 +628,7 @@ def common_front(old, new):
 
 
 def block_edits(name, line, count, texts):
-    """The edits that replace so many lines, the first of which is this one, by these texts."""
+    """The edits that replace `count` lines, of which `line` is the first, by these texts."""
     replaced = min(count, len(texts))
     made = [(b'replace %d %s' % (line + at, name), texts[at]) for at in range(replaced)]
     made += [(b'remove %d %s' % (line + replaced, name), None)] * (count - replaced)

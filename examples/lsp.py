@@ -64,7 +64,7 @@ def units(text):
 
 
 def index_of(line, count):
-    """The index in a line after so many UTF-16 units; its end where there are fewer.
+    """The index in a line after `count` UTF-16 units; the end of a line that has fewer.
 
     A carriage return at the end is a character of the line for some clients. For others it belongs
     to the line end: these give the position after it only as one that is past the end.

@@ -27,7 +27,7 @@ from random_macros import KINDS, Web
 STORED = os.path.join(top, 'tests', 'compiler')
 PATIENCE = 60           # seconds for a run
 WEBS = 400
-TOGETHER = 50           # so many webs are read in one run of the compiler
+TOGETHER = 50           # how many webs one run of the compiler reads
 LEAST = 20              # so often each pair of kinds, and each other place, is in the generated webs
 
 DEFINED = re.compile(rb'#define ([\w$]+)(\([^)]*\))?(?: (.*))?')
